@@ -1,0 +1,1 @@
+// Byte strings compared.

@@ -1,0 +1,9 @@
+pub mod Map
+pub mod Names
+pub mod Digest
+pub mod Etags
+pub mod State
+pub mod Calls
+pub mod Steps
+pub mod Lists
+pub mod Valid

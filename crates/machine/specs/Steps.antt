@@ -1,0 +1,139 @@
+-- Document 01's steps: what each call answers and does, its checks in checking order. Assumes nothing.
+use Prim.Native.Nat.{ℕ, _+_}
+use mathlib.Core.Bool.{_&&_}
+use mathlib.Core.List.{List, [], _∷_, _++_}
+use mathlib.Core.Option.{Option, none, some}
+use lib.Dec.{leb}
+use lib.ListN.{length, drop}
+use Rattle.number.specs.Number.{le}
+use Rattle.order.specs.Order.{byBytes, begins, ends}
+use Rattle.machine.specs.Map.{Map, byNumber, lookup, remove, mapped, also, keep, records}
+use Rattle.machine.specs.Names.{Bytes, requestPathOk, newPathOk, stampOk, requestPartOk, lastUploadNumber}
+use Rattle.machine.specs.Digest.{md5}
+use Rattle.machine.specs.Etags.{absent, plain, joined, text}
+use Rattle.machine.specs.State.{Object, Part, Upload, State, fresh, withObject, withoutObject, withUpload, withoutUpload, withNext, withPart, held, counted}
+use Rattle.machine.specs.Calls.{Call, PUT, GET, HEAD, DELETE, COPY, LIST, INITIATE, PART, COMMIT, ABORT, UPLOADS, Answer, nothing, metadata, etag, number, counts, Reply, badRequest, notFound, tableFull, arenaFull, numbersUsedUp, bufferShort, code, Outcome, refuse, accept, _else_then_, given, lent}
+
+-- "(data, stamp, plain etag)"
+abbrev pub plainObject : (stamp : ℕ) (content : Bytes) → Object
+plainObject t d = record { content = d; created = t; etag = plain (md5 d) }
+
+-- PUT's step, COPY's too: the checks of the state after, then "O at path becomes (data, stamp, plain etag)"
+unfoldable pub putAt : (A : ℕ) → State → (stamp : ℕ) (path content : Bytes) → Outcome
+putAt A s t p d =
+    let s′ : State = withObject s p (plainObject t d) in
+    counted s′ else tableFull then leb (held s′) A else arenaFull then accept nothing [] s′
+
+-- what GET and HEAD find: "The empty path is the root; only GET and HEAD take it."
+unfoldable pub objectAt : State → (path : Bytes) → (Object → Outcome) → Outcome
+objectAt s [] k = k (record { content = []; created = 0; etag = absent })
+objectAt s (b ∷ p) k = requestPathOk (b ∷ p) else badRequest then given (lookup byBytes (b ∷ p) (s .O)) notFound k
+
+-- "the metadata is length, created, etag"
+abbrev pub about : Object → Answer
+about x = metadata (length (x .content)) (x .created) (x .etag)
+
+-- "the bytes to write by GET, LIST or UPLOADS exceed the answer buffer", or go to its front
+abbrev pub write : Answer → (out buffer : Bytes) → State → Outcome
+write a out b s = leb (length out) (length b) else bufferShort then accept a out s
+
+-- "the list must name every part of the upload exactly one time": the parts in listed order, each picked out of those that remain
+abbrev pub fit : (numbers : List ℕ) → Map ℕ Part → Option (List Part)
+fit [] [] = some []
+fit [] (e ∷ m) = none
+fit (n ∷ ns) m = also (lookup byNumber n m) (λ x. mapped (λ (xs : List Part). x ∷ xs) (fit ns (remove byNumber n m)))
+
+-- "the parts joined in listed order"
+abbrev pub contents : List Part → Bytes
+contents [] = []
+contents (x ∷ xs) = x .content ++ contents xs
+
+-- "the 16-byte digests stored with the parts, set end to end in listed order"
+abbrev pub digests : List Part → Bytes
+digests [] = []
+digests (x ∷ xs) = x .digest ++ digests xs
+
+-- "(the parts joined in listed order, the upload's start stamp, joined etag)"
+abbrev pub joinedObject : Upload → List Part → Object
+joinedObject x xs = record { content = contents xs; created = x .started; etag = joined (md5 (digests xs)) (length xs) }
+
+-- LIST: "every path of O that begins with the prefix and whose rest after the prefix ends with the suffix"
+unfoldable pub listed : (prefix suffix : Bytes) → Map Bytes Object → Map Bytes Object
+listed prefix suffix o = keep (λ p x. begins prefix p && ends suffix (drop (length prefix) p)) o
+
+-- "LIST writes for each path: its length (1 byte), the path, data length (4), created (8), etag text length (1), etag text."
+unfoldable pub listRecord : Bytes → Object → Bytes
+listRecord p x = length p ∷ p ++ le 4 (length (x .content)) ++ le 8 (x .created) ++ length (text (x .etag)) ∷ text (x .etag)
+
+-- UPLOADS: "the open uploads whose path begins with the prefix"
+unfoldable pub openUnder : (prefix : Bytes) → Map ℕ Upload → Map ℕ Upload
+openUnder prefix m = keep (λ u x. begins prefix (x .path)) m
+
+-- "UPLOADS writes: number (4), path length (1), path, started (8), count of parts (2)."
+unfoldable pub uploadRecord : ℕ → Upload → Bytes
+uploadRecord u x = le 4 u ++ length (x .path) ∷ x .path ++ le 8 (x .started) ++ le 2 (length (x .parts))
+
+-- the step of each call, over an arena of length A
+unfoldable pub act : (A : ℕ) → State → Call → Outcome
+act A s (PUT t p d) = stampOk t && newPathOk p else badRequest then putAt A s t p d
+act A s (GET p b) = objectAt s p (λ x. write (about x) (x .content) b s)
+act A s (HEAD p) = objectAt s p (λ x. accept (about x) [] s)
+act A s (DELETE p) =
+    requestPathOk p else badRequest then
+    given (lookup byBytes p (s .O)) notFound λ x.
+    accept nothing [] (withoutObject s p)
+act A s (COPY t p q) =
+    stampOk t && requestPathOk p && newPathOk q else badRequest then
+    given (lookup byBytes p (s .O)) notFound λ x.
+    putAt A s t q (x .content)
+act A s (LIST prefix suffix b) =
+    let l = listed prefix suffix (s .O) in
+    let out = records listRecord l in
+    write (counts (length l) (length out)) out b s
+act A s (INITIATE t p) =
+    let s′ : State = withNext (withUpload s (s .N) (record { path = p; started = t; parts = [] })) in
+    stampOk t && newPathOk p else badRequest then
+    counted s′ else tableFull then
+    leb (s .N) lastUploadNumber else numbersUsedUp then
+    accept (number (s .N)) [] s′
+act A s (PART u n d) =
+    requestPartOk n else badRequest then
+    given (lookup byNumber u (s .U)) badRequest λ x.
+    let s′ : State = withUpload s u (withPart x n (record { content = d; digest = md5 d })) in
+    counted s′ else tableFull then
+    leb (held s′) A else arenaFull then
+    accept (etag (plain (md5 d))) [] s′
+act A s (COMMIT u ns) =
+    given (lookup byNumber u (s .U)) badRequest λ x.
+    given (fit ns (x .parts)) badRequest λ xs.
+    let s′ : State = withoutUpload (withObject s (x .path) (joinedObject x xs)) u in
+    counted s′ else tableFull then
+    accept nothing [] s′
+act A s (ABORT u) =
+    given (lookup byNumber u (s .U)) badRequest λ x.
+    accept nothing [] (withoutUpload s u)
+act A s (UPLOADS prefix b) =
+    let l = openUnder prefix (s .U) in
+    let out = records uploadRecord l in
+    write (counts (length l) (length out)) out b s
+
+-- FRESH over an arena of length A: "Bad request: .. FRESH got an arena over 1,048,576"
+unfoldable pub FRESH : (A : ℕ) → Outcome
+FRESH A = leb A 1048576 else badRequest then accept nothing [] fresh
+
+-- "Bytes of the answer buffer past those written do not change"; a refusal answers nothing but its number; "Success is 0."
+abbrev pub replyOf : (buffer : Bytes) → Outcome → Reply
+replyOf b (refuse n) = record { result = code n; answer = nothing; buffer = b }
+replyOf b (accept a out s) = record { result = 0; answer = a; buffer = out ++ drop (length out) b }
+
+-- "where a call is refused, it .. keeps O, U and N"
+abbrev pub after : State → Outcome → State
+after s (refuse n) = s
+after s (accept a out s′) = s′
+
+-- what a call answers, and the state it leaves
+abbrev pub reply : (A : ℕ) → State → Call → Reply
+reply A s c = replyOf (lent c) (act A s c)
+
+abbrev pub next : (A : ℕ) → State → Call → State
+next A s c = after s (act A s c)

@@ -1,0 +1,5 @@
+pub mod MapLaws
+pub mod MapSums
+pub mod MapPlaces
+pub mod MapEach
+pub mod Keys

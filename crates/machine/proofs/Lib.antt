@@ -2,4 +2,3 @@ pub mod MapLaws
 pub mod MapSums
 pub mod MapPlaces
 pub mod MapEach
-pub mod Keys

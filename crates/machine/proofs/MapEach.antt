@@ -3,8 +3,8 @@
 use Prim.Native.Nat.{ℕ, Ordering, Ordering·lt, Ordering·eq, Ordering·gt}
 use mathlib.Core.Path.{_≡_, refl, sym, ap, _∙_}
 use mathlib.Core.List.{List, [], _∷_}
-use Rattle.machine.specs.Map.{Map, lookup, insert, remove, mapped, Lawful}
-use Rattle.machine.proofs.MapLaws.{cases}
+use Rattle.order.specs.OrderLaws.{cases, Lawful}
+use Rattle.machine.specs.Map.{Map, lookup, insert, remove, mapped}
 
 -- each value replaced by what f makes of it
 module _ {K X Y : Type 0} (f : K → X → Y) where

@@ -8,13 +8,8 @@ use mathlib.Core.Bool.{Bool, true, false, cond}
 use mathlib.Core.Option.{Option, none, some}
 use native.Mathlib.Omega.{arith}
 use Rattle.order.specs.Order.{by}
-use Rattle.machine.specs.Map.{Map, lookup, insert, remove, Above, Ascending, keep, Every, Lawful}
-
--- a proof by the three cases of a comparison
-pub cases : {B : Type 0} (o : Ordering) → (o ≡ Ordering·lt → B) → (o ≡ Ordering·eq → B) → (o ≡ Ordering·gt → B) → B
-cases Ordering·lt l e g = l refl
-cases Ordering·eq l e g = e refl
-cases Ordering·gt l e g = g refl
+use Rattle.order.specs.OrderLaws.{cases, Lawful}
+use Rattle.machine.specs.Map.{Map, lookup, insert, remove, Above, Ascending, keep, Every}
 
 module _ {K X : Type 0} {cmp : K → K → Ordering} (L : Lawful cmp) where
   pub lookup-insert : (k : K) (v : X) (m : Map K X) → lookup cmp k (insert cmp k v m) ≡ some v

@@ -7,8 +7,8 @@ use mathlib.Core.Option.{Option, none, some}
 use native.Mathlib.Nat.{le-of-suc-le-suc, not-suc-le-zero}
 use native.Mathlib.Omega.{arith}
 use lib.ListN.{take, drop, length, getD}
-use Rattle.machine.specs.Map.{Map, lookup, insert, remove, place, Above, Ascending, Every, Lawful}
-use Rattle.machine.proofs.MapLaws.{cases}
+use Rattle.order.specs.OrderLaws.{cases, Lawful}
+use Rattle.machine.specs.Map.{Map, lookup, insert, remove, place, Above, Ascending, Every}
 
 module _ {K X : Type 0} {cmp : K → K → Ordering} (L : Lawful cmp) where
   -- the list, cut at the place of k

@@ -6,8 +6,8 @@ use mathlib.Core.List.{List, [], _∷_, _++_}
 use mathlib.Core.Option.{Option, none, some}
 use native.Mathlib.Omega.{arith}
 use lib.ListN.{length}
-use Rattle.machine.specs.Map.{Map, lookup, insert, remove, total, owed, Lawful}
-use Rattle.machine.proofs.MapLaws.{cases}
+use Rattle.order.specs.OrderLaws.{cases, Lawful}
+use Rattle.machine.specs.Map.{Map, lookup, insert, remove, total, owed}
 
 module _ {K X : Type 0} {cmp : K → K → Ordering} (L : Lawful cmp) where
   -- sums: what was there is taken off, and what is inserted is added

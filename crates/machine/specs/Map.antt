@@ -82,11 +82,3 @@ module _ {K X : Type 0} (P : K → X → Type 0) where
   abbrev pub Every : Map K X → Type 0
   Every [] = Unit {0}
   Every (e ∷ m) = P (e .0) (e .1) × Every m
-
--- what a comparison of keys must keep to
-pub record Lawful {K : Type 0} (cmp : K → K → Ordering) : Type 0 where
-  pub alike : (a b : K) → cmp a b ≡ Ordering·eq → a ≡ b
-  pub self : (a : K) → cmp a a ≡ Ordering·eq
-  pub over : (a b : K) → cmp a b ≡ Ordering·gt → cmp b a ≡ Ordering·lt
-  pub under : (a b : K) → cmp a b ≡ Ordering·lt → cmp b a ≡ Ordering·gt
-  pub chain : (a b c : K) → cmp a b ≡ Ordering·lt → cmp b c ≡ Ordering·lt → cmp a c ≡ Ordering·lt

@@ -1,0 +1,97 @@
+-- The rows of the tables: how they are written, and what stands at a place. Assumes nothing.
+use Prim.Native.Nat.{ℕ, zero, suc, _+_}
+use mathlib.Core.Bool.{Bool, true, _&&_}
+use mathlib.Core.List.{List, [], _∷_, _++_}
+use lib.Dec.{leb}
+use lib.ListN.{length, getD, take, drop}
+use Rattle.row.specs.declared.Head.{Head}
+use Rattle.row.specs.Fields.{fields, numbersAt}
+
+-- a row with its data, which stands in the arena
+pub record Row : Type 0 where
+  pub number : ℕ
+  pub stamp : ℕ
+  pub kind : ℕ
+  pub count : ℕ
+  pub digest : List ℕ
+  pub path : List ℕ
+  pub content : List ℕ
+
+-- size 4, number 4, stamp 8, kind 1, path length 1, count 2
+abbrev pub widths : List ℕ
+widths = 4 ∷ 4 ∷ 8 ∷ 1 ∷ 1 ∷ 2 ∷ []
+
+abbrev pub numbersOf : Row → List ℕ
+numbersOf r = length (r .content) ∷ r .number ∷ r .stamp ∷ r .kind ∷ length (r .path) ∷ r .count ∷ []
+
+-- the numbers (20 bytes), the digest (16), the path
+unfoldable pub encodeRow : Row → List ℕ
+encodeRow r = fields widths (numbersOf r) ++ (r .digest ++ r .path)
+
+-- rows end to end, and their data end to end
+unfoldable pub encodeRows : List Row → List ℕ
+encodeRows [] = []
+encodeRows (r ∷ rs) = encodeRow r ++ encodeRows rs
+
+unfoldable pub contentsOf : List Row → List ℕ
+contentsOf [] = []
+contentsOf (r ∷ rs) = r .content ++ contentsOf rs
+
+-- What stands at the front of t, whatever its bytes are ------------------------------------------------------------------
+
+abbrev pub headFrom : List ℕ → Head
+headFrom v = record { size = getD v 0 0; number = getD v 1 0; stamp = getD v 2 0; kind = getD v 3 0; pathlen = getD v 4 0; count = getD v 5 0 }
+
+unfoldable pub headAt : List ℕ → Head
+headAt t = headFrom (numbersAt widths t)
+
+unfoldable pub digestAt : List ℕ → List ℕ
+digestAt t = take 16 (drop 20 t)
+
+unfoldable pub pathAt : List ℕ → List ℕ
+pathAt t = take (headAt t .pathlen) (drop 36 t)
+
+-- how many bytes the row takes
+unfoldable pub spanAt : List ℕ → ℕ
+spanAt t = 36 + headAt t .pathlen
+
+-- the row at the front of t, with its data at the front of a
+unfoldable pub rowAt : (t a : List ℕ) → Row
+rowAt t a =
+    record {
+      number = headAt t .number;
+      stamp = headAt t .stamp;
+      kind = headAt t .kind;
+      count = headAt t .count;
+      digest = digestAt t;
+      path = pathAt t;
+      content = take (headAt t .size) a }
+
+-- the row is all in t, and its data all in a
+unfoldable pub inside : (t a : List ℕ) → Bool
+inside t a = leb 36 (length t) && (leb (spanAt t) (length t) && leb (headAt t .size) (length a))
+
+-- the head of a row
+abbrev pub headOf : Row → Head
+headOf r = headFrom (numbersOf r)
+
+-- n rows from the front of t on, with their data from the front of a on; and what stands behind them
+unfoldable pub rowsAt : ℕ → (t a : List ℕ) → List Row
+rowsAt zero t a = []
+rowsAt (suc n) t a = rowAt t a ∷ rowsAt n (drop (spanAt t) t) (drop (headAt t .size) a)
+
+unfoldable pub pastRows : ℕ → List ℕ → List ℕ
+pastRows zero t = t
+pastRows (suc n) t = pastRows n (drop (spanAt t) t)
+
+unfoldable pub pastData : ℕ → (t a : List ℕ) → List ℕ
+pastData zero t a = a
+pastData (suc n) t a = pastData n (drop (spanAt t) t) (drop (headAt t .size) a)
+
+-- Rows by a rule: `ok σ r` says that r may stand at the state σ of the rule, and `next σ r` is the state after it -----------
+
+module _ (S : Type 0) (ok : S → Row → Bool) (next : S → Row → S) where
+  -- n rows stand at the front of t by the rule
+  unfoldable pub good : ℕ → S → (t a : List ℕ) → Bool
+  good zero σ t a = true
+  good (suc n) σ t a = inside t a && (ok σ (rowAt t a) && good n (next σ (rowAt t a)) (drop (spanAt t) t) (drop (headAt t .size) a))

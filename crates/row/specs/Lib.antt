@@ -1,2 +1,4 @@
 pub mod Fields
+pub mod FieldLaws
 pub mod Row
+pub mod RowLaws

@@ -23,9 +23,12 @@ fields-numbers [] s b h = refl
 fields-numbers (w ∷ ws) s b h =
     let hw : w ≤ length s = omega arith in
     let hr : width ws ≤ length (drop w s) = rw length-drop (omega arith) in
-    rw
-    (append-assoc, ← (drop-drop (width ws) w s), fields-numbers ws (drop w s) (bytes-drop w s b) hr,
-    le-fromLe w (take w s) (bytes-take w s b) (length-take-le w s hw))
+    rw (
+      append-assoc,
+      ← (drop-drop (width ws) w s),
+      fields-numbers ws (drop w s) (bytes-drop w s b) hr,
+      le-fromLe w (take w s) (bytes-take w s b) (length-take-le w s hw),
+    )
     (take-append-drop w s)
 
 pub numbers-fit : (ws s : List ℕ) → Bytes s → width ws ≤ length s → Fit ws (numbersAt ws s)
@@ -43,6 +46,10 @@ numbers-fields [] [] s f = refl
 numbers-fields [] (v ∷ vs) s f = absurd f
 numbers-fields (w ∷ ws) [] s f = absurd f
 numbers-fields (w ∷ ws) (v ∷ vs) s f =
-    rw
-    (append-assoc, take-at (le w v) (fields ws vs ++ s) w (length-le w v), fromLe-le w v (f .0),
-    drop-at (le w v) (fields ws vs ++ s) w (length-le w v), numbers-fields ws vs s (f .1))
+    rw (
+      append-assoc,
+      take-at (le w v) (fields ws vs ++ s) w (length-le w v),
+      fromLe-le w v (f .0),
+      drop-at (le w v) (fields ws vs ++ s) w (length-le w v),
+      numbers-fields ws vs s (f .1),
+    )

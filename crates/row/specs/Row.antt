@@ -65,7 +65,8 @@ rowAt t a =
       count = headAt t .count;
       digest = digestAt t;
       path = pathAt t;
-      content = take (headAt t .size) a }
+      content = take (headAt t .size) a;
+    }
 
 -- the row is all in t, and its data all in a
 unfoldable pub inside : (t a : List ℕ) → Bool

@@ -46,7 +46,8 @@ inside-true t a e =
     record {
       head = leb-true _ _ (and-left (leb 36 (length t)) _ e);
       row = leb-true _ _ (and-left (leb (spanAt t) (length t)) _ f);
-      content = leb-true _ _ (and-right (leb (spanAt t) (length t)) _ f) }
+      content = leb-true _ _ (and-right (leb (spanAt t) (length t)) _ f);
+    }
 
 pub true-inside : (t a : List ℕ) → Inside t a → inside t a ≡ true
 unfolding inside
@@ -180,7 +181,8 @@ module _ (r : Row) (f : Encodable r) (rest rest′ : List ℕ) where
       record {
         head = omega arith;
         row = rw span-back (omega arith);
-        content = rw (size-back, length-append) (omega arith) }
+        content = rw (size-back, length-append) (omega arith);
+      }
 
 -- Runs of rows -----------------------------------------------------------------------------------------------------------
 
@@ -207,18 +209,20 @@ module _ (S : Type 0) (ok : S → Row → Bool) (next : S → Row → S) where
   unfolding rowsAt encodeRows pastRows
   rows-sound zero σ t a b g = refl
   rows-sound (suc n) σ t a b g =
-      rw
-      (append-assoc (encodeRow (rowAt t a)),
-      rows-sound n (next σ (rowAt t a)) (drop (spanAt t) t) (drop (headAt t .size) a) (bytes-drop (spanAt t) t b) (rest-good n σ t a g))
+      rw (
+        append-assoc (encodeRow (rowAt t a)),
+        rows-sound n (next σ (rowAt t a)) (drop (spanAt t) t) (drop (headAt t .size) a) (bytes-drop (spanAt t) t b) (rest-good n σ t a g),
+      )
       (row-sound t a b (here-inside n σ t a g))
 
   pub contents-sound : (n : ℕ) (σ : S) (t a : List ℕ) → Bytes t → good S ok next n σ t a ≡ true → contentsOf (rowsAt n t a) ++ pastData n t a ≡ a
   unfolding rowsAt contentsOf pastData
   contents-sound zero σ t a b g = refl
   contents-sound (suc n) σ t a b g =
-      rw
-      (append-assoc (rowAt t a .content),
-      contents-sound n (next σ (rowAt t a)) (drop (spanAt t) t) (drop (headAt t .size) a) (bytes-drop (spanAt t) t b) (rest-good n σ t a g))
+      rw (
+        append-assoc (rowAt t a .content),
+        contents-sound n (next σ (rowAt t a)) (drop (spanAt t) t) (drop (headAt t .size) a) (bytes-drop (spanAt t) t b) (rest-good n σ t a g),
+      )
       (content-sound t a b (here-inside n σ t a g))
 
   pub follows-sound : (n : ℕ) (σ : S) (t a : List ℕ) → good S ok next n σ t a ≡ true → Follows σ (rowsAt n t a)
@@ -229,9 +233,10 @@ module _ (S : Type 0) (ok : S → Row → Bool) (next : S → Row → S) where
   pub encodable-sound : (n : ℕ) (σ : S) (t a : List ℕ) → Bytes t → good S ok next n σ t a ≡ true → EncodableAll (rowsAt n t a)
   unfolding rowsAt
   encodable-sound zero σ t a b g = tt
-  encodable-sound (suc n) σ t a b g =
-      (encodable-at t a b (here-inside n σ t a g),
-      encodable-sound n (next σ (rowAt t a)) (drop (spanAt t) t) (drop (headAt t .size) a) (bytes-drop (spanAt t) t b) (rest-good n σ t a g))
+  encodable-sound (suc n) σ t a b g = (
+    encodable-at t a b (here-inside n σ t a g),
+    encodable-sound n (next σ (rowAt t a)) (drop (spanAt t) t) (drop (headAt t .size) a) (bytes-drop (spanAt t) t b) (rest-good n σ t a g),
+  )
 
   pub rows-complete : (σ : S) (rs : List Row) (rest rest′ : List ℕ) → EncodableAll rs → Follows σ rs
       → good S ok next (length rs) σ (encodeRows rs ++ rest) (contentsOf rs ++ rest′) ≡ true

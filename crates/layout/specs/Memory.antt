@@ -1,0 +1,176 @@
+-- What tables and arena stand for, and the test "whole". Assumes nothing.
+use Prim.Native.Nat.{ℕ, _+_, _≤_}
+use mathlib.Core.Path.{_≡_}
+use mathlib.Core.Bool.{Bool, cond}
+use mathlib.Core.List.{List, [], _∷_, _++_}
+use lib.Dec.{leb, eqb}
+use lib.ListN.{length, getD, drop}
+use Rattle.machine.specs.Map.{Map, total}
+use Rattle.machine.specs.Names.{Bytes}
+use Rattle.machine.specs.Etags.{Etag, absent, plain, joined}
+use Rattle.machine.specs.State.{Object, Part, Upload, State, partsIn}
+use Rattle.machine.specs.Valid.{Valid}
+use Rattle.row.specs.Fields.{fields, numbersAt}
+use Rattle.row.specs.Row.{Row, encodeRows, contentsOf, rowsAt, pastRows, pastData, good}
+use Rattle.layout.specs.declared.Mark.{Mark}
+use Rattle.layout.specs.declared.Header.{Header}
+use Rattle.layout.specs.Rules.{plainKind, joinedKind, uploadKind, partKind, all, zeros, objectOk, objectNext, entryOk, entryNext, start}
+
+-- The rows of a state ------------------------------------------------------------------------------------------------------
+
+abbrev pub kindOf : Etag → ℕ
+kindOf absent = plainKind
+kindOf (plain digest) = plainKind
+kindOf (joined digest count) = joinedKind
+
+abbrev pub digestOf : Etag → Bytes
+digestOf absent = zeros
+digestOf (plain digest) = digest
+digestOf (joined digest count) = digest
+
+abbrev pub countOf : Etag → ℕ
+countOf absent = 0
+countOf (plain digest) = 0
+countOf (joined digest count) = count
+
+abbrev pub objectRow : Bytes → Object → Row
+objectRow p x =
+    record { number = 0; stamp = x .created; kind = kindOf (x .etag); count = countOf (x .etag); digest = digestOf (x .etag); path = p; content = x .content }
+
+abbrev pub uploadRow : ℕ → Upload → Row
+uploadRow u x = record { number = u; stamp = x .started; kind = uploadKind; count = 0; digest = zeros; path = x .path; content = [] }
+
+abbrev pub partRow : ℕ → Part → Row
+partRow n y = record { number = n; stamp = 0; kind = partKind; count = 0; digest = y .digest; path = []; content = y .content }
+
+unfoldable pub objectRows : Map Bytes Object → List Row
+objectRows [] = []
+objectRows (e ∷ m) = objectRow (e .0) (e .1) ∷ objectRows m
+
+unfoldable pub partRows : Map ℕ Part → List Row
+partRows [] = []
+partRows (e ∷ m) = partRow (e .0) (e .1) ∷ partRows m
+
+unfoldable pub uploadRows : Map ℕ Upload → List Row
+uploadRows [] = []
+uploadRows (e ∷ m) = uploadRow (e .0) (e .1) ∷ (partRows (e .1 .parts) ++ uploadRows m)
+
+-- objects, then uploads with their parts
+unfoldable pub rowsOf : State → List Row
+rowsOf s = objectRows (s .O) ++ uploadRows (s .U)
+
+-- The header -----------------------------------------------------------------------------------------------------------------
+
+-- arena length 4, N 8, objects 2, uploads 2, parts 2
+abbrev pub headerWidths : List ℕ
+headerWidths = 4 ∷ 8 ∷ 2 ∷ 2 ∷ 2 ∷ []
+
+unfoldable pub encodeHeader : (A : ℕ) → State → List ℕ
+encodeHeader A s = fields headerWidths (A ∷ s .N ∷ length (s .O) ∷ length (s .U) ∷ total partsIn (s .U) ∷ [])
+
+abbrev pub headerFrom : List ℕ → Header
+headerFrom v = record { arena = getD v 0 0; next = getD v 1 0; objects = getD v 2 0; uploads = getD v 3 0; parts = getD v 4 0 }
+
+unfoldable pub headerAt : List ℕ → Header
+headerAt t = headerFrom (numbersAt headerWidths t)
+
+-- header, 256 objects and 16 uploads with paths of 128 bytes, 256 parts
+abbrev pub tablesLength : ℕ
+tablesLength = 53842
+
+abbrev pub arenaMost : ℕ
+arenaMost = 1048576
+
+-- Reading ----------------------------------------------------------------------------------------------------------------------
+
+abbrev pub etagOf : (kind : ℕ) (digest : Bytes) (count : ℕ) → Etag
+etagOf kind digest count = cond (eqb kind plainKind) (plain digest) (joined digest count)
+
+abbrev pub objectOf : Row → Object
+objectOf r = record { content = r .content; created = r .stamp; etag = etagOf (r .kind) (r .digest) (r .count) }
+
+unfoldable pub objectsOf : List Row → Map Bytes Object
+objectsOf [] = []
+objectsOf (r ∷ rs) = (r .path, objectOf r) ∷ objectsOf rs
+
+-- uploads with their parts, from the last row to the first: the parts that wait for their upload, and the uploads
+pub record Nest : Type 0 where
+  pub waiting : Map ℕ Part
+  pub uploads : Map ℕ Upload
+
+abbrev pub partOf : Row → Part
+partOf r = record { content = r .content; digest = r .digest }
+
+abbrev pub uploadOf : Row → Map ℕ Part → Upload
+uploadOf r ps = record { path = r .path; started = r .stamp; parts = ps }
+
+unfoldable pub nest : List Row → Nest
+nest [] = record { waiting = []; uploads = [] }
+nest (r ∷ rs) =
+    cond (eqb (r .kind) uploadKind)
+    (record { waiting = []; uploads = (r .number, uploadOf r (nest rs .waiting)) ∷ nest rs .uploads })
+    (record { waiting = (r .number, partOf r) ∷ nest rs .waiting; uploads = nest rs .uploads })
+
+-- how many rows are uploads'
+unfoldable pub opens : List Row → ℕ
+opens [] = 0
+opens (r ∷ rs) = cond (eqb (r .kind) uploadKind) 1 0 + opens rs
+
+module _ (t a : List ℕ) where
+  -- the rows of objects, and those behind them
+  unfoldable pub objectRowsAt : List Row
+  objectRowsAt = rowsAt (headerAt t .objects) (drop 18 t) a
+
+  unfoldable pub uploadTables : List ℕ
+  uploadTables = pastRows (headerAt t .objects) (drop 18 t)
+
+  unfoldable pub uploadArena : List ℕ
+  uploadArena = pastData (headerAt t .objects) (drop 18 t) a
+
+  unfoldable pub uploadRowsAt : List Row
+  uploadRowsAt = rowsAt (headerAt t .uploads + headerAt t .parts) uploadTables uploadArena
+
+  -- the state that tables t and arena a stand for
+  unfoldable pub stateOf : State
+  stateOf = record { O = objectsOf objectRowsAt; U = nest uploadRowsAt .uploads; N = headerAt t .next }
+
+-- the header of a store with an arena of A bytes
+unfoldable pub headerOk : (T A : ℕ) → Header → Bool
+headerOk T A h =
+    all
+    (eqb T tablesLength
+    ∷ leb A arenaMost
+    ∷ eqb (h .arena) A
+    ∷ leb 1 (h .next)
+    ∷ leb (h .next) 4294967296
+    ∷ leb (h .objects) 256
+    ∷ leb (h .uploads) 16
+    ∷ leb (h .parts) 256
+    ∷ [])
+
+unfoldable pub objectsGood : (t a : List ℕ) → Bool
+objectsGood t a = good (List ℕ) objectOk objectNext (headerAt t .objects) [] (drop 18 t) a
+
+unfoldable pub uploadsGood : (t a : List ℕ) → Bool
+uploadsGood t a =
+    good Mark (entryOk (headerAt t .next)) entryNext (headerAt t .uploads + headerAt t .parts) start (uploadTables t a) (uploadArena t a)
+
+-- the test "whole"
+unfoldable pub whole : (t a : List ℕ) → Bool
+whole t a =
+    all
+    (headerOk (length t) (length a) (headerAt t)
+    ∷ objectsGood t a
+    ∷ uploadsGood t a
+    ∷ eqb (opens (uploadRowsAt t a)) (headerAt t .uploads)
+    ∷ [])
+
+-- Tables t and arena a stand for s: they are the encoding of s, each followed by free bytes.
+pub record Stands (t a : List ℕ) (s : State) : Type 0 where
+  pub size : length t ≡ tablesLength
+  pub small : length a ≤ arenaMost
+  pub valid : Valid (length a) s
+  pub tables-free : List ℕ
+  pub tables : t ≡ encodeHeader (length a) s ++ (encodeRows (rowsOf s) ++ tables-free)
+  pub arena-free : List ℕ
+  pub arena : a ≡ contentsOf (rowsOf s) ++ arena-free

@@ -1,0 +1,95 @@
+-- The rules by which rows follow one another: objects ascend by path; uploads ascend by number, each with its parts behind it,
+-- ascending by part number. A field that a kind of row does not use is 0. Assumes nothing.
+use Prim.Native.Nat.{ℕ, Ordering, Ordering·lt, Ordering·eq, Ordering·gt}
+use mathlib.Core.Bool.{Bool, true, false, _&&_, cond}
+use mathlib.Core.List.{List, [], _∷_}
+use lib.Dec.{leb, ltb, eqb}
+use lib.ListN.{length, replicate}
+use Rattle.order.specs.Order.{byBytes, same}
+use Rattle.machine.specs.Names.{storedPathOk, storedPartOk}
+use Rattle.row.specs.declared.Head.{Head}
+use Rattle.row.specs.Row.{Row, headOf}
+use Rattle.layout.specs.declared.Mark.{Mark}
+
+-- the kinds of rows
+abbrev pub plainKind : ℕ
+plainKind = 0
+
+abbrev pub joinedKind : ℕ
+joinedKind = 1
+
+abbrev pub uploadKind : ℕ
+uploadKind = 2
+
+abbrev pub partKind : ℕ
+partKind = 3
+
+-- every test of a list passes
+unfoldable pub all : List Bool → Bool
+all [] = true
+all (b ∷ bs) = b && all bs
+
+abbrev pub isLess : Ordering → Bool
+isLess Ordering·lt = true
+isLess Ordering·eq = false
+isLess Ordering·gt = false
+
+-- a digest that is not used
+abbrev pub zeros : List ℕ
+zeros = replicate 16 0
+
+-- an object's row, behind one whose path is `last` ([] for none): a plain etag has no count, a joined one at most 256
+unfoldable pub objectRule : (last : List ℕ) → Head → (path : List ℕ) → Bool
+objectRule last h path =
+    all
+    (eqb (h .number) 0
+    ∷ leb 1 (h .stamp)
+    ∷ leb (h .kind) joinedKind
+    ∷ leb (h .count) (cond (eqb (h .kind) plainKind) 0 256)
+    ∷ storedPathOk path
+    ∷ isLess (byBytes last path)
+    ∷ [])
+
+abbrev pub objectOk : (last : List ℕ) → Row → Bool
+objectOk last r = objectRule last (headOf r) (r .path)
+
+abbrev pub objectNext : (last : List ℕ) → Row → List ℕ
+objectNext last r = r .path
+
+-- an upload's row, behind upload m .upload (0 for none), with a number below N
+unfoldable pub uploadRule : (N : ℕ) → Mark → Head → (digest path : List ℕ) → Bool
+uploadRule N m h digest path =
+    all
+    (eqb (h .size) 0
+    ∷ eqb (h .count) 0
+    ∷ leb 1 (h .stamp)
+    ∷ ltb (m .upload) (h .number)
+    ∷ ltb (h .number) N
+    ∷ storedPathOk path
+    ∷ same digest zeros
+    ∷ [])
+
+-- a part's row, behind part m .part (0 for none) of upload m .upload
+unfoldable pub partRule : Mark → Head → Bool
+partRule m h =
+    all
+    (eqb (h .kind) partKind
+    ∷ eqb (h .stamp) 0
+    ∷ eqb (h .count) 0
+    ∷ eqb (h .pathlen) 0
+    ∷ leb 1 (m .upload)
+    ∷ ltb (m .part) (h .number)
+    ∷ storedPartOk (h .number)
+    ∷ [])
+
+unfoldable pub entryOk : (N : ℕ) → Mark → Row → Bool
+entryOk N m r = cond (eqb (r .kind) uploadKind) (uploadRule N m (headOf r) (r .digest) (r .path)) (partRule m (headOf r))
+
+unfoldable pub markAfter : Mark → Head → Mark
+markAfter m h = cond (eqb (h .kind) uploadKind) (record { upload = h .number; part = 0 }) (record { upload = m .upload; part = h .number })
+
+abbrev pub entryNext : Mark → Row → Mark
+entryNext m r = markAfter m (headOf r)
+
+abbrev pub start : Mark
+start = record { upload = 0; part = 0 }

@@ -5,9 +5,22 @@ use mathlib.Core.Path.{_≡_, refl, sym, ap, _∙_}
 use mathlib.Core.List.{List, [], _∷_, _++_}
 use mathlib.Core.Option.{Option, none, some}
 use native.Mathlib.Omega.{arith}
-use lib.ListN.{length}
+use lib.ListN.{length, take, drop, take-append-drop}
 use Rattle.order.specs.OrderLaws.{cases, Lawful}
 use Rattle.machine.specs.Map.{Map, lookup, insert, remove, total, owed}
+
+-- over lists set end to end, and over a list cut in two
+module _ {K X : Type 0} (f : X → ℕ) where
+  pub total-append : (m n : Map K X) → total f (m ++ n) ≡ total f m + total f n
+  total-append [] n = omega arith
+  total-append (e ∷ m) n = omega (arith, total-append m n)
+
+  pub total-cut : (i : ℕ) (m : Map K X) → total f m ≡ total f (take i m) + total f (drop i m)
+  total-cut i m = ap (total f) (sym (take-append-drop i m)) ∙ total-append (take i m) (drop i m)
+
+pub length-total : {K X : Type 0} (m : Map K X) → total (λ (x : X). 1) m ≡ length m
+length-total [] = refl
+length-total (e ∷ m) = omega (arith, length-total m)
 
 module _ {K X : Type 0} {cmp : K → K → Ordering} (L : Lawful cmp) where
   -- sums: what was there is taken off, and what is inserted is added
@@ -26,3 +39,13 @@ module _ {K X : Type 0} {cmp : K → K → Ordering} (L : Lawful cmp) where
       (λ q. simp q (omega arith))
       (λ q. simp q (omega arith))
       (λ q. simp q (omega (arith, total-remove f k m)))
+
+  pub length-insert : (k : K) (v : X) (m : Map K X) → length (insert cmp k v m) + owed (λ (x : X). 1) (lookup cmp k m) ≡ length m + 1
+  length-insert k v m = rw (← length-total (insert cmp k v m), ← length-total m) (total-insert (λ (x : X). 1) k v m)
+
+  pub length-remove : (k : K) (m : Map K X) → length (remove cmp k m) + owed (λ (x : X). 1) (lookup cmp k m) ≡ length m
+  length-remove k m = rw (← length-total (remove cmp k m), ← length-total m) (total-remove (λ (x : X). 1) k m)
+
+  -- one value's share
+  pub total-share : (f : X → ℕ) (k : K) (v : X) (m : Map K X) → lookup cmp k m ≡ some v → f v ≤ total f m
+  total-share f k v m h = let t = rw h at (total-remove f k m) in omega arith

@@ -7,3 +7,6 @@ pub mod Calls
 pub mod Steps
 pub mod Lists
 pub mod Valid
+pub mod Marked
+pub mod Demand3
+pub mod Fits

@@ -18,6 +18,13 @@ use Rattle.machine.specs.Calls.{Call, PUT, GET, HEAD, DELETE, COPY, LIST
 abbrev pub plainObject : (stamp : ℕ) (content : Bytes) → Object
 plainObject t d = record { content = d; created = t; etag = plain (md5 d) }
 
+-- an upload "with no parts", and a part: "(data, plain etag)"
+abbrev pub newUpload : (stamp : ℕ) (path : Bytes) → Upload
+newUpload t p = record { path = p; started = t; parts = [] }
+
+abbrev pub newPart : (content : Bytes) → Part
+newPart d = record { content = d; digest = md5 d }
+
 -- PUT's step, COPY's too: the checks of the state after, then "O at path becomes (data, stamp, plain etag)"
 unfoldable pub putAt : (A : ℕ) → State → (stamp : ℕ) (path content : Bytes) → Outcome
 putAt A s t p d =
@@ -63,7 +70,7 @@ listed prefix suffix o = keep (λ p x. begins prefix p && ends suffix (drop (len
 
 -- "LIST writes for each path: its length (1 byte), the path, data length (4), created (8), etag text length (1), etag text."
 unfoldable pub listRecord : Bytes → Object → Bytes
-listRecord p x = length p ∷ p ++ le 4 (length (x .content)) ++ le 8 (x .created) ++ length (text (x .etag)) ∷ text (x .etag)
+listRecord p x = length p ∷ p ++ (le 4 (length (x .content)) ++ (le 8 (x .created) ++ length (text (x .etag)) ∷ text (x .etag)))
 
 -- UPLOADS: "the open uploads whose path begins with the prefix"
 unfoldable pub openUnder : (prefix : Bytes) → Map ℕ Upload → Map ℕ Upload
@@ -71,7 +78,7 @@ openUnder prefix m = keep (λ u x. begins prefix (x .path)) m
 
 -- "UPLOADS writes: number (4), path length (1), path, started (8), count of parts (2)."
 unfoldable pub uploadRecord : ℕ → Upload → Bytes
-uploadRecord u x = le 4 u ++ length (x .path) ∷ x .path ++ le 8 (x .started) ++ le 2 (length (x .parts))
+uploadRecord u x = le 4 u ++ (length (x .path) ∷ x .path ++ (le 8 (x .started) ++ le 2 (length (x .parts))))
 
 -- the step of each call, over an arena of length A
 unfoldable pub act : (A : ℕ) → State → Call → Outcome
@@ -91,7 +98,7 @@ act A s (LIST prefix suffix b) =
     let out = records listRecord l in
     write (counts (length l) (length out)) out b s
 act A s (INITIATE t p) =
-    let s′ : State = withNext (withUpload s (s .N) (record { path = p; started = t; parts = [] })) in
+    let s′ : State = withNext (withUpload s (s .N) (newUpload t p)) in
     stampOk t && newPathOk p else badRequest then
     counted s′ else tableFull then
     leb (s .N) lastUploadNumber else numbersUsedUp then
@@ -99,7 +106,7 @@ act A s (INITIATE t p) =
 act A s (PART u n d) =
     requestPartOk n else badRequest then
     given (lookup byNumber u (s .U)) badRequest λ x.
-    let s′ : State = withUpload s u (withPart x n (record { content = d; digest = md5 d })) in
+    let s′ : State = withUpload s u (withPart x n (newPart d)) in
     counted s′ else tableFull then
     leb (held s′) A else arenaFull then
     accept (etag (plain (md5 d))) [] s′

@@ -1,0 +1,50 @@
+-- Laws for callers: what a splice and a rotation leave of a buffer that is told in parts. Each takes what the callee ensures, and gives the parts
+-- after it. For `copy_at` and `fill` it is `field-written`, of crate number. Assumes nothing.
+use mathlib.Core.Path.{_≡_, sym, ap, ap₂, _∙_}
+use mathlib.Core.List.{List, [], _++_, append-assoc}
+use Prim.Native.Nat.{ℕ, _+_, _-_, _≤_}
+use native.Mathlib.Omega.{arith}
+use lib.ListN.{length, take, drop, length-append, length-drop}
+use lib.Seq.{take-at, drop-at}
+use Rattle.number.proofs.Fields.{field-take, field-drop, field-read}
+use Rattle.buffer.specs.Buffer.{spliced, rotated}
+
+-- two neighbouring parts, y of n bytes and z of m bytes, behind x
+module _ (b x y z w : List ℕ) (at n m : ℕ) (told : b ≡ x ++ (y ++ (z ++ w))) (place : length x ≡ at) (first : length y ≡ n) (second : length z ≡ m) where
+  before : take at b ≡ x
+  before = field-take b x y (z ++ w) at n told place first
+
+  one : take n (drop at b) ≡ y
+  one = field-read b x y (z ++ w) at n told place first
+
+  behind : b ≡ (x ++ y) ++ (z ++ w)
+  behind = told ∙ sym (append-assoc x y (z ++ w))
+
+  place-two : length (x ++ y) ≡ at + n
+  place-two = omega (arith, length-append x y)
+
+  two : take m (drop (at + n) b) ≡ z
+  two = field-read b (x ++ y) z w (at + n) m behind place-two second
+
+  after : drop (at + n + m) b ≡ w
+  after = field-drop b (x ++ y) z w (at + n) m behind place-two second
+
+  -- `rotate` exchanges them
+  pub rotated-parts : (b′ : List ℕ) → b′ ≡ rotated b at n m → b′ ≡ x ++ (z ++ (y ++ w))
+  rotated-parts b′ e =
+      e
+      ∙ ap₂ (λ (u v : List ℕ). u ++ (v ++ (take n (drop at b) ++ drop (at + n + m) b))) before two
+      ∙ ap₂ (λ (u v : List ℕ). x ++ (z ++ (u ++ v))) one after
+
+  -- `splice` puts src where y was, and z behind it
+  pub spliced-parts : (b′ src : List ℕ) (used : ℕ) → at + n + m ≡ used → b′ ≡ spliced b at n used src → b′ ≡ x ++ (src ++ (z ++ drop (used - n + length src) b))
+  spliced-parts b′ src used end e =
+      let q : used - (at + n) ≡ m = omega arith in
+      let t : take (used - (at + n)) (drop (at + n) b) ≡ z = ap (λ (k : ℕ). take k (drop (at + n) b)) q ∙ two in
+      e ∙ ap₂ (λ (u v : List ℕ). u ++ (src ++ (v ++ drop (used - n + length src) b))) before t
+
+  -- the free bytes behind are then fewer or more by what src and y differ
+  pub spliced-free : (src : List ℕ) (used : ℕ) → at + n + m ≡ used → length src ≤ length w + n → length (drop (used - n + length src) b) + length src ≡ length w + n
+  spliced-free src used end room =
+      let k : length b ≡ at + n + m + length w = omega (arith, ap length told, length-append x (y ++ (z ++ w)), length-append y (z ++ w), length-append z w) in
+      omega (arith, length-drop (used - n + length src) b)

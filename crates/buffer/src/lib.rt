@@ -1,0 +1,112 @@
+// Bytes copied, moved and exchanged within a buffer: each change is an equation of lists.
+mod blocks;
+
+ghost use mathlib.Core.Path.{_≡_};
+ghost use Prim.Native.Nat.{_+_, _-_, _≤_, _<_};
+ghost use mathlib.Core.List.{_++_};
+ghost use lib.ListN.{length, take, drop, replicate};
+ghost use Rattle.buffer.specs.Buffer.{spliced, rotated};
+
+// src over dst from `at` on; the rest of dst is as it was.
+pub fn copy_at(dst: &mut [u8], at: usize, src: &[u8])
+    requires { ⌜ at + length (now src) ≤ length (now dst) ⌝ }
+    ensures { λ _. ⌜ now (dst .exit) ≡ take at (now (dst .entry)) ++ now (src .entry) ++ drop (at + length (now (src .entry))) (now (dst .entry)) ⌝ }
+{
+    let mut i = 0;
+    while i < src.len() {
+        dst[at + i] = src[i];
+        i += 1;
+    }
+}
+
+// v at each of the n places from `at` on.
+pub fn fill(b: &mut [u8], at: usize, n: usize, v: u8)
+    requires { ⌜ at + n ≤ length (now b) ⌝ }
+    ensures { λ _. ⌜ now (b .exit) ≡ take at (now (b .entry)) ++ replicate n v ++ drop (at + n) (now (b .entry)) ⌝ }
+{
+    let mut i = 0;
+    while i < n {
+        b[at + i] = v;
+        i += 1;
+    }
+}
+
+// The n bytes from `from` on, moved left to `to`: the lowest first, so that none is written over before it is read.
+fn move_left(b: &mut [u8], from: usize, to: usize, n: usize)
+    requires { ⌜ (to ≤ from) × (from + n ≤ length (now b)) ⌝ }
+    ensures { λ _. ⌜ now (b .exit) ≡ take to (now (b .entry)) ++ take n (drop from (now (b .entry))) ++ drop (to + n) (now (b .entry)) ⌝ }
+{
+    let mut i = 0;
+    while i < n {
+        b[to + i] = b[from + i];
+        i += 1;
+    }
+}
+
+// The same to the right: the highest first.
+fn move_right(b: &mut [u8], from: usize, to: usize, n: usize)
+    requires { ⌜ (from ≤ to) × (to + n ≤ length (now b)) ⌝ }
+    ensures { λ _. ⌜ now (b .exit) ≡ take to (now (b .entry)) ++ take n (drop from (now (b .entry))) ++ drop (to + n) (now (b .entry)) ⌝ }
+{
+    let mut i = n;
+    while 0 < i {
+        i -= 1;
+        b[to + i] = b[from + i];
+    }
+}
+
+// The n bytes from `from` on, over those from `to` on, as C's memmove.
+pub fn copy_within(b: &mut [u8], from: usize, to: usize, n: usize)
+    requires { ⌜ (from + n ≤ length (now b)) × (to + n ≤ length (now b)) ⌝ }
+    ensures { λ _. ⌜ now (b .exit) ≡ take to (now (b .entry)) ++ take n (drop from (now (b .entry))) ++ drop (to + n) (now (b .entry)) ⌝ }
+{
+    if to <= from {
+        move_left(b, from, to, n);
+    } else {
+        move_right(b, from, to, n);
+    }
+}
+
+// The n bytes at `at` give way to src, and those behind them up to `used` move to follow it. With n = 0 it inserts, with an
+// empty src it removes.
+pub fn splice(b: &mut [u8], at: usize, n: usize, used: usize, src: &[u8])
+    requires { ⌜ (at + n ≤ used) × ((used ≤ length (now b)) × (used + length (now src) ≤ length (now b) + n)) ⌝ }
+    ensures { λ _. ⌜ now (b .exit) ≡ spliced (now (b .entry)) at n used (now (src .entry)) ⌝ }
+{
+    let m = src.len();
+    copy_within(b, at + n, at + m, used - (at + n));
+    copy_at(b, at, src);
+}
+
+// The left bytes from `at` on and the right bytes after them, exchanged in place. Each turn brings the bytes of one swap to
+// their place, and what is left is the same question for a shorter pair of blocks.
+pub fn rotate(b: &mut [u8], at: usize, left: usize, right: usize)
+    requires { ⌜ at + left + right ≤ length (now b) ⌝ }
+    ensures { λ _. ⌜ now (b .exit) ≡ rotated (now (b .entry)) at left right ⌝ }
+{
+    let mut from = at;
+    let mut l = left;
+    let mut r = right;
+    while blocks::SMALL < l {
+        if r <= blocks::SMALL {
+            if 0 < r {
+                blocks::rotate_small_right(b, from, l, r);
+            }
+            return;
+        }
+        if l <= r {
+            blocks::swap(b, from, from + l, l);
+            from += l;
+            r -= l;
+        } else {
+            blocks::swap(b, from, from + l, r);
+            from += r;
+            l -= r;
+        }
+    }
+    if 0 < l {
+        if 0 < r {
+            blocks::rotate_small_left(b, from, l, r);
+        }
+    }
+}

@@ -2,8 +2,9 @@
 use Prim.Native.Nat.{ℕ, zero, suc, _+_, _≤_, _<_, _^_}
 use mathlib.Core.Path.{_≡_, refl, sym, ap, _∙_}
 use mathlib.Core.List.{List, [], _∷_, _++_, append-assoc}
+use native.Mathlib.Nat.{add-zero, add-assoc, le-of-suc-le-suc, not-suc-le-zero}
 use native.Mathlib.Omega.{arith}
-use lib.ListN.{length, take, drop, length-take, length-drop, length-append, take-append-drop}
+use lib.ListN.{length, getD, take, drop, length-take, length-drop, length-append, take-append-drop}
 use lib.Seq.{drop-drop, take-at, drop-at, length-take-le}
 use Rattle.number.specs.Number.{le, fromLe}
 use Rattle.number.specs.NumberLaws.{Bytes, bytes-take, bytes-drop, length-le, fromLe-le, le-fromLe, fromLe-lt}
@@ -53,3 +54,11 @@ numbers-fields (w ∷ ws) (v ∷ vs) s f =
       drop-at (le w v) (fields ws vs ++ s) w (length-le w v),
       numbers-fields ws vs s (f .1),
     )
+
+-- one number of several, at its place
+pub number-at : (ws : List ℕ) (k at place : ℕ) (t : List ℕ) → k < length ws → place ≡ at + width (take k ws)
+    → fromLe (take (getD ws k 0) (drop place t)) ≡ getD (numbersAt ws (drop at t)) k 0
+unfolding numbersAt
+number-at [] k at place t h e = absurd (not-suc-le-zero h)
+number-at (w ∷ ws) zero at place t h e = rw (e, add-zero)
+number-at (w ∷ ws) (suc k) at place t h e = rw (drop-drop w at t) (number-at ws k (at + w) place t (le-of-suc-le-suc h) (e ∙ sym (add-assoc at w (width (take k ws)))))

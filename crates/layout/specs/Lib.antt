@@ -1,2 +1,4 @@
 pub mod Rules
 pub mod Memory
+pub mod TestLaws
+pub mod ObjectLaws

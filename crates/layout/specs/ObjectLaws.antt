@@ -64,7 +64,8 @@ object-is last r e =
       stamp = leb-true _ _ (h .1 .0);
       etag = etagged (r .kind) (r .count) (r .digest) (leb-true _ _ (h .1 .1 .0)) (leb-true _ _ (h .1 .1 .1 .0));
       path = h .1 .1 .1 .1 .0;
-      later = is-less _ (h .1 .1 .1 .1 .1 .0) }
+      later = is-less _ (h .1 .1 .1 .1 .1 .0);
+    }
 
 row-same : (last : List ℕ) (r : Row) → ObjectIs last r → objectRow (r .path) (objectOf r) ≡ r
 row-same last r h =
@@ -75,10 +76,8 @@ row-same last r h =
       count = h .etag .same-count i;
       digest = h .etag .same-digest i;
       path = r .path;
-      content = r .content }
-
-abbrev FollowsObjects : List ℕ → List Row → Type 0
-FollowsObjects = Follows (List ℕ) objectOk objectNext
+      content = r .content;
+    }
 
 pub object-rows-same : (last : List ℕ) (rs : List Row) → Follows (List ℕ) objectOk objectNext last rs → objectRows (objectsOf rs) ≡ rs
 unfolding objectRows objectsOf
@@ -99,12 +98,14 @@ pub objects-ok : (last : List ℕ) (rs : List Row) → EncodableAll rs → Follo
 unfolding objectsOf
 objects-ok last [] f v = tt
 objects-ok last (r ∷ rs) f v =
-    let h = object-is last r (v .0) in
-    (record {
-      path = h .path;
-      stamp = stamp-ok (r .stamp) (h .stamp) (f .0 .fits .1 .1 .0);
-      etag = h .etag .ok (f .0 .digest) },
-    objects-ok (r .path) rs (f .1) (v .1))
+    let h = object-is last r (v .0) in (
+      record {
+        path = h .path;
+        stamp = stamp-ok (r .stamp) (h .stamp) (f .0 .fits .1 .1 .0);
+        etag = h .etag .ok (f .0 .digest);
+      },
+      objects-ok (r .path) rs (f .1) (v .1),
+    )
 
 pub length-objects : (rs : List Row) → length (objectsOf rs) ≡ length rs
 unfolding objectsOf
@@ -149,7 +150,8 @@ object-encodable p x l o =
     let t = stamp-range (x .created) (o .stamp) in
     record {
       fits = (l, (omega arith, (omega (arith, t .below), (omega (arith, e .kind), (omega (arith, q .below), (omega (arith, e .most), tt))))));
-      digest = e .digest }
+      digest = e .digest;
+    }
 
 pub object-rows-encodable : (m : Map Bytes Object) → length (contentsOf (objectRows m)) < 256 ^ 4 → Every ObjectOk m → EncodableAll (objectRows m)
 unfolding objectRows contentsOf
@@ -162,15 +164,25 @@ pub object-rows-follow : (last : List ℕ) (m : Map Bytes Object) → Above byBy
 unfolding objectRows objectRule
 object-rows-follow last [] h a v = tt
 object-rows-follow last (e ∷ m) h a v =
-    let g = etag-is (e .1 .etag) (v .0 .etag) in
-    (true-all _
-    (eq-eqb 0 0 refl,
-    (le-leb _ _ (stamp-range (e .1 .created) (v .0 .stamp) .above),
-    (le-leb _ _ (g .kind),
-    (le-leb _ _ (g .count),
-    (v .0 .path,
-    (ap isLess h, tt)))))),
-    object-rows-follow (e .0) m (a .0) (a .1) (v .1))
+    let g = etag-is (e .1 .etag) (v .0 .etag) in (
+      true-all _ (
+        eq-eqb 0 0 refl,
+        (
+          le-leb _ _ (stamp-range (e .1 .created) (v .0 .stamp) .above),
+          (
+            le-leb _ _ (g .kind),
+            (
+              le-leb _ _ (g .count),
+              (
+                v .0 .path,
+                (ap isLess h, tt),
+              ),
+            ),
+          ),
+        ),
+      ),
+      object-rows-follow (e .0) m (a .0) (a .1) (v .1),
+    )
 
 -- the first object stands behind no other
 pub objects-first : (m : Map Bytes Object) → Every ObjectOk m → Above byBytes [] m

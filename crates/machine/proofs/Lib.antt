@@ -1,6 +1,13 @@
+pub mod Options
 pub mod MapLaws
 pub mod MapSums
+pub mod MapSplits
 pub mod MapPlaces
+pub mod MapScan
+pub mod MapKeep
 pub mod MapEach
-pub mod Options
 pub mod Fit
+pub mod Rules
+pub mod Outcome
+pub mod Counts
+pub mod KeepsValid

@@ -4,12 +4,11 @@
 use Prim.Native.Nat.{ℕ, zero, suc, _+_, Ordering, Ordering·lt, Ordering·eq, Ordering·gt}
 use mathlib.Core.Path.{_≡_, refl, sym, ap, _∙_, subst}
 use mathlib.Core.List.{List, [], _∷_, _++_}
-use mathlib.Core.Bool.{Bool, true, false, cond}
 use mathlib.Core.Option.{Option, none, some}
 use native.Mathlib.Omega.{arith}
 use Rattle.order.specs.Order.{by}
 use Rattle.order.specs.OrderLaws.{cases, Lawful}
-use Rattle.machine.specs.Map.{Map, lookup, insert, remove, Above, Ascending, keep, Every}
+use Rattle.machine.specs.Map.{Map, lookup, insert, remove, Above, Ascending, Every}
 
 module _ {K X : Type 0} {cmp : K → K → Ordering} (L : Lawful cmp) where
   pub lookup-insert : (k : K) (v : X) (m : Map K X) → lookup cmp k (insert cmp k v m) ≡ some v
@@ -59,7 +58,7 @@ module _ {K X : Type 0} {cmp : K → K → Ordering} (L : Lawful cmp) where
       (λ q. simp q (subst (λ (x : K). Above cmp x m) (sym (L .alike k (e .0) q)) (a .0), a .1))
       (λ q. simp q (above-insert (e .0) k v m (L .over k (e .0) q) (a .0), ascending-insert k v m (a .1)))
 
-  above-chain : (j k : K) (m : Map K X) → cmp j k ≡ Ordering·lt → Above cmp k m → Above cmp j m
+  pub above-chain : (j k : K) (m : Map K X) → cmp j k ≡ Ordering·lt → Above cmp k m → Above cmp j m
   above-chain j k [] q a = tt
   above-chain j k (e ∷ m) q a = L .chain j k (e .0) q a
 
@@ -75,16 +74,16 @@ module _ {K X : Type 0} {cmp : K → K → Ordering} (L : Lawful cmp) where
       (λ q. simp q (a .1))
       (λ q. simp q (above-remove (e .0) k m (a .1) (a .0), ascending-remove k m (a .1)))
 
-  lookup-below : (k : K) (m : Map K X) → Above cmp k m → lookup cmp k m ≡ none
-  lookup-below k [] a = refl
-  lookup-below k (e ∷ m) a = rw a
+  pub lookup-above : (k : K) (m : Map K X) → Above cmp k m → lookup cmp k m ≡ none
+  lookup-above k [] a = refl
+  lookup-above k (e ∷ m) a = rw a
 
   pub lookup-remove : (k : K) (m : Map K X) → Ascending cmp m → lookup cmp k (remove cmp k m) ≡ none
   lookup-remove k [] a = refl
   lookup-remove k (e ∷ m) a =
       cases (cmp k (e .0))
       (λ q. simp q)
-      (λ q. simp q (lookup-below k m (rw (L .alike k (e .0) q) (a .0))))
+      (λ q. simp q (lookup-above k m (rw (L .alike k (e .0) q) (a .0))))
       (λ q. simp q (lookup-remove k m (a .1)))
 
   pub lookup-remove-other : (j k : K) (m : Map K X) → Ascending cmp m → (j ≡ k → ⊥) → lookup cmp j (remove cmp k m) ≡ lookup cmp j m
@@ -93,7 +92,7 @@ module _ {K X : Type 0} {cmp : K → K → Ordering} (L : Lawful cmp) where
       cases (cmp k (e .0))
       (λ q. simp q)
       (λ q. cases (cmp j (e .0))
-      (λ p. simp (q, p) (lookup-below j m (above-chain j (e .0) m p (a .0))))
+      (λ p. simp (q, p) (lookup-above j m (above-chain j (e .0) m p (a .0))))
       (λ p. absurd (d (L .alike j (e .0) p ∙ sym (L .alike k (e .0) q))))
       (λ p. simp (q, p)))
       (λ q. simp q (ap (by (cmp j (e .0)) none (some (e .1))) (lookup-remove-other j k m (a .1) d)))
@@ -123,23 +122,6 @@ module _ {K X : Type 0} {cmp : K → K → Ordering} (L : Lawful cmp) where
       (λ q. let n : some (e .1) ≡ some v = simp q at h in let p : e .1 ≡ v = cc in rw (L .alike k (e .0) q) (subst (P (e .0)) p (a .0)))
       (λ q. every-lookup P k v m (a .1) (simp q at h))
 
-  pub keep-above : (f : K → X → Bool) (k : K) (m : Map K X) → Ascending cmp m → Above cmp k m → Above cmp k (keep f m)
-  keep-above f k [] s a = tt
-  keep-above f k (e ∷ m) s a = go (f (e .0) (e .1)) (keep-above f k m (s .1) (above-chain k (e .0) m a (s .0)))
-    where
-      go : (b : Bool) → Above cmp k (keep f m) → Above cmp k (cond b (e ∷ keep f m) (keep f m))
-      go true h = a
-      go false h = h
-
-  -- what passes a test stands in the same order
-  pub ascending-keep : (f : K → X → Bool) (m : Map K X) → Ascending cmp m → Ascending cmp (keep f m)
-  ascending-keep f [] s = tt
-  ascending-keep f (e ∷ m) s = go (f (e .0) (e .1)) (ascending-keep f m (s .1))
-    where
-      go : (b : Bool) → Ascending cmp (keep f m) → Ascending cmp (cond b (e ∷ keep f m) (keep f m))
-      go true h = (keep-above f (e .0) m (s .1) (s .0), h)
-      go false h = h
-
   -- two maps that answer alike are the same list
   no-some : {v : X} → none ≡ some v → ⊥
   no-some h = let z : _≡_ {A = ℕ} 0 1 = cc in omega arith
@@ -161,6 +143,6 @@ module _ {K X : Type 0} {cmp : K → K → Ordering} (L : Lawful cmp) where
       rest : cmp (e .0) (f .0) ≡ Ordering·eq → (k : K) → lookup cmp k m ≡ lookup cmp k n
       rest q k =
           cases (cmp k (e .0))
-          (λ p. lookup-below k m (above-chain k (e .0) m p (a .0)) ∙ sym (lookup-below k n (above-chain k (f .0) n (rw (L .alike (e .0) (f .0) q) at p) (b .0))))
-          (λ p. lookup-below k m (rw (L .alike k (e .0) p) (a .0)) ∙ sym (lookup-below k n (rw (L .alike k (e .0) p ∙ L .alike (e .0) (f .0) q) (b .0))))
+          (λ p. lookup-above k m (above-chain k (e .0) m p (a .0)) ∙ sym (lookup-above k n (above-chain k (f .0) n (rw (L .alike (e .0) (f .0) q) at p) (b .0))))
+          (λ p. lookup-above k m (rw (L .alike k (e .0) p) (a .0)) ∙ sym (lookup-above k n (rw (L .alike k (e .0) p ∙ L .alike (e .0) (f .0) q) (b .0))))
           (λ p. simp (p, rw (L .alike (e .0) (f .0) q) at p) at (h k))

@@ -1,6 +1,6 @@
--- Finite maps as lists: insert and remove at the found place, and a search from the front.
+-- Finite maps as lists cut at the place of a key: insert and remove there.
 -- Assumes nothing.
-use Prim.Native.Nat.{ℕ, zero, suc, _+_, _≤_, _<_, suc-le-suc, Ordering, Ordering·lt, Ordering·eq, Ordering·gt}
+use Prim.Native.Nat.{ℕ, zero, suc, _+_, _≤_, _<_, Ordering, Ordering·lt, Ordering·eq, Ordering·gt}
 use mathlib.Core.Path.{_≡_, refl, sym, ap, _∙_}
 use mathlib.Core.List.{List, [], _∷_, _++_}
 use mathlib.Core.Option.{Option, none, some}
@@ -8,10 +8,53 @@ use native.Mathlib.Nat.{le-of-suc-le-suc, not-suc-le-zero}
 use native.Mathlib.Omega.{arith}
 use lib.ListN.{take, drop, length, getD}
 use Rattle.order.specs.OrderLaws.{cases, Lawful}
-use Rattle.machine.specs.Map.{Map, lookup, insert, remove, place, Above, Ascending, Every}
+use Rattle.machine.specs.Map.{Map, lookup, insert, remove, place, Above}
+use Rattle.machine.proofs.Options.{none-some}
+use Rattle.machine.proofs.MapSplits.{Below}
 
 module _ {K X : Type 0} {cmp : K → K → Ordering} (L : Lawful cmp) where
-  -- the list, cut at the place of k
+  pub place-length : (k : K) (m : Map K X) → place cmp k m ≤ length m
+  place-length k [] = omega arith
+  place-length k (e ∷ m) = cases (cmp k (e .0)) (λ q. simp q (omega arith)) (λ q. simp q (omega arith)) (λ q. simp q (omega (arith, place-length k m)))
+
+  -- what stands before the place is below k; where k is not there, what stands from it on is above k
+  pub below-place : (k : K) (m : Map K X) → Below cmp k (take (place cmp k m) m)
+  below-place k [] = tt
+  below-place k (e ∷ m) = cases (cmp k (e .0)) (λ q. rw q tt) (λ q. rw q tt) (λ q. rw q (q, below-place k m))
+
+  pub above-place : (k : K) (m : Map K X) → lookup cmp k m ≡ none → Above cmp k (drop (place cmp k m) m)
+  above-place k [] h = tt
+  above-place k (e ∷ m) h =
+      cases (cmp k (e .0))
+      (λ q. rw q q)
+      (λ q. absurd (none-some (sym (simp q at h))))
+      (λ q. rw q (above-place k m (simp q at h)))
+
+  -- where k is there, it stands at its place
+  pub place-found : (k : K) (w : X) (m : Map K X) → lookup cmp k m ≡ some w → place cmp k m < length m
+  place-found k w [] h = absurd (none-some h)
+  place-found k w (e ∷ m) h =
+      cases (cmp k (e .0))
+      (λ q. absurd (none-some (simp q at h)))
+      (λ q. simp q (omega arith))
+      (λ q. simp q (omega (arith, place-found k w m (simp q at h))))
+
+  pub split-found : (k : K) (w : X) (m : Map K X) → lookup cmp k m ≡ some w → m ≡ take (place cmp k m) m ++ (k, w) ∷ drop (suc (place cmp k m)) m
+  split-found k w [] h = cc
+  split-found k w (e ∷ m) h =
+      cases (cmp k (e .0))
+      (λ q. absurd (none-some (simp q at h)))
+      (λ q. let n : some (e .1) ≡ some w = simp q at h in let p : e .1 ≡ w = cc in simp q (λ i. (sym (L .alike k (e .0) q) i, p i) ∷ m))
+      (λ q. simp q (ap (λ (r : Map K X). e ∷ r) (split-found k w m (simp q at h))))
+
+  pub getD-place : (d : K × X) (k : K) (w : X) (m : Map K X) → lookup cmp k m ≡ some w → getD m (place cmp k m) d ≡ (k, w)
+  getD-place d k w [] h = absurd (none-some h)
+  getD-place d k w (e ∷ m) h =
+      cases (cmp k (e .0))
+      (λ q. absurd (none-some (simp q at h)))
+      (λ q. let n : some (e .1) ≡ some w = simp q at h in let p : e .1 ≡ w = cc in simp q (λ i. (sym (L .alike k (e .0) q) i, p i)))
+      (λ q. simp q (getD-place d k w m (simp q at h)))
+
   pub insert-new : (k : K) (v : X) (m : Map K X) → lookup cmp k m ≡ none → insert cmp k v m ≡ take (place cmp k m) m ++ (k, v) ∷ drop (place cmp k m) m
   insert-new k v [] h = refl
   insert-new k v (e ∷ m) h =
@@ -36,18 +79,17 @@ module _ {K X : Type 0} {cmp : K → K → Ordering} (L : Lawful cmp) where
       (λ q. simp q)
       (λ q. simp q (ap (λ (r : Map K X). e ∷ r) (remove-old k w m (simp q at h))))
 
-  -- a search from the front: where every key before i is below k, what is left to search is what stands from i on
-  pub lookup-scan : (d : K × X) (k : K) (i : ℕ) (m : Map K X) → i ≤ length m → ((j : ℕ) → j < i → cmp k (getD m j d .0) ≡ Ordering·gt) → lookup cmp k m ≡ lookup cmp k (drop i m)
-  lookup-scan d k zero m l h = refl
-  lookup-scan d k (suc i) [] l h = absurd (not-suc-le-zero l)
-  lookup-scan d k (suc i) (e ∷ m) l h = rw (h 0 (omega arith)) (lookup-scan d k i m (le-of-suc-le-suc l) (λ j q. h (suc j) (suc-le-suc q)))
+  -- a search in a part of the list
+  pub lookup-take : (k : K) (i : ℕ) (m : Map K X) → place cmp k m < i → lookup cmp k (take i m) ≡ lookup cmp k m
+  lookup-take k zero m h = absurd (not-suc-le-zero h)
+  lookup-take k (suc i) [] h = refl
+  lookup-take k (suc i) (e ∷ m) h = cases (cmp k (e .0)) (λ q. simp q) (λ q. simp q) (λ q. simp q (lookup-take k i m (le-of-suc-le-suc (simp q at h))))
 
-  pub place-scan : (d : K × X) (k : K) (i : ℕ) (m : Map K X) → i ≤ length m → ((j : ℕ) → j < i → cmp k (getD m j d .0) ≡ Ordering·gt) → place cmp k m ≡ i + place cmp k (drop i m)
-  place-scan d k zero m l h = omega arith
-  place-scan d k (suc i) [] l h = absurd (not-suc-le-zero l)
-  place-scan d k (suc i) (e ∷ m) l h =
-      rw (h 0 (omega arith)) (omega (arith, place-scan d k i m (le-of-suc-le-suc l) (λ j q. h (suc j) (suc-le-suc q))))
-
-  pub place-length : (k : K) (m : Map K X) → place cmp k m ≤ length m
-  place-length k [] = omega arith
-  place-length k (e ∷ m) = cases (cmp k (e .0)) (λ q. simp q (omega arith)) (λ q. simp q (omega arith)) (λ q. simp q (omega (arith, place-length k m)))
+  pub lookup-drop : (k : K) (i : ℕ) (m : Map K X) → i ≤ place cmp k m → lookup cmp k (drop i m) ≡ lookup cmp k m
+  lookup-drop k zero m h = refl
+  lookup-drop k (suc i) [] h = refl
+  lookup-drop k (suc i) (e ∷ m) h =
+      cases (cmp k (e .0))
+      (λ q. absurd (not-suc-le-zero (simp q at h)))
+      (λ q. absurd (not-suc-le-zero (simp q at h)))
+      (λ q. simp q (lookup-drop k i m (le-of-suc-le-suc (simp q at h))))

@@ -1,0 +1,52 @@
+-- Where the rows of a state stand. Assumes nothing.
+use Prim.Native.Nat.{ℕ, _+_}
+use mathlib.Core.Bool.{Bool, true, false}
+use mathlib.Core.List.{List, [], _∷_, _++_}
+use mathlib.Core.Option.{Option, none, some}
+use lib.ListN.{length, take}
+use Rattle.order.specs.Order.{byBytes}
+use Rattle.machine.specs.Map.{Map, byNumber, lookup, place}
+use Rattle.machine.specs.Names.{Bytes}
+use Rattle.machine.specs.State.{Object, Part, Upload, State}
+use Rattle.row.specs.Row.{Row, encodeRows, contentsOf}
+use Rattle.layout.specs.Memory.{objectRows, uploadRow, partRows, uploadRows, rowsOf}
+use Rattle.find.specs.declared.Offset.{Offset}
+use Rattle.find.specs.declared.Place.{Place}
+
+module _ {X : Type 0} where
+  abbrev pub isSome : Option X → Bool
+  isSome none = false
+  isSome (some x) = true
+
+-- where the rows behind rs begin, and their data
+abbrev pub behind : List Row → Offset
+behind rs = record { at = 18 + length (encodeRows rs); base = length (contentsOf rs) }
+
+abbrev pub placeBehind : Bool → List Row → Place
+placeBehind found rs = record { found = found; at = 18 + length (encodeRows rs); base = length (contentsOf rs) }
+
+-- the rows before those of the object at a path, of an upload, of an upload's parts, of a part, and of what follows an upload's parts
+unfoldable pub beforeObject : State → Bytes → List Row
+beforeObject s p = objectRows (take (place byBytes p (s .O)) (s .O))
+
+unfoldable pub beforeUpload : State → ℕ → List Row
+beforeUpload s u = objectRows (s .O) ++ uploadRows (take (place byNumber u (s .U)) (s .U))
+
+unfoldable pub beforeParts : State → ℕ → Upload → List Row
+beforeParts s u x = beforeUpload s u ++ (uploadRow u x ∷ [])
+
+unfoldable pub beforePart : State → ℕ → Upload → ℕ → List Row
+beforePart s u x n = beforeParts s u x ++ partRows (take (place byNumber n (x .parts)) (x .parts))
+
+unfoldable pub throughParts : State → ℕ → Upload → List Row
+throughParts s u x = beforeParts s u x ++ partRows (x .parts)
+
+-- the place of an object, of an upload, of a part
+unfoldable pub objectPlace : State → Bytes → Place
+objectPlace s p = placeBehind (isSome (lookup byBytes p (s .O))) (beforeObject s p)
+
+unfoldable pub uploadPlace : State → ℕ → Place
+uploadPlace s u = placeBehind (isSome (lookup byNumber u (s .U))) (beforeUpload s u)
+
+unfoldable pub partPlace : State → ℕ → Upload → ℕ → Place
+partPlace s u x n = placeBehind (isSome (lookup byNumber n (x .parts))) (beforePart s u x n)

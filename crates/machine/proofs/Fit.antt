@@ -159,6 +159,13 @@ fit-fits ns m xs a h = fitting-fits ns m (go ns m xs a h)
           once = rw (found-absent n (remove byNumber n m) ns (lookup-remove numbers n m a) (f .all)) (f .once);
         }
 
+-- the parts that `fit` gives, by their numbers
+pub fit-listed : (ns : List ℕ) (m : Map ℕ Part) (xs : List Part) → Ascending byNumber m → fit ns m ≡ some xs → (allFound m ns ≡ true) × (xs ≡ listedParts m ns)
+fit-listed ns m xs a h =
+    let f = fit-fits ns m xs a h in
+    let e : some xs ≡ some (listedParts m ns) = sym h ∙ fits-fit ns m a f in
+    (fitting ns m f .all, cc)
+
 -- COMMIT's list, by the test
 pub fit-test : (ns : List ℕ) (m : Map ℕ Part) → Ascending byNumber m → fit ns m ≡ cond (fits ns m) (some (listedParts m ns)) none
 fit-test ns m a = go (fits ns m) refl (fit ns m) refl

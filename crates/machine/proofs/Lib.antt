@@ -11,3 +11,6 @@ pub mod Rules
 pub mod Outcome
 pub mod Counts
 pub mod KeepsValid
+pub mod Commits
+pub mod Unseen
+pub mod Demand3

@@ -1,0 +1,284 @@
+-- Demand 3's first claim: an accepted COMMIT joins what the last accepted PARTs carried.
+-- What the open uploads hold agrees, after each step, with what the calls and replies so far tell.
+-- Assumes nothing.
+use Prim.Native.Nat.{ℕ, _+_, _≤_, _<_}
+use mathlib.Core.Path.{_≡_, refl, sym, ap, ap₂, _∙_, subst}
+use mathlib.Core.Bool.{Bool, true, false, _&&_, cond, false≢true}
+use mathlib.Core.List.{List, [], _∷_, _++_, map}
+use mathlib.Core.Option.{Option, none, some}
+use native.Mathlib.Omega.{arith}
+use native.Mathlib.Decide.{ℕ-discrete}
+use borrow.Author.Tests.{le-leb, eq-eqb, ne-eqb, eqb-true}
+use lib.Dec.{leb, eqb}
+use lib.ListN.{length, drop}
+use Rattle.order.specs.Order.{byBytes}
+use Rattle.order.specs.OrderLaws.{numbers, bytes}
+use Rattle.machine.specs.Map.{Map, byNumber, lookup, insert, remove, mapped, also, Ascending}
+use Rattle.machine.specs.Names.{Bytes, requestPathOk, storedPathOk}
+use Rattle.machine.specs.Digest.{md5}
+use Rattle.machine.specs.Etags.{joined}
+use Rattle.machine.specs.State.{Object, Part, Upload, State, fresh, withObject, withoutUpload, withPart}
+use Rattle.machine.specs.Calls.{Call, PUT, GET, HEAD, DELETE, COPY, LIST, INITIATE, PART, COMMIT, ABORT, UPLOADS, Answer, Reply, Refusal, badRequest, notFound, tableFull, arenaFull, numbersUsedUp, bufferShort, Outcome, refuse, accept, _else_then_, given, lent}
+use Rattle.machine.specs.Steps.{newUpload, newPart, joinedObject, about, contents, digests, fit, putAt, objectAt, act, replyOf, after, reply, next}
+use Rattle.machine.specs.Lists.{Trace, trace, final}
+use Rattle.machine.specs.Valid.{ObjectOk, UploadOk, Valid}
+use Rattle.machine.specs.Fits.{isThere, allFound, listedParts}
+use Rattle.machine.specs.Demand3.{Kind, kind, accepted, _or_, carries, carried, lastPart, lastParts, opens, opened, startOf, concat, joinedFrom, Leaves, calls, CommitsJoin}
+use Rattle.machine.proofs.Options.{both}
+use Rattle.machine.proofs.MapLaws.{every-lookup, lookup-insert, lookup-insert-other}
+use Rattle.machine.proofs.Fit.{lookup-kept, fit-listed}
+use Rattle.machine.proofs.Rules.{stored-requested, stored-not-root}
+use Rattle.machine.proofs.Outcome.{Then, then-accept, then-else, then-given}
+use Rattle.machine.proofs.KeepsValid.{next-valid, fresh-valid, final-valid}
+
+-- f tells what the last PART carried, and g the start, of each upload so far
+record Agrees (m : Map ℕ Upload) (N : ℕ) (f : ℕ → ℕ → Option Bytes) (g : ℕ → Option (ℕ × Bytes)) : Type 0 where
+  parts : (u : ℕ) (x : Upload) → lookup byNumber u m ≡ some x → (n : ℕ) → lookup byNumber n (x .parts) ≡ mapped newPart (f u n)
+  start : (u : ℕ) (x : Upload) → lookup byNumber u m ≡ some x → g u ≡ some (x .started, x .path)
+  later : (u n : ℕ) → N ≤ u → f u n ≡ none
+
+-- INITIATE
+initiated : (m : Map ℕ Upload) (N : ℕ) (f : ℕ → ℕ → Option Bytes) (g : ℕ → Option (ℕ × Bytes)) (t : ℕ) (p : Bytes) → Agrees m N f g →
+    Agrees (insert byNumber N (newUpload t p) m) (N + 1) f (λ u. cond (eqb u N) (some (t, p)) none or g u)
+initiated m N f g t p a = record {
+  parts = λ u x h n. parts u x h n (ℕ-discrete u N);
+  start = λ u x h. start u x h (ℕ-discrete u N);
+  later = λ u n h. a .later u n (omega arith);
+}
+  where
+    new : Upload
+    new = newUpload t p
+
+    is-new : (x : Upload) → lookup byNumber N (insert byNumber N new m) ≡ some x → new ≡ x
+    is-new x h = let e = lookup-insert numbers N new m in cc
+
+    parts : (u : ℕ) (x : Upload) → lookup byNumber u (insert byNumber N new m) ≡ some x → (n : ℕ) → Dec (u ≡ N) → lookup byNumber n (x .parts) ≡ mapped newPart (f u n)
+    parts u x h n (yes e) = rw (← is-new x (rw e at h), a .later u n (omega arith))
+    parts u x h n (no d) = a .parts u x (sym (lookup-insert-other numbers u N new m d) ∙ h) n
+
+    start : (u : ℕ) (x : Upload) → lookup byNumber u (insert byNumber N new m) ≡ some x → Dec (u ≡ N) → cond (eqb u N) (some (t, p)) none or g u ≡ some (x .started, x .path)
+    start u x h (yes e) = rw (← is-new x (rw e at h), eq-eqb u N e)
+    start u x h (no d) = rw (ne-eqb u N d) (a .start u x (sym (lookup-insert-other numbers u N new m d) ∙ h))
+
+-- PART (u, n, d) puts d for the last
+abbrev sending : ℕ → ℕ → Bytes → (ℕ → ℕ → Option Bytes) → ℕ → ℕ → Option Bytes
+sending u n d f v k = cond (eqb v u && eqb k n) (some d) none or f v k
+
+sent-part : (m : Map ℕ Upload) (N : ℕ) (f : ℕ → ℕ → Option Bytes) (g : ℕ → Option (ℕ × Bytes)) (u n : ℕ) (d : Bytes) (x : Upload) →
+    lookup byNumber u m ≡ some x → u < N → Agrees m N f g → Agrees (insert byNumber u (withPart x n (newPart d)) m) N (sending u n d f) g
+sent-part m N f g u n d x h l a = record {
+  parts = λ v y q k. parts v y q k (ℕ-discrete v u) (ℕ-discrete k n);
+  start = λ v y q. start v y q (ℕ-discrete v u);
+  later = λ v k q. rw (ne-eqb v u (λ w. let z = w in omega arith)) (a .later v k q);
+}
+  where
+    part : Part
+    part = newPart d
+
+    new : Upload
+    new = withPart x n part
+
+    is-new : (y : Upload) → lookup byNumber u (insert byNumber u new m) ≡ some y → new ≡ y
+    is-new y q = let w = lookup-insert numbers u new m in cc
+
+    parts : (v : ℕ) (y : Upload) → lookup byNumber v (insert byNumber u new m) ≡ some y → (k : ℕ) → Dec (v ≡ u) → Dec (k ≡ n) → lookup byNumber k (y .parts) ≡ mapped newPart (sending u n d f v k)
+    parts v y q k (yes i) (yes j) = rw (← is-new y (rw i at q), eq-eqb v u i, eq-eqb k n j, j, lookup-insert numbers n part (x .parts))
+    parts v y q k (yes i) (no j) =
+        rw (← is-new y (rw i at q), eq-eqb v u i, ne-eqb k n j, lookup-insert-other numbers k n part (x .parts) j) (a .parts v x (rw i h) k)
+    parts v y q k (no i) _ = rw (ne-eqb v u i) (a .parts v y (sym (lookup-insert-other numbers v u new m i) ∙ q) k)
+
+    start : (v : ℕ) (y : Upload) → lookup byNumber v (insert byNumber u new m) ≡ some y → Dec (v ≡ u) → g v ≡ some (y .started, y .path)
+    start v y q (yes i) = rw (← is-new y (rw i at q)) (a .start v x (rw i h))
+    start v y q (no i) = a .start v y (sym (lookup-insert-other numbers v u new m i) ∙ q)
+
+-- COMMIT and ABORT
+closed : (m : Map ℕ Upload) (N : ℕ) (f : ℕ → ℕ → Option Bytes) (g : ℕ → Option (ℕ × Bytes)) (u : ℕ) → Ascending byNumber m → Agrees m N f g → Agrees (remove byNumber u m) N f g
+closed m N f g u s a = record {
+  parts = λ v x h. a .parts v x (lookup-kept v u m x s h);
+  start = λ v x h. a .start v x (lookup-kept v u m x s h);
+  later = a .later;
+}
+
+module _ (A : ℕ) (s : State) (f : ℕ → ℕ → Option Bytes) (g : ℕ → Option (ℕ × Bytes)) (v : Valid A s) (a : Agrees (s .U) (s .N) f g) where
+  -- after an accepted call of this kind
+  Told : Kind → Answer → Bytes → State → Type 0
+  Told k r out s′ = Agrees (s′ .U) (s′ .N) (λ u n. carries u n k or f u n) (λ u. opens u r k or g u)
+
+  told : (k : Kind) (r : Answer) (out : Bytes) (s′ : State) → Agrees (s′ .U) (s′ .N) (λ u n. carries u n k or f u n) (λ u. opens u r k or g u) → Then (Told k) (accept r out s′)
+  unfolding Told
+  told k r out s′ h = then-accept (Told k) r out s′ h
+
+  put-told : (t : ℕ) (p d : Bytes) → Then (Told Kind.other) (putAt A s t p d)
+  unfolding putAt
+  put-told t p d = then-else _ _ _ _ λ _. then-else _ _ _ _ λ _. told _ _ _ _ a
+
+  at-told : (p : Bytes) (k : Object → Outcome) → ((x : Object) → Then (Told Kind.looks) (k x)) → Then (Told Kind.looks) (objectAt s p k)
+  unfolding objectAt
+  at-told [] k h = h _
+  at-told (b ∷ p) k h = then-else _ _ _ _ λ _. then-given _ _ _ _ λ x _. h x
+
+  act-told : (c : Call) → Then (Told (kind c)) (act A s c)
+  unfolding act
+  act-told (PUT t p d) = then-else _ _ _ _ λ _. put-told t p d
+  act-told (GET p b) = at-told p _ λ x. then-else _ _ _ _ λ _. told _ _ _ _ a
+  act-told (HEAD p) = at-told p _ λ x. told _ _ _ _ a
+  act-told (DELETE p) = then-else _ _ _ _ λ _. then-given _ _ _ _ λ x _. told _ _ _ _ a
+  act-told (COPY t p q) = then-else _ _ _ _ λ _. then-given _ _ _ _ λ x _. put-told t q (x .content)
+  act-told (LIST prefix suffix b) = then-else _ _ _ _ λ _. told _ _ _ _ a
+  act-told (INITIATE t p) = then-else _ _ _ _ λ _. then-else _ _ _ _ λ _. then-else _ _ _ _ λ _. told _ _ _ _ (initiated (s .U) (s .N) f g t p a)
+  act-told (PART u n d) =
+      then-else _ _ _ _ λ _.
+      then-given _ _ _ _ λ x e.
+      then-else _ _ _ _ λ _.
+      then-else _ _ _ _ λ _.
+      told _ _ _ _ (sent-part (s .U) (s .N) f g u n d x e (every-lookup numbers (UploadOk (s .N)) u x (s .U) (v .upload) e .high) a)
+  act-told (COMMIT u ns) = then-given _ _ _ _ λ x _. then-given _ _ _ _ λ xs _. then-else _ _ _ _ λ _. told _ _ _ _ (closed (s .U) (s .N) f g u (v .uploads) a)
+  act-told (ABORT u) = then-given _ _ _ _ λ x _. told _ _ _ _ (closed (s .U) (s .N) f g u (v .uploads) a)
+  act-told (UPLOADS prefix b) = then-else _ _ _ _ λ _. told _ _ _ _ a
+
+  step-agrees : (c : Call) → Agrees (next A s c .U) (next A s c .N) (λ u n. carried u n (c, reply A s c) or f u n) (λ u. opened u (c, reply A s c) or g u)
+  unfolding Told Then
+  step-agrees c = go (act A s c) (act-told c)
+    where
+      go : (o : Outcome) → Then (Told (kind c)) o →
+          Agrees (after s o .U) (after s o .N) (λ u n. carried u n (c, replyOf (lent c) o) or f u n) (λ u. opened u (c, replyOf (lent c) o) or g u)
+      go (refuse badRequest) h = a
+      go (refuse notFound) h = a
+      go (refuse tableFull) h = a
+      go (refuse arenaFull) h = a
+      go (refuse numbersUsedUp) h = a
+      go (refuse bufferShort) h = a
+      go (accept r out s′) h = h
+
+or-assoc : {X : Type 0} (a b c : Option X) → (a or b) or c ≡ a or (b or c)
+or-assoc none b c = refl
+or-assoc (some x) b c = refl
+
+or-none : {X : Type 0} (a : Option X) → a or none ≡ a
+or-none none = refl
+or-none (some x) = refl
+
+agrees-same : (m : Map ℕ Upload) (N : ℕ) (f h : ℕ → ℕ → Option Bytes) (g k : ℕ → Option (ℕ × Bytes)) → ((u n : ℕ) → f u n ≡ h u n) → ((u : ℕ) → g u ≡ k u) → Agrees m N f g → Agrees m N h k
+agrees-same m N f h g k p q a = record {
+  parts = λ u x e n. a .parts u x e n ∙ ap (mapped newPart) (p u n);
+  start = λ u x e. sym (q u) ∙ a .start u x e;
+  later = λ u n l. sym (p u n) ∙ a .later u n l;
+}
+
+run-agrees : (A : ℕ) (s : State) (cs : List Call) (f : ℕ → ℕ → Option Bytes) (g : ℕ → Option (ℕ × Bytes)) → Valid A s → Agrees (s .U) (s .N) f g →
+    Agrees (final A s cs .U) (final A s cs .N) (λ u n. lastPart u n (trace A s cs) or f u n) (λ u. startOf u (trace A s cs) or g u)
+run-agrees A s [] f g v a = a
+run-agrees A s (c ∷ cs) f g v a =
+    agrees-same _ _ _ _ _ _ (λ u n. sym (or-assoc (lastPart u n (trace A (next A s c) cs)) _ _)) (λ u. sym (or-assoc (startOf u (trace A (next A s c) cs)) _ _))
+    (run-agrees A (next A s c) cs _ _ (next-valid A s c v) (step-agrees A s f g v a c))
+
+fresh-agrees : (A : ℕ) (cs : List Call) → Agrees (final A fresh cs .U) (final A fresh cs .N) (λ u n. lastPart u n (trace A fresh cs)) (λ u. startOf u (trace A fresh cs))
+fresh-agrees A cs =
+    agrees-same _ _ _ _ _ _ (λ u n. or-none (lastPart u n (trace A fresh cs))) (λ u. or-none (startOf u (trace A fresh cs)))
+    (run-agrees A fresh cs (λ u n. none) (λ u. none) (fresh-valid A)
+    (record { parts = λ u x e n. cc; start = λ u x e. cc; later = λ u n l. refl }))
+
+-- the listed parts, made of what the last PARTs carried
+contents-new : (ds : List Bytes) → contents (map newPart ds) ≡ concat ds
+contents-new [] = refl
+contents-new (d ∷ ds) = rw (contents-new ds)
+
+digests-new : (ds : List Bytes) → digests (map newPart ds) ≡ concat (map md5 ds)
+digests-new [] = refl
+digests-new (d ∷ ds) = rw (digests-new ds)
+
+length-new : (ds : List Bytes) → length (map newPart ds) ≡ length ds
+length-new [] = refl
+length-new (d ∷ ds) = rw (length-new ds)
+
+joined-new : (x : Upload) (ds : List Bytes) → joinedObject x (map newPart ds) ≡ joinedFrom (x .started) ds
+joined-new x ds = rw (contents-new ds, digests-new ds, length-new ds)
+
+-- what `fit` finds in parts that agree with the trace
+record Sent (u : ℕ) (t : Trace) (m : Map ℕ Part) (ns : List ℕ) : Type 0 where
+  parts : List Bytes
+  told : lastParts u t ns ≡ some parts
+  made : listedParts m ns ≡ map newPart parts
+
+sent : (u : ℕ) (t : Trace) (m : Map ℕ Part) → ((n : ℕ) → lookup byNumber n m ≡ mapped newPart (lastPart u n t)) → (ns : List ℕ) → allFound m ns ≡ true → Sent u t m ns
+sent u t m h [] a = record { parts = []; told = refl; made = refl }
+sent u t m h (n ∷ ns) a = let b = both (isThere (lookup byNumber n m)) (allFound m ns) a in go (lastPart u n t) refl (rw (h n) at (b .0)) (sent u t m h ns (b .1))
+  where
+    go : (o : Option Bytes) → lastPart u n t ≡ o → isThere (mapped newPart (lastPart u n t)) ≡ true → Sent u t m ns → Sent u t m (n ∷ ns)
+    go none q i r = absurd (false≢true (rw q at i))
+    go (some d) q i r = record { parts = d ∷ r .parts; told = rw (q, r .told); made = rw (h n, q, r .made) }
+
+-- GET of what is there
+got : (A : ℕ) (s : State) (p : Bytes) (x : Object) (b : Bytes) → storedPathOk p ≡ true → lookup byBytes p (s .O) ≡ some x → length (x .content) ≤ length b →
+    reply A s (GET p b) ≡ record { result = 0; answer = about x; buffer = x .content ++ drop (length (x .content)) b }
+unfolding act objectAt _else_then_ given
+got A s [] x b h e l = absurd (stored-not-root h)
+got A s (c ∷ p) x b h e l = rw (stored-requested (c ∷ p) h, e, le-leb (length (x .content)) (length b) l)
+
+commit-leaves : (A : ℕ) (s : State) (u : ℕ) (ns : List ℕ) (t : Trace) → Valid A s → Agrees (s .U) (s .N) (λ u n. lastPart u n t) (λ u. startOf u t) →
+    Then (λ r out s′. Leaves A t u ns s′) (act A s (COMMIT u ns))
+unfolding act
+commit-leaves A s u ns t v a =
+    then-given _ _ _ _ λ x e.
+    then-given _ _ _ _ λ xs f.
+    then-else _ _ _ _ λ _.
+    then-accept (λ r out s′. Leaves A t u ns s′) _ _ _ (go x e xs f)
+  where
+    go : (x : Upload) → lookup byNumber u (s .U) ≡ some x → (xs : List Part) → fit ns (x .parts) ≡ some xs → Leaves A t u ns (withoutUpload (withObject s (x .path) (joinedObject x xs)) u)
+    go x e xs f =
+        let o = every-lookup numbers (UploadOk (s .N)) u x (s .U) (v .upload) e in
+        let l = fit-listed ns (x .parts) xs (o .sorted) f in
+        let w = sent u t (x .parts) (a .parts u x e) ns (l .0) in
+        let q : joinedObject x xs ≡ joinedFrom (x .started) (w .parts) = ap (joinedObject x) (l .1 ∙ w .made) ∙ joined-new x (w .parts) in
+        let s′ : State = withoutUpload (withObject s (x .path) (joinedObject x xs)) u in
+        let h : lookup byBytes (x .path) (s′ .O) ≡ some (joinedFrom (x .started) (w .parts)) = lookup-insert bytes (x .path) (joinedObject x xs) (s .O) ∙ ap some q in
+        record {
+          stamp = x .started;
+          path = x .path;
+          parts = w .parts;
+          of-upload = a .start u x e;
+          sent = w .told;
+          there = h;
+          read = λ b g. got A s′ (x .path) (joinedFrom (x .started) (w .parts)) b (o .path) h g;
+        }
+
+-- an accepted reply comes of an accepted outcome
+then-accepted : (Q : State → Type 0) (s : State) (b : Bytes) (o : Outcome) → Then (λ r out s′. Q s′) o → accepted (replyOf b o) ≡ true → Q (after s o)
+unfolding Then
+then-accepted Q s b (refuse badRequest) h e = absurd (false≢true e)
+then-accepted Q s b (refuse notFound) h e = absurd (false≢true e)
+then-accepted Q s b (refuse tableFull) h e = absurd (false≢true e)
+then-accepted Q s b (refuse arenaFull) h e = absurd (false≢true e)
+then-accepted Q s b (refuse numbersUsedUp) h e = absurd (false≢true e)
+then-accepted Q s b (refuse bufferShort) h e = absurd (false≢true e)
+then-accepted Q s b (accept r out s′) h e = h
+
+-- a trace cut at a call: what stands before it is a trace, and its reply is that of the state there
+record Cut (A : ℕ) (s : State) (before : Trace) (c : Call) (r : Reply) : Type 0 where
+  first : trace A s (calls before) ≡ before
+  replied : reply A (final A s (calls before)) c ≡ r
+
+cut : (A : ℕ) (s : State) (cs : List Call) (before behind : Trace) (c : Call) (r : Reply) → trace A s cs ≡ before ++ (c, r) ∷ behind → Cut A s before c r
+cut A s [] [] behind c r e = absurd (let z : _≡_ {A = ℕ} 0 1 = cc in omega arith)
+cut A s (k ∷ cs) [] behind c r e =
+    let h : _≡_ {A = Call × Reply} (k, reply A s k) (c, r) = cc in
+    record { first = refl; replied = ap (reply A s) (sym (ap (λ (w : Call × Reply). w .0) h)) ∙ ap (λ (w : Call × Reply). w .1) h }
+cut A s [] (w ∷ before) behind c r e = absurd (let z : _≡_ {A = ℕ} 0 1 = cc in omega arith)
+cut A s (k ∷ cs) (w ∷ before) behind c r e =
+    let h : _≡_ {A = Call × Reply} (k, reply A s k) w = cc in
+    let i = cut A (next A s k) cs before behind c r (cc) in
+    subst (λ (w : Call × Reply). Cut A s (w ∷ before) c r) h (record { first = ap (λ (t : Trace). (k, reply A s k) ∷ t) (i .first); replied = i .replied })
+
+final-snoc : (A : ℕ) (s : State) (cs : List Call) (c : Call) → final A s (cs ++ c ∷ []) ≡ next A (final A s cs) c
+final-snoc A s [] c = refl
+final-snoc A s (k ∷ cs) c = final-snoc A (next A s k) cs c
+
+pub commits-join : (A : ℕ) (cs : List Call) → CommitsJoin A cs
+unfolding CommitsJoin
+commits-join A cs before behind u ns r e ok =
+    let k = cut A fresh cs before behind (COMMIT u ns) r e in
+    let s = final A fresh (calls before) in
+    let l = then-accepted (Leaves A (trace A fresh (calls before)) u ns) s [] (act A s (COMMIT u ns))
+    (commit-leaves A s u ns (trace A fresh (calls before)) (final-valid A fresh (calls before) (fresh-valid A)) (fresh-agrees A (calls before)))
+    (ap accepted (k .replied) ∙ ok) in
+    rw (final-snoc A fresh (calls before) (COMMIT u ns)) (subst (λ (t : Trace). Leaves A t u ns (next A s (COMMIT u ns))) (k .first) l)

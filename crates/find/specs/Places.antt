@@ -1,9 +1,9 @@
 -- Where the rows of a state stand. Assumes nothing.
-use Prim.Native.Nat.{ℕ, _+_}
+use Prim.Native.Nat.{ℕ, suc, _+_}
 use mathlib.Core.Bool.{Bool, true, false}
 use mathlib.Core.List.{List, [], _∷_, _++_}
 use mathlib.Core.Option.{Option, none, some}
-use lib.ListN.{length, take}
+use lib.ListN.{length, take, drop}
 use Rattle.order.specs.Order.{byBytes}
 use Rattle.machine.specs.Map.{Map, byNumber, lookup, place}
 use Rattle.machine.specs.Names.{Bytes}
@@ -40,6 +40,25 @@ beforePart s u x n = beforeParts s u x ++ partRows (take (place byNumber n (x .p
 
 unfoldable pub throughParts : State → ℕ → Upload → List Row
 throughParts s u x = beforeParts s u x ++ partRows (x .parts)
+
+-- the rows from the place of an object, of an upload, of a part on, and those behind the object, the upload with its parts, the part
+unfoldable pub fromObject : State → Bytes → List Row
+fromObject s p = objectRows (drop (place byBytes p (s .O)) (s .O)) ++ uploadRows (s .U)
+
+unfoldable pub afterObject : State → Bytes → List Row
+afterObject s p = objectRows (drop (suc (place byBytes p (s .O))) (s .O)) ++ uploadRows (s .U)
+
+unfoldable pub fromUpload : State → ℕ → List Row
+fromUpload s u = uploadRows (drop (place byNumber u (s .U)) (s .U))
+
+unfoldable pub afterUpload : State → ℕ → List Row
+afterUpload s u = uploadRows (drop (suc (place byNumber u (s .U))) (s .U))
+
+unfoldable pub fromPart : State → ℕ → Upload → ℕ → List Row
+fromPart s u x n = partRows (drop (place byNumber n (x .parts)) (x .parts)) ++ afterUpload s u
+
+unfoldable pub afterPart : State → ℕ → Upload → ℕ → List Row
+afterPart s u x n = partRows (drop (suc (place byNumber n (x .parts))) (x .parts)) ++ afterUpload s u
 
 -- the place of an object, of an upload, of a part
 unfoldable pub objectPlace : State → Bytes → Place

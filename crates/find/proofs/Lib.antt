@@ -1,0 +1,2 @@
+pub mod RowsAt
+pub mod Splits

@@ -1,0 +1,1 @@
+// Changes of memory that stands for a state.

@@ -7,6 +7,7 @@ pub mod MapScan
 pub mod MapKeep
 pub mod MapEach
 pub mod Fit
+pub mod Records
 pub mod Rules
 pub mod Outcome
 pub mod Counts

@@ -8,5 +8,6 @@ pub mod Steps
 pub mod Lists
 pub mod Valid
 pub mod Marked
+pub mod Unmarked
 pub mod Demand3
 pub mod Fits

@@ -1,0 +1,3 @@
+-- `Decimals` has the laws of the decimal digits that are written, and `Hexes` those of the hexadecimal ones.
+pub mod Decimals
+pub mod Hexes

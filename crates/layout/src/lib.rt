@@ -1,4 +1,6 @@
 // What tables and arena stand for: the test "whole", and readers.
+pub mod headers;
+
 pub struct Mark {
     pub upload: u32,
     pub part: u32,

@@ -34,10 +34,15 @@ uploads-most N [] f v = omega arith
 uploads-most N (e ∷ us) f v =
     let q = stored-path-length (e .1 .path) (v .0 .path) .below in
     let ps = partRows (e .1 .parts) in
-    omega
-    (arith, length-append (encodeRow (uploadRow (e .0) (e .1))) (encodeRows (ps ++ uploadRows us)), length-row _ (f .0),
-    ap length (encode-append ps (uploadRows us)), length-append (encodeRows ps) (encodeRows (uploadRows us)),
-    parts-most (e .1 .parts) (encodable-left ps (uploadRows us) (f .1)), uploads-most N us (encodable-right ps (uploadRows us) (f .1)) (v .1))
+    omega (
+      arith,
+      length-append (encodeRow (uploadRow (e .0) (e .1))) (encodeRows (ps ++ uploadRows us)),
+      length-row _ (f .0),
+      ap length (encode-append ps (uploadRows us)),
+      length-append (encodeRows ps) (encodeRows (uploadRows us)),
+      parts-most (e .1 .parts) (encodable-left ps (uploadRows us) (f .1)),
+      uploads-most N us (encodable-right ps (uploadRows us) (f .1)) (v .1),
+    )
 
 pub tables-fit : (A : ℕ) (s : State) → A ≤ arenaMost → Valid A s → 18 + length (encodeRows (rowsOf s)) ≤ tablesLength
 unfolding rowsOf
@@ -46,7 +51,10 @@ tables-fit A s l v =
     let o = v .paths in
     let u = v .opens in
     let p = v .parts in
-    omega
-    (arith, ap length (encode-append (objectRows (s .O)) (uploadRows (s .U))), length-append (encodeRows (objectRows (s .O))) (encodeRows (uploadRows (s .U))),
-    objects-most (s .O) (encodable-left (objectRows (s .O)) (uploadRows (s .U)) f) (v .object),
-    uploads-most (s .N) (s .U) (encodable-right (objectRows (s .O)) (uploadRows (s .U)) f) (v .upload))
+    omega (
+      arith,
+      ap length (encode-append (objectRows (s .O)) (uploadRows (s .U))),
+      length-append (encodeRows (objectRows (s .O))) (encodeRows (uploadRows (s .U))),
+      objects-most (s .O) (encodable-left (objectRows (s .O)) (uploadRows (s .U)) f) (v .object),
+      uploads-most (s .N) (s .U) (encodable-right (objectRows (s .O)) (uploadRows (s .U)) f) (v .upload),
+    )

@@ -30,7 +30,7 @@ module _ (xs ys ys′ zs : List Row) where
       let live′ = header ++ encodeRows (xs ++ (ys′ ++ zs)) in
       let p : live ≡ (header ++ encodeRows xs) ++ (encodeRows ys ++ encodeRows zs) = ap (λ (r : List ℕ). header ++ r) (encode-append₃ xs ys zs) ∙ sym (append-assoc header (encodeRows xs) _) in
       let q : live′ ≡ (header ++ encodeRows xs) ++ (src ++ encodeRows zs) =
-          ap (λ (r : List ℕ). header ++ r) (encode-append₃ xs ys′ zs ∙ ap (λ (r : List ℕ). encodeRows xs ++ (r ++ encodeRows zs)) (sym is)) ∙ sym (append-assoc header (encodeRows xs) _) in
+      ap (λ (r : List ℕ). header ++ r) (encode-append₃ xs ys′ zs ∙ ap (λ (r : List ℕ). encodeRows xs ++ (r ++ encodeRows zs)) (sym is)) ∙ sym (append-assoc header (encodeRows xs) _) in
       let k : length (header ++ encodeRows xs) ≡ 18 + length (encodeRows xs) = omega (arith, length-append header (encodeRows xs)) in
       let u : length live ≡ 18 + length (encodeRows (xs ++ (ys ++ zs))) = omega (arith, length-append header (encodeRows (xs ++ (ys ++ zs)))) in
       let u′ : length live′ ≡ 18 + length (encodeRows (xs ++ (ys′ ++ zs))) = omega (arith, length-append header (encodeRows (xs ++ (ys′ ++ zs)))) in

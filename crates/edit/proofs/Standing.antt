@@ -23,7 +23,6 @@ append-nil {A} (x ∷ l) = ap (λ (m : List A). x ∷ m) (append-nil l)
 
 module _ (t a : List ℕ) (s : State) (h : Stands t a s) (s′ : State) (valid : Valid (length a) s′) (t₁ t′ a′ : List ℕ) (header : Header)
     (is : header ≡ headerOf (length a) s′) (e : t′ ≡ headed t₁ header) (keeps : length t′ ≡ length t) (keeps-arena : length a′ ≡ length a) where
-
   -- tables t₁ with the rows of s′ behind the old header, and an arena with their data
   standing : (free arena-free : List ℕ) → t₁ ≡ encodeHeader (length a) s ++ (encodeRows (rowsOf s′) ++ free) → a′ ≡ contentsOf (rowsOf s′) ++ arena-free → Stands t′ a′ s′
   standing free arena-free told told′ =
@@ -35,7 +34,8 @@ module _ (t a : List ℕ) (s : State) (h : Stands t a s) (s′ : State) (valid :
         tables-free = free;
         tables = u ∙ ap (λ (A : ℕ). encodeHeader A s′ ++ (encodeRows (rowsOf s′) ++ free)) (sym keeps-arena);
         arena-free = arena-free;
-        arena = told′ }
+        arena = told′;
+      }
 
   -- the rows ys cut out, with their data
   pub removed : (xs ys zs : List Row) (at n used base m end : ℕ) → rowsOf s ≡ xs ++ (ys ++ zs) → rowsOf s′ ≡ xs ++ zs
@@ -66,8 +66,8 @@ module _ (t a : List ℕ) (s : State) (h : Stands t a s) (s′ : State) (valid :
       let bytes : src ≡ encodeRows (r ∷ []) = row ∙ sym (append-nil (encodeRow r)) in
       let put₁ : t₁ ≡ spliced t (18 + length (encodeRows xs)) (length (encodeRows [])) (18 + length (encodeRows (xs ++ ([] ++ zs)))) src = put ∙ rw (at-is, used-is, split) in
       let tail : h .arena-free ≡ r .content ++ drop (length (r .content)) (h .arena-free) =
-          sym (take-append-drop (length (r .content)) (h .arena-free)) ∙ ap (λ (l : List ℕ). l ++ drop (length (r .content)) (h .arena-free))
-          (ap (take (length (r .content))) (sym (drop-at (contentsOf (rowsOf s)) (h .arena-free) (held s) (length-contents s)) ∙ ap (drop (held s)) (sym (h .arena))) ∙ content) in
+      sym (take-append-drop (length (r .content)) (h .arena-free)) ∙ ap (λ (l : List ℕ). l ++ drop (length (r .content)) (h .arena-free))
+      (ap (take (length (r .content))) (sym (drop-at (contentsOf (rowsOf s)) (h .arena-free) (held s) (length-contents s)) ∙ ap (drop (held s)) (sym (h .arena))) ∙ content) in
       let told′ : a ≡ contentsOf (xs ++ zs) ++ (r .content ++ drop (length (r .content)) (h .arena-free)) = h .arena ∙ ap₂ (λ (rs : List Row) (l : List ℕ). contentsOf rs ++ l) split tail in
       let turned₁ : a′ ≡ rotated a (length (contentsOf xs)) (length (contentsOf zs)) (length (r .content)) = turned ∙ rw (base-is, left-is) in
       standing _ _

@@ -23,6 +23,11 @@ bytes-take (suc k) (x ∷ xs) h (suc i) = bytes-take k xs (λ j. h (suc j)) i
 pub bytes-drop : (k : ℕ) (xs : List ℕ) → Bytes xs → Bytes (drop k xs)
 bytes-drop k xs h i = rw (getD-drop k xs i 0) (h (k + i))
 
+pub bytes-append : (xs ys : List ℕ) → Bytes xs → Bytes ys → Bytes (xs ++ ys)
+bytes-append [] ys h k i = k i
+bytes-append (x ∷ xs) ys h k zero = h 0
+bytes-append (x ∷ xs) ys h k (suc i) = bytes-append xs ys (λ j. h (suc j)) k i
+
 pub bytes-le : (width n : ℕ) → Bytes (le width n)
 unfolding le
 bytes-le zero n i = lit< tt

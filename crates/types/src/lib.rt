@@ -1,0 +1,58 @@
+// The types in which the store takes its arguments and answers.
+use md5::words::Digest;
+
+// Seconds since the start of 1970.
+pub struct Stamp(pub u64);
+
+pub struct UploadNumber(pub u32);
+
+pub struct PartNumber(pub u16);
+
+// Absent, the digest of the data, or the digest of the parts' digests with the number of parts.
+pub enum Etag {
+    Absent,
+    Plain(Digest),
+    Joined(Digest, u16),
+}
+
+pub struct Metadata {
+    pub length: u32,
+    pub created: Stamp,
+    pub etag: Etag,
+}
+
+// What LIST and UPLOADS wrote.
+pub struct Counts {
+    pub records: u32,
+    pub bytes: u32,
+}
+
+// PUT, DELETE, COPY, COMMIT and ABORT. A refusal has its number, 1 to 7, here and below.
+pub enum DoneAnswer {
+    Refused(u8),
+    Done,
+}
+
+// GET and HEAD.
+pub enum GetAnswer {
+    Refused(u8),
+    Found(Metadata),
+}
+
+// PART, with the part's etag.
+pub enum PartAnswer {
+    Refused(u8),
+    Stored(Etag),
+}
+
+// INITIATE.
+pub enum InitiateAnswer {
+    Refused(u8),
+    Opened(UploadNumber),
+}
+
+// LIST and UPLOADS.
+pub enum ListAnswer {
+    Refused(u8),
+    Written(Counts),
+}

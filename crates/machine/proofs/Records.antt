@@ -1,6 +1,6 @@
 -- The lengths of LIST's and UPLOADS' records, and document 01's LIST after M5.
 -- Assumes nothing.
-use Prim.Native.Nat.{ℕ, _+_, _*_, _≤_, _<_}
+use Prim.Native.Nat.{ℕ, _+_, _≤_, _<_}
 use mathlib.Core.Path.{_≡_, refl, ap, _∙_}
 use mathlib.Core.List.{List, [], _∷_, _++_}
 use native.Mathlib.Omega.{arith}
@@ -10,6 +10,7 @@ use Rattle.number.specs.Number.{le}
 use Rattle.number.specs.NumberLaws.{length-le}
 use Rattle.order.specs.Order.{begins, ends}
 use Rattle.text.specs.Text.{hex}
+use Rattle.text.specs.TextLaws.{length-hex}
 use Rattle.machine.specs.Names.{Bytes, pathOk, requestPathOk, newPathOk, stampOk}
 use Rattle.machine.specs.Digest.{md5, length-md5}
 use Rattle.machine.specs.Etags.{plain, text}
@@ -18,11 +19,6 @@ use Rattle.machine.specs.Calls.{LIST, Answer, counts, Reply, nothing, _e
 use Rattle.machine.specs.Steps.{plainObject, putAt, objectAt, listed, listRecord, uploadRecord, write, act, replyOf, reply}
 use Rattle.machine.specs.Lists.{final}
 use Rattle.machine.specs.Marked.{a, xyz, m5}
-
-pub length-hex : (d : Bytes) → length (hex d) ≡ 2 * length d
-unfolding hex
-length-hex [] = refl
-length-hex (b ∷ d) = omega (arith, length-hex d)
 
 pub length-listRecord : (p : Bytes) (x : Object) → length (listRecord p x) ≡ 14 + length p + length (text (x .etag))
 unfolding listRecord

@@ -1,3 +1,4 @@
 pub mod Rows
 pub mod Fit
 pub mod Standing
+pub mod Changes

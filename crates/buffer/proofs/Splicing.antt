@@ -1,6 +1,6 @@
 -- A splice is a move and a copy. Assumes nothing.
 use mathlib.Core.Path.{_≡_, ap, _∙_}
-use mathlib.Core.List.{List, _++_, append-assoc}
+use mathlib.Core.List.{List, [], _++_, append-assoc}
 use Prim.Native.Nat.{ℕ, _+_, _-_, _≤_}
 use native.Mathlib.Omega.{arith}
 use lib.ListN.{length, take, drop}
@@ -25,3 +25,12 @@ move-copy b b₁ b₂ src at n used an ub room one two =
     ∙ ap (λ (l : List ℕ). l ++ src ++ drop (at + m) b₁) front
     ∙ ap (λ (l : List ℕ). take at b ++ src ++ l) back
     ∙ append-assoc (take at b) src (mid ++ tail)
+
+-- with no src, the move is all
+pub move-only : (b b′ : List ℕ) (at n used : ℕ) → at + n ≤ used
+    → b′ ≡ paste b at (drop (at + n) b) (used - (at + n)) → b′ ≡ spliced b at n used []
+move-only b b′ at n used an one =
+    let q : at + (used - (at + n)) ≡ used - n + 0 = omega arith in
+    one
+    ∙ ap (λ (k : ℕ). take at b ++ take (used - (at + n)) (drop (at + n) b) ++ drop k b) q
+    ∙ append-assoc (take at b) (take (used - (at + n)) (drop (at + n) b)) (drop (used - n + 0) b)

@@ -3,7 +3,7 @@ mod blocks;
 
 ghost use mathlib.Core.Path.{_≡_};
 ghost use Prim.Native.Nat.{_+_, _-_, _≤_, _<_};
-ghost use mathlib.Core.List.{_++_};
+ghost use mathlib.Core.List.{[], _++_};
 ghost use lib.ListN.{length, take, drop, replicate};
 ghost use Rattle.buffer.specs.Buffer.{spliced, rotated};
 
@@ -76,6 +76,14 @@ pub fn splice(b: &mut [u8], at: usize, n: usize, used: usize, src: &[u8])
     let m = src.len();
     copy_within(b, at + n, at + m, used - (at + n));
     copy_at(b, at, src);
+}
+
+// The n bytes at `at` are removed: a splice of no bytes.
+pub fn remove(b: &mut [u8], at: usize, n: usize, used: usize)
+    requires { ⌜ (at + n ≤ used) × (used ≤ length (now b)) ⌝ }
+    ensures { λ _. ⌜ now (b .exit) ≡ spliced (now (b .entry)) at n used [] ⌝ }
+{
+    copy_within(b, at + n, at, used - (at + n));
 }
 
 // The left bytes from `at` on and the right bytes after them, exchanged in place. Each turn brings the bytes of one swap to

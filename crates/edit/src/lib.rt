@@ -1,1 +1,2 @@
 // Changes of memory that stands for a state.
+pub mod header;

@@ -95,3 +95,11 @@ module _ (b x old y : List ℕ) (at n : ℕ) (told : b ≡ x ++ (old ++ y)) (pla
 -- a field that holds a number, read
 pub number-read : (b x y : List ℕ) (at k v r : ℕ) → b ≡ x ++ (le k v ++ y) → length x ≡ at → v < 256 ^ k → r ≡ fromLe (part b at k) → r ≡ v
 number-read b x y at k v r told place small e = e ∙ ap fromLe (field-read b x (le k v) y at k told place (length-le k v)) ∙ fromLe-le k v small
+
+-- fields written one behind the other from the front: y behind x
+pub front-next : (b b₁ b₂ x y : List ℕ) (at n : ℕ) → b₁ ≡ x ++ drop at b → length x ≡ at → b₂ ≡ over b₁ at y n → b₂ ≡ (x ++ y) ++ drop (at + n) b
+front-next b b₁ b₂ x y at n told place e =
+    let front : take at b₁ ≡ x = ap (take at) told ∙ take-at x (drop at b) at place in
+    let q : at + n ≡ length x + n = omega arith in
+    let back : drop (at + n) b₁ ≡ drop (at + n) b = ap (drop (at + n)) told ∙ ap (λ (k : ℕ). drop k (x ++ drop at b)) q ∙ drop-append-add x (drop at b) n ∙ drop-drop n at b in
+    e ∙ ap (λ (l : List ℕ). l ++ y ++ drop (at + n) b₁) front ∙ ap (λ (l : List ℕ). (x ++ y) ++ l) back

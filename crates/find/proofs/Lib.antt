@@ -1,2 +1,4 @@
 pub mod RowsAt
 pub mod Splits
+pub mod Counts
+pub mod Objects

@@ -112,3 +112,31 @@ module _ (t a : List ℕ) (s : State) (h : Stands t a s) (xs : List Row) (r : Ro
         arena-inside = let k = next-cut .arena-inside in omega (arith, next-content);
         arena-next = next-content;
       }
+
+-- what the code knows at the row r behind the rows xs, by the head that it read there
+pub record Read (t a : List ℕ) (xs : List Row) (r : Row) (at base : ℕ) (head : Head) : Type 0 where
+  pub same : head ≡ headOf r
+  pub path : take (head .pathlen) (drop (at + 36) t) ≡ r .path
+  pub inside : at + 36 + head .pathlen ≤ length t
+  pub next : at + 36 + head .pathlen ≡ 18 + length (encodeRows (xs ++ (r ∷ [])))
+  pub arena-inside : base + head .size ≤ length a
+  pub arena-next : base + head .size ≡ length (contentsOf (xs ++ (r ∷ [])))
+
+pub row-read : (t a : List ℕ) (s : State) (h : Stands t a s) (xs : List Row) (r : Row) (ys : List Row) (at base : ℕ) (head : Head) → At t a s h xs r ys
+    → at ≡ 18 + length (encodeRows xs) → base ≡ length (contentsOf xs) → head ≡ headAt (drop at t) → Read t a xs r at base head
+row-read t a s h xs r ys at base head k e f q =
+    let same : head ≡ headOf r = q ∙ ap (λ (n : ℕ). headAt (drop n t)) e ∙ k .head in
+    let n : head .pathlen ≡ length (r .path) = ap (λ (x : Head). x .pathlen) same in
+    let m : head .size ≡ length (r .content) = ap (λ (x : Head). x .size) same in
+    let inside = k .inside in
+    let next = k .next in
+    let arena-inside = k .arena-inside in
+    let arena-next = k .arena-next in
+    record {
+      same = same;
+      path = rw (n, e) (k .path);
+      inside = omega arith;
+      next = omega arith;
+      arena-inside = omega arith;
+      arena-next = omega arith;
+    }

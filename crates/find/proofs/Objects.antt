@@ -1,0 +1,123 @@
+-- The search for a path, row by row. Assumes nothing.
+use Prim.Native.Nat.{ℕ, suc, _+_, _≤_, _<_, Ordering, Ordering·lt, Ordering·eq, Ordering·gt}
+use mathlib.Core.Path.{_≡_, refl, sym, ap, _∙_}
+use mathlib.Core.Bool.{Bool, true, false}
+use mathlib.Core.List.{List, [], _∷_, _++_, append-assoc}
+use mathlib.Core.Option.{none, some}
+use native.Mathlib.Numerals.{add-one}
+use native.Mathlib.Omega.{arith}
+use lib.ListN.{length, getD, take, drop, drop-of-length-le}
+use lib.Seq.{drop-cons, take-suc, split-at}
+use Rattle.order.specs.Order.{by, byBytes}
+use Rattle.machine.specs.Map.{Map, lookup, place}
+use Rattle.machine.specs.Names.{Bytes}
+use Rattle.machine.specs.Etags.{absent}
+use Rattle.machine.specs.State.{Object, State}
+use Rattle.row.specs.declared.Head.{Head}
+use Rattle.row.specs.Row.{Row, encodeRows, contentsOf, headAt}
+use Rattle.layout.specs.Memory.{objectRow, objectRows, uploadRows, rowsOf, Stands}
+use Rattle.find.specs.declared.Place.{Place}
+use Rattle.find.specs.Places.{beforeObject, objectPlace, isSome}
+use Rattle.find.proofs.RowsAt.{At, Read, row-at, row-read}
+use Rattle.find.proofs.Splits.{object-rows-append}
+
+-- the paths of the first i objects are below p, and the next row begins at `at`
+pub record Passed (s : State) (p : Bytes) (i at base : ℕ) : Type 0 where
+  pub within : i ≤ length (s .O)
+  pub rows : at ≡ 18 + length (encodeRows (objectRows (take i (s .O))))
+  pub contents : base ≡ length (contentsOf (objectRows (take i (s .O))))
+  pub places : place byBytes p (s .O) ≡ i + place byBytes p (drop i (s .O))
+  pub found : lookup byBytes p (s .O) ≡ lookup byBytes p (drop i (s .O))
+
+abbrev pub placed : Bool → ℕ → ℕ → Place
+placed found at base = record { found = found; at = at; base = base }
+
+pub passed-none : (s : State) (p : Bytes) → Passed s p 0 18 0
+unfolding encodeRows contentsOf objectRows
+passed-none s p = record { within = omega arith; rows = refl; contents = refl; places = omega arith; found = refl }
+
+-- the place is here: no further path is below p
+here : (s : State) (p : Bytes) (i at base : ℕ) (b : Bool) → Passed s p i at base → place byBytes p (drop i (s .O)) ≡ 0 → isSome (lookup byBytes p (drop i (s .O))) ≡ b
+    → placed b at base ≡ objectPlace s p
+unfolding objectPlace beforeObject
+here s p i at base b k e f =
+    let n : place byBytes p (s .O) ≡ i = let q = k .places in omega arith in
+    rw (k .found, f, n) (λ j. placed b (k .rows j) (k .contents j))
+
+pub passed-all : (s : State) (p : Bytes) (i at base : ℕ) → Passed s p i at base → length (s .O) ≤ i → placed false at base ≡ objectPlace s p
+passed-all s p i at base k l =
+    let e : drop i (s .O) ≡ [] = drop-of-length-le (s .O) l in
+    here s p i at base false k (rw e) (rw e)
+
+-- what the code knows at the row of object i, by the head that it read there and the comparison of the paths
+pub record Turn (t a : List ℕ) (s : State) (p : Bytes) (i at base : ℕ) (head : Head) : Type 0 where
+  pub inside : at + 36 + head .pathlen ≤ length t
+  pub arena-inside : base + head .size ≤ length a
+  pub less : byBytes p (take (head .pathlen) (drop (at + 36) t)) ≡ Ordering·lt → placed false at base ≡ objectPlace s p
+  pub equal : byBytes p (take (head .pathlen) (drop (at + 36) t)) ≡ Ordering·eq → placed true at base ≡ objectPlace s p
+  pub greater : byBytes p (take (head .pathlen) (drop (at + 36) t)) ≡ Ordering·gt → Passed s p (i + 1) (at + 36 + head .pathlen) (base + head .size)
+
+abbrev blank : Bytes × Object
+blank = ([], record { content = []; created = 0; etag = absent })
+
+module _ (t a : List ℕ) (s : State) (h : Stands t a s) (p : Bytes) (i at base : ℕ) (k : Passed s p i at base) (l : i < length (s .O)) where
+  abbrev entry : Bytes × Object
+  entry = getD (s .O) i blank
+
+  abbrev row : Row
+  row = objectRow (entry .0) (entry .1)
+
+  unfoldable front : List Row
+  front = objectRows (take i (s .O))
+
+  unfoldable rest : List Row
+  rest = objectRows (drop (suc i) (s .O)) ++ uploadRows (s .U)
+
+  split : rowsOf s ≡ front ++ (row ∷ rest)
+  unfolding rowsOf objectRows front rest
+  split =
+      ap (λ (m : Map Bytes Object). objectRows m ++ uploadRows (s .U)) (split-at (s .O) i blank l)
+      ∙ ap (λ (rs : List Row). rs ++ uploadRows (s .U)) (object-rows-append (take i (s .O)) (entry ∷ drop (suc i) (s .O)))
+      ∙ append-assoc (objectRows (take i (s .O))) (row ∷ objectRows (drop (suc i) (s .O))) (uploadRows (s .U))
+
+  next-front : objectRows (take (i + 1) (s .O)) ≡ front ++ (row ∷ [])
+  unfolding objectRows front
+  next-front = ap (λ (n : ℕ). objectRows (take n (s .O))) (add-one i) ∙ ap objectRows (take-suc (s .O) i blank l) ∙ object-rows-append (take i (s .O)) (entry ∷ [])
+
+  here-at : At t a s h front row rest
+  here-at = row-at t a s h front row rest split
+
+  pub object-inside : at + 36 ≤ length t
+  unfolding front
+  object-inside = let q = k .rows in let z = here-at .inside in omega arith
+
+  module _ (head : Head) (q : head ≡ headAt (drop at t)) where
+    here-read : Read t a front row at base head
+    unfolding front
+    here-read = row-read t a s h front row rest at base head here-at (k .rows) (k .contents) q
+
+    answer : (o : Ordering) → byBytes p (take (head .pathlen) (drop (at + 36) t)) ≡ o
+        → (lookup byBytes p (drop i (s .O)) ≡ by o none (some (entry .1)) (lookup byBytes p (drop (suc i) (s .O))))
+        × (place byBytes p (drop i (s .O)) ≡ by o 0 0 (suc (place byBytes p (drop (suc i) (s .O)))))
+    answer o e =
+        let f : byBytes p (entry .0) ≡ o = ap (byBytes p) (sym (here-read .path)) ∙ e in
+        (rw (drop-cons (s .O) i blank l, f), rw (drop-cons (s .O) i blank l, f))
+
+    pub object-turn : Turn t a s p i at base head
+    unfolding front
+    object-turn =
+        let r = here-read in
+        record {
+          inside = r .inside;
+          arena-inside = r .arena-inside;
+          less = λ e. here s p i at base false k (answer _ e .1) (ap isSome (answer _ e .0));
+          equal = λ e. here s p i at base true k (answer _ e .1) (ap isSome (answer _ e .0));
+          greater = λ e.
+              record {
+                within = omega arith;
+                rows = r .next ∙ ap (λ (rs : List Row). 18 + length (encodeRows rs)) (sym next-front);
+                contents = r .arena-next ∙ ap (λ (rs : List Row). length (contentsOf rs)) (sym next-front);
+                places = rw add-one (let m = k .places in omega (arith, answer _ e .1));
+                found = rw add-one (k .found ∙ answer _ e .0);
+              };
+        }

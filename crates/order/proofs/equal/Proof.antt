@@ -6,7 +6,7 @@ use Rattle.order.proofs.equal.Statement.{statement}
 use Rattle.order.proofs.equal.Tie as tie
 
 returns : tie.Need-returns
-returns c = other-length (c .before .before .before .args .a .now) (c .before .before .before .args .b .now) (c .if1 .taken)
+returns c = other-length (c .before .before .before .args .a .now) (c .before .before .before .args .b .now) (omega arith)
 
 common-requires : tie.Need-common-requires
 common-requires c κs = search needs

@@ -2,32 +2,32 @@
 -- What the open uploads hold agrees, after each step, with what the calls and replies so far tell.
 -- Assumes nothing.
 use Prim.Native.Nat.{ℕ, _+_, _≤_, _<_}
-use mathlib.Core.Path.{_≡_, refl, sym, ap, ap₂, _∙_, subst}
-use mathlib.Core.Bool.{Bool, true, false, _&&_, cond, false≢true}
+use mathlib.Core.Path.{_≡_, refl, sym, ap, _∙_, subst}
+use mathlib.Core.Bool.{true, false, _&&_, cond, false≢true}
 use mathlib.Core.List.{List, [], _∷_, _++_, map}
 use mathlib.Core.Option.{Option, none, some}
 use native.Mathlib.Omega.{arith}
 use native.Mathlib.Decide.{ℕ-discrete}
-use borrow.Author.Tests.{le-leb, eq-eqb, ne-eqb, eqb-true}
-use lib.Dec.{leb, eqb}
+use borrow.Author.Tests.{le-leb, eq-eqb, ne-eqb}
+use lib.Dec.{eqb}
 use lib.ListN.{length, drop}
 use Rattle.order.specs.Order.{byBytes}
 use Rattle.order.specs.OrderLaws.{numbers, bytes}
-use Rattle.machine.specs.Map.{Map, byNumber, lookup, insert, remove, mapped, also, Ascending}
-use Rattle.machine.specs.Names.{Bytes, requestPathOk, storedPathOk}
+use Rattle.machine.specs.Map.{Map, byNumber, lookup, insert, remove, mapped, Ascending}
+use Rattle.machine.specs.Names.{Bytes, storedPathOk}
 use Rattle.machine.specs.Digest.{md5}
-use Rattle.machine.specs.Etags.{joined}
 use Rattle.machine.specs.State.{Object, Part, Upload, State, fresh, withObject, withoutUpload, withPart}
-use Rattle.machine.specs.Calls.{Call, PUT, GET, HEAD, DELETE, COPY, LIST, INITIATE, PART, COMMIT, ABORT, UPLOADS, Answer, Reply, Refusal, badRequest, notFound, tableFull, arenaFull, numbersUsedUp, bufferShort, Outcome, refuse, accept, _else_then_, given, lent}
+use Rattle.machine.specs.Calls.{Call, PUT, GET, HEAD, DELETE, COPY, LIST, INITIATE, PART, COMMIT, ABORT, UPLOADS, Answer, badRequest, notFound, tableFull, arenaFull, numbersUsedUp, bufferShort, Outcome, refuse, accept, given, lent, _else_then_}
 use Rattle.machine.specs.Steps.{newUpload, newPart, joinedObject, about, contents, digests, fit, putAt, objectAt, act, replyOf, after, reply, next}
 use Rattle.machine.specs.Lists.{Trace, trace, final}
-use Rattle.machine.specs.Valid.{ObjectOk, UploadOk, Valid}
+use Rattle.machine.specs.Valid.{UploadOk, Valid}
 use Rattle.machine.specs.Fits.{isThere, allFound, listedParts}
 use Rattle.machine.specs.Demand3.{Kind, kind, accepted, _or_, carries, carried, lastPart, lastParts, opens, opened, startOf, concat, joinedFrom, Leaves, calls, CommitsJoin}
 use Rattle.machine.proofs.Options.{both}
 use Rattle.machine.proofs.MapLaws.{every-lookup, lookup-insert, lookup-insert-other}
 use Rattle.machine.proofs.Fit.{lookup-kept, fit-listed}
 use Rattle.machine.proofs.Rules.{stored-requested, stored-not-root}
+use Rattle.machine.proofs.Traces.{cut, final-snoc}
 use Rattle.machine.proofs.Outcome.{Then, then-accept, then-else, then-given}
 use Rattle.machine.proofs.KeepsValid.{next-valid, fresh-valid, final-valid}
 
@@ -252,26 +252,6 @@ then-accepted Q s b (refuse arenaFull) h e = absurd (false≢true e)
 then-accepted Q s b (refuse numbersUsedUp) h e = absurd (false≢true e)
 then-accepted Q s b (refuse bufferShort) h e = absurd (false≢true e)
 then-accepted Q s b (accept r out s′) h e = h
-
--- a trace cut at a call: what stands before it is a trace, and its reply is that of the state there
-record Cut (A : ℕ) (s : State) (before : Trace) (c : Call) (r : Reply) : Type 0 where
-  first : trace A s (calls before) ≡ before
-  replied : reply A (final A s (calls before)) c ≡ r
-
-cut : (A : ℕ) (s : State) (cs : List Call) (before behind : Trace) (c : Call) (r : Reply) → trace A s cs ≡ before ++ (c, r) ∷ behind → Cut A s before c r
-cut A s [] [] behind c r e = absurd (let z : _≡_ {A = ℕ} 0 1 = cc in omega arith)
-cut A s (k ∷ cs) [] behind c r e =
-    let h : _≡_ {A = Call × Reply} (k, reply A s k) (c, r) = cc in
-    record { first = refl; replied = ap (reply A s) (sym (ap (λ (w : Call × Reply). w .0) h)) ∙ ap (λ (w : Call × Reply). w .1) h }
-cut A s [] (w ∷ before) behind c r e = absurd (let z : _≡_ {A = ℕ} 0 1 = cc in omega arith)
-cut A s (k ∷ cs) (w ∷ before) behind c r e =
-    let h : _≡_ {A = Call × Reply} (k, reply A s k) w = cc in
-    let i = cut A (next A s k) cs before behind c r (cc) in
-    subst (λ (w : Call × Reply). Cut A s (w ∷ before) c r) h (record { first = ap (λ (t : Trace). (k, reply A s k) ∷ t) (i .first); replied = i .replied })
-
-final-snoc : (A : ℕ) (s : State) (cs : List Call) (c : Call) → final A s (cs ++ c ∷ []) ≡ next A (final A s cs) c
-final-snoc A s [] c = refl
-final-snoc A s (k ∷ cs) c = final-snoc A (next A s k) cs c
 
 pub commits-join : (A : ℕ) (cs : List Call) → CommitsJoin A cs
 unfolding CommitsJoin

@@ -1,20 +1,19 @@
 -- What a proof about code meets: each ceiling by the one count that a call can pass, and what a call does to the bytes held.
 -- Assumes nothing.
 use Prim.Native.Nat.{ℕ, _+_, _≤_}
-use mathlib.Core.Path.{_≡_, refl, sym, ap, _∙_}
-use mathlib.Core.Bool.{Bool, true, false, _&&_}
-use mathlib.Core.List.{List, [], _∷_}
-use mathlib.Core.Option.{Option, none, some}
+use mathlib.Core.Path.{_≡_, _∙_}
+use mathlib.Core.List.{List}
+use mathlib.Core.Option.{some}
 use native.Mathlib.Omega.{arith}
 use borrow.Author.Tests.{le-leb}
 use lib.Dec.{leb}
 use lib.ListN.{length}
 use Rattle.order.specs.Order.{byBytes}
 use Rattle.order.specs.OrderLaws.{numbers, bytes}
-use Rattle.machine.specs.Map.{Map, byNumber, lookup, insert, remove, total, owed}
+use Rattle.machine.specs.Map.{byNumber, lookup, insert, remove, total, owed}
 use Rattle.machine.specs.Names.{Bytes}
-use Rattle.machine.specs.State.{Object, Part, Upload, State, withO, withU, withObject, withoutObject, withUpload, withoutUpload, withNext, withPart, objectLength, partLength, uploadLength, partsIn, held, counted}
-use Rattle.machine.specs.Steps.{fit, contents, newUpload, joinedObject}
+use Rattle.machine.specs.State.{Object, Part, Upload, State, withObject, withoutObject, withUpload, withoutUpload, withNext, withPart, objectLength, partLength, uploadLength, partsIn, held, counted}
+use Rattle.machine.specs.Steps.{fit, newUpload, joinedObject}
 use Rattle.machine.specs.Valid.{Valid}
 use Rattle.machine.proofs.Options.{and-true}
 use Rattle.machine.proofs.MapSums.{total-insert, total-remove, length-insert, length-remove}

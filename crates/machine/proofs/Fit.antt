@@ -2,21 +2,21 @@
 -- first number's part removed.
 -- Assumes nothing.
 use Prim.Native.Nat.{ℕ, _+_}
-use mathlib.Core.Path.{_≡_, refl, sym, ap, ap₂, _∙_}
+use mathlib.Core.Path.{_≡_, refl, sym, ap, _∙_}
 use mathlib.Core.Bool.{Bool, true, false, _&&_, _||_, not, cond, false≢true}
-use mathlib.Core.List.{List, [], _∷_, _++_, map}
+use mathlib.Core.List.{List, [], _∷_, _++_}
 use mathlib.Core.Option.{Option, none, some}
 use native.Mathlib.Omega.{arith}
 use native.Mathlib.Decide.{ℕ-discrete}
 use borrow.Author.Tests.{eq-eqb, ne-eqb, eqb-true, eqb-false, not-true}
 use lib.Dec.{eqb}
-use lib.ListN.{length, length-append, length-map}
+use lib.ListN.{length, length-append}
 use Rattle.order.specs.OrderLaws.{numbers}
 use Rattle.machine.specs.Map.{Map, byNumber, lookup, remove, total, Ascending}
 use Rattle.machine.specs.State.{Part, partLength}
 use Rattle.machine.specs.Calls.{Refusal, Outcome, _else_then_, given}
-use Rattle.machine.specs.Steps.{fit, contents, digests}
-use Rattle.machine.specs.Fits.{member, distinct, isThere, allFound, fits, orEmpty, listedParts}
+use Rattle.machine.specs.Steps.{fit, contents}
+use Rattle.machine.specs.Fits.{member, distinct, isThere, allFound, fits, listedParts}
 use Rattle.machine.proofs.Options.{both, none-some, also-some, mapped-some}
 use Rattle.machine.proofs.MapLaws.{lookup-remove, lookup-remove-other, ascending-remove}
 use Rattle.machine.proofs.MapSums.{length-total, total-remove, length-remove}

@@ -1,26 +1,25 @@
 -- Every step keeps the rules and the ceilings, and FRESH starts with them. Counts and `held` are those that the step checked, or fall.
 -- Assumes nothing.
-use Prim.Native.Nat.{ℕ, _+_, _≤_, _<_}
-use mathlib.Core.Path.{_≡_, refl, sym, ap, _∙_}
-use mathlib.Core.Bool.{Bool, true, false, _&&_}
+use Prim.Native.Nat.{ℕ, _+_, _≤_}
+use mathlib.Core.Path.{_≡_}
+use mathlib.Core.Bool.{true}
 use mathlib.Core.List.{List, [], _∷_}
-use mathlib.Core.Option.{Option, none, some}
+use mathlib.Core.Option.{some}
 use native.Mathlib.Omega.{arith}
 use borrow.Author.Tests.{leb-true}
 use lib.ListN.{length}
-use Rattle.order.specs.Order.{byBytes}
 use Rattle.order.specs.OrderLaws.{numbers, bytes}
-use Rattle.machine.specs.Map.{Map, byNumber, lookup, insert, remove, total, Every}
+use Rattle.machine.specs.Map.{Map, byNumber, lookup, total, Every}
 use Rattle.machine.specs.Names.{Bytes, newPathOk, stampOk, requestPartOk, lastUploadNumber}
 use Rattle.machine.specs.Digest.{length-md5}
-use Rattle.machine.specs.State.{Object, Part, Upload, State, fresh, withObject, withoutObject, withUpload, withoutUpload, withNext, withPart, objectLength, partLength, uploadLength, partsIn, held, counted}
-use Rattle.machine.specs.Calls.{Call, PUT, GET, HEAD, DELETE, COPY, LIST, INITIATE, PART, COMMIT, ABORT, UPLOADS, Answer, Outcome, refuse, accept, _else_then_, given}
-use Rattle.machine.specs.Steps.{fit, contents, newUpload, newPart, joinedObject, putAt, objectAt, act, after, next}
+use Rattle.machine.specs.State.{Object, Part, Upload, State, fresh, withoutObject, withUpload, withoutUpload, withNext, withPart, uploadLength, partsIn, held, counted}
+use Rattle.machine.specs.Calls.{Call, PUT, GET, HEAD, DELETE, COPY, LIST, INITIATE, PART, COMMIT, ABORT, UPLOADS, Answer, Outcome, refuse, accept}
+use Rattle.machine.specs.Steps.{fit, newUpload, newPart, putAt, objectAt, act, after, next}
 use Rattle.machine.specs.Lists.{final}
 use Rattle.machine.specs.Valid.{ObjectOk, PartOk, UploadOk, Valid}
 use Rattle.machine.proofs.Options.{both}
 use Rattle.machine.proofs.MapLaws.{ascending-insert, ascending-remove, every-insert, every-remove, every-lookup}
-use Rattle.machine.proofs.MapSums.{total-insert, total-remove, length-insert, length-remove}
+use Rattle.machine.proofs.MapSums.{total-insert, total-remove, length-remove}
 use Rattle.machine.proofs.Fit.{fit-length}
 use Rattle.machine.proofs.Counts.{held-delete, held-abort, held-commit}
 use Rattle.machine.proofs.Rules.{new-stored, part-stored}

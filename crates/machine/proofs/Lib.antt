@@ -12,6 +12,8 @@ pub mod Rules
 pub mod Outcome
 pub mod Counts
 pub mod KeepsValid
+pub mod Traces
+pub mod Numbers
 pub mod Commits
 pub mod Unseen
 pub mod Demand3

@@ -1,6 +1,6 @@
 -- Finite maps: the entries that pass a test, and the bytes written for them.
 -- Assumes nothing.
-use Prim.Native.Nat.{ℕ, suc, _+_, _≤_, _<_, Ordering}
+use Prim.Native.Nat.{ℕ, suc, _≤_, _<_, Ordering}
 use mathlib.Core.Path.{_≡_, refl, sym, ap, _∙_}
 use mathlib.Core.List.{List, [], _∷_, _++_, append-assoc}
 use mathlib.Core.Bool.{Bool, true, false, cond}

@@ -1,10 +1,10 @@
 -- Finite maps: what lookup finds after insert and remove, and that both keep the keys ascending. Each law is by induction over the map and
 -- the three cases of a comparison.
 -- Assumes nothing.
-use Prim.Native.Nat.{ℕ, zero, suc, _+_, Ordering, Ordering·lt, Ordering·eq, Ordering·gt}
+use Prim.Native.Nat.{ℕ, Ordering, Ordering·lt, Ordering·eq}
 use mathlib.Core.Path.{_≡_, refl, sym, ap, _∙_, subst}
-use mathlib.Core.List.{List, [], _∷_, _++_}
-use mathlib.Core.Option.{Option, none, some}
+use mathlib.Core.List.{[], _∷_}
+use mathlib.Core.Option.{none, some}
 use native.Mathlib.Omega.{arith}
 use Rattle.order.specs.Order.{by}
 use Rattle.order.specs.OrderLaws.{cases, Lawful}

@@ -13,9 +13,9 @@ use Rattle.text.specs.Text.{hex}
 use Rattle.text.specs.TextLaws.{length-hex}
 use Rattle.machine.specs.Names.{Bytes, pathOk, requestPathOk, newPathOk, stampOk}
 use Rattle.machine.specs.Digest.{md5, length-md5}
-use Rattle.machine.specs.Etags.{plain, text}
+use Rattle.machine.specs.Etags.{text}
 use Rattle.machine.specs.State.{Object, Upload, State, fresh, held, counted}
-use Rattle.machine.specs.Calls.{LIST, Answer, counts, Reply, nothing, _else_then_, given}
+use Rattle.machine.specs.Calls.{LIST, Answer, counts, nothing, given, _else_then_}
 use Rattle.machine.specs.Steps.{plainObject, putAt, objectAt, listed, listRecord, uploadRecord, write, act, replyOf, reply}
 use Rattle.machine.specs.Lists.{final}
 use Rattle.machine.specs.Marked.{a, xyz, m5}

@@ -1,10 +1,10 @@
 -- The rules for requests and for the store, one beside the other: what may be made may be held, and what is held may be asked for.
 -- Assumes nothing.
 use Prim.Native.Nat.{ℕ}
-use mathlib.Core.Path.{_≡_, refl}
-use mathlib.Core.Bool.{true, false, _&&_, false≢true}
-use mathlib.Core.List.{[], _∷_}
-use Rattle.machine.specs.Names.{Bytes, pathOk, requestPathOk, newPathOk, storedPathOk, numberOk, requestPartOk, storedPartOk}
+use mathlib.Core.Path.{_≡_}
+use mathlib.Core.Bool.{true, false, false≢true}
+use mathlib.Core.List.{[]}
+use Rattle.machine.specs.Names.{Bytes, pathOk, requestPathOk, newPathOk, storedPathOk, requestPartOk, storedPartOk}
 
 pub new-stored : (p : Bytes) → newPathOk p ≡ true → storedPathOk p ≡ true
 unfolding newPathOk storedPathOk

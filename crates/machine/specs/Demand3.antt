@@ -10,7 +10,7 @@ use Rattle.order.specs.Order.{byBytes}
 use Rattle.machine.specs.Map.{lookup, also, mapped}
 use Rattle.machine.specs.Names.{Bytes}
 use Rattle.machine.specs.Digest.{md5}
-use Rattle.machine.specs.Etags.{Etag, joined}
+use Rattle.machine.specs.Etags.{joined}
 use Rattle.machine.specs.State.{Object, State, fresh}
 use Rattle.machine.specs.Calls.{Call, PUT, GET, HEAD, DELETE, COPY, LIST, INITIATE, PART, COMMIT, ABORT, UPLOADS, Answer, nothing, metadata, etag, number, counts, Reply}
 use Rattle.machine.specs.Steps.{about, reply}

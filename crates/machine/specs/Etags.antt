@@ -1,6 +1,6 @@
 -- Document 01, "Etags". Assumes nothing.
 use Prim.Native.Nat.{ℕ}
-use mathlib.Core.List.{List, [], _∷_, _++_}
+use mathlib.Core.List.{[], _∷_, _++_}
 use Rattle.text.specs.Text.{hex, decimal}
 use Rattle.machine.specs.Names.{Bytes}
 

@@ -5,8 +5,8 @@ use mathlib.Core.List.{List, [], _∷_, _++_, map}
 use Rattle.machine.specs.Names.{Bytes, pathOk, requestPathOk, newPathOk, stampOk, numberOk, requestPartOk}
 use Rattle.machine.specs.Digest.{md5}
 use Rattle.machine.specs.Etags.{absent, plain, joined}
-use Rattle.machine.specs.State.{State, fresh, held, counted}
-use Rattle.machine.specs.Calls.{Call, PUT, GET, HEAD, DELETE, COPY, INITIATE, PART, COMMIT, ABORT, Answer, nothing, metadata, etag, number, Reply, _else_then_, given}
+use Rattle.machine.specs.State.{fresh, held, counted}
+use Rattle.machine.specs.Calls.{Call, PUT, GET, HEAD, DELETE, COPY, INITIATE, PART, COMMIT, ABORT, Answer, nothing, metadata, etag, number, Reply, given, _else_then_}
 use Rattle.machine.specs.Steps.{putAt, objectAt, act}
 use Rattle.machine.specs.Lists.{trace}
 

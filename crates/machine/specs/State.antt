@@ -1,7 +1,7 @@
 -- Document 01, "The machine": its state, what is held, and the ceilings. Assumes nothing.
 use Prim.Native.Nat.{ℕ, _+_}
 use mathlib.Core.Bool.{Bool, _&&_}
-use mathlib.Core.List.{List, []}
+use mathlib.Core.List.{[]}
 use lib.Dec.{leb}
 use lib.ListN.{length}
 use Rattle.order.specs.Order.{byBytes}

@@ -10,11 +10,11 @@ use Rattle.text.specs.Text.{hex, hexDigit, digits, decimal}
 use Rattle.machine.specs.Names.{Bytes, pathOk, requestPathOk, newPathOk, stampOk, numberOk, requestPartOk}
 use Rattle.machine.specs.Digest.{md5}
 use Rattle.machine.specs.Etags.{absent, plain, joined, text}
-use Rattle.machine.specs.State.{Object, Upload, State, fresh, held, counted}
-use Rattle.machine.specs.Calls.{Call, PUT, GET, HEAD, DELETE, COPY, LIST, INITIATE, PART, COMMIT, ABORT, UPLOADS, nothing, metadata, etag, number, counts, Reply, Outcome, badRequest, refuse, accept, _else_then_, given}
-use Rattle.machine.specs.Steps.{newUpload, putAt, objectAt, listed, listRecord, openUnder, uploadRecord, FRESH, act, reply}
+use Rattle.machine.specs.State.{Object, State, fresh, held, counted}
+use Rattle.machine.specs.Calls.{Call, PUT, GET, HEAD, COPY, LIST, INITIATE, PART, COMMIT, ABORT, UPLOADS, nothing, metadata, etag, number, counts, Reply, badRequest, refuse, accept, given, _else_then_}
+use Rattle.machine.specs.Steps.{putAt, objectAt, listed, listRecord, openUnder, uploadRecord, FRESH, act, reply}
 use Rattle.machine.specs.Lists.{trace, final}
-use Rattle.machine.specs.Marked.{says, writes, refused, a, b, r, xyz, A, B, m7, m7-replies, replies}
+use Rattle.machine.specs.Marked.{says, writes, refused, a, r, xyz, A, B, m7, m7-replies, replies}
 
 -- the result numbers of calls from FRESH
 abbrev pub results : (arena : ℕ) → List Call → List ℕ

@@ -4,7 +4,7 @@ use mathlib.Core.Path.{_≡_}
 use mathlib.Core.Bool.{true}
 use lib.ListN.{length}
 use Rattle.order.specs.Order.{byBytes}
-use Rattle.machine.specs.Map.{Map, byNumber, Ascending, Every, total}
+use Rattle.machine.specs.Map.{byNumber, Ascending, Every, total}
 use Rattle.machine.specs.Names.{Bytes, storedPathOk, stampOk, storedPartOk}
 use Rattle.machine.specs.Etags.{Etag, absent, plain, joined}
 use Rattle.machine.specs.State.{Object, Part, Upload, State, held, partsIn}

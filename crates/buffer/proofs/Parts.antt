@@ -1,11 +1,10 @@
 -- Laws for callers: what a splice and a rotation leave of a buffer that is told in parts. Each takes what the callee ensures, and gives the parts
 -- after it. For `copy_at` and `fill` it is `field-written`, of crate number. Assumes nothing.
 use mathlib.Core.Path.{_≡_, sym, ap, ap₂, _∙_}
-use mathlib.Core.List.{List, [], _++_, append-assoc}
+use mathlib.Core.List.{List, _++_, append-assoc}
 use Prim.Native.Nat.{ℕ, _+_, _-_, _≤_}
 use native.Mathlib.Omega.{arith}
 use lib.ListN.{length, take, drop, length-append, length-drop}
-use lib.Seq.{take-at, drop-at}
 use Rattle.number.proofs.Fields.{field-take, field-drop, field-read}
 use Rattle.buffer.specs.Buffer.{spliced, rotated}
 

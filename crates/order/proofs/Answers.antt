@@ -2,7 +2,6 @@
 use Prim.Native.Nat.{Ordering, Ordering·lt, Ordering·eq, Ordering·gt}
 use mathlib.Core.Path.{_≡_, refl}
 use Rattle.order.specs.Compared.{orderOf}
-use Rattle.order.specs.declared.Order.{Order}
 use Rattle.order.specs.declared.Order.the-variants.{Less, Equal, Greater}
 
 pub answer-less : (o : Ordering) → orderOf o ≡ Less → o ≡ Ordering·lt

@@ -1,6 +1,6 @@
 -- Byte strings that agree on their first r bytes: how they compare is told by what follows. Assumes nothing.
-use mathlib.Core.Path.{_≡_, refl, sym, ap, ap₂, _∙_}
-use mathlib.Core.Bool.{Bool, true, false}
+use mathlib.Core.Path.{_≡_, sym, ap, ap₂, _∙_}
+use mathlib.Core.Bool.{true, false}
 use mathlib.Core.List.{List, [], _∷_, _++_}
 use Prim.Native.Nat.{ℕ, suc, _+_, _≤_, _<_}
 use native.Mathlib.Numerals.{add-one}
@@ -13,7 +13,6 @@ use Rattle.number.specs.NumberLaws.{Bytes, bytes-take, bytes-drop, fromLe-same}
 use Rattle.order.specs.Order.{byBytes, same}
 use Rattle.order.specs.OrderLaws.{compare-below, compare-above, bytes-skip, same-false}
 use Rattle.order.specs.Compared.{orderOf}
-use Rattle.order.specs.declared.Order.{Order}
 use Rattle.order.specs.declared.Order.the-variants.{Less, Equal, Greater}
 
 -- a byte more in common

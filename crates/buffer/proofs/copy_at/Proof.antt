@@ -1,7 +1,7 @@
 -- `buffer::copy_at` meets its contract. The invariant: `dst` is what it was with the first i bytes of `src` pasted in from `at`.
 -- Assumes nothing.
 use mathlib.Core.Path.{_≡_, refl}
-use Prim.Native.Nat.{ℕ, _+_, _-_, _≤_, _<_}
+use Prim.Native.Nat.{_-_, _≤_}
 use native.Mathlib.Omega.{arith}
 use lib.ListN.{length, length-set}
 use lib.Seq.{paste, paste-zero}

@@ -1,6 +1,6 @@
 -- `buffer::fill` meets its contract. The invariant: `b` is what it was with the first i of n bytes v pasted in at `at`. Assumes nothing.
 use mathlib.Core.Path.{_≡_, refl}
-use Prim.Native.Nat.{ℕ, _+_, _-_, _≤_}
+use Prim.Native.Nat.{_-_, _≤_}
 use native.Mathlib.Omega.{arith}
 use lib.ListN.{length, replicate, length-set}
 use lib.Seq.{paste, paste-zero}

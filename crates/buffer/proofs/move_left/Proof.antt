@@ -1,11 +1,10 @@
 -- `buffer::move_left` meets its contract. The invariant: `b` is what it was with the first i of the bytes pasted in at `to`. Assumes nothing.
 use mathlib.Core.Path.{_≡_, refl}
-use Prim.Native.Nat.{ℕ, _+_, _-_, _≤_, _<_}
+use Prim.Native.Nat.{_-_, _≤_}
 use lib.ListN.{length, drop, length-set}
 use lib.Seq.{paste, paste-zero}
 use Rattle.buffer.proofs.Moving.{left-step, left-all}
 use native.Mathlib.Omega.{arith}
-use borrow.Author.Needs.{needs}
 use Rattle.buffer.proofs.move_left.Statement.{statement}
 use Rattle.buffer.proofs.move_left.Tie as tie
 

@@ -1,10 +1,9 @@
 -- `buffer::move_right` meets its contract. The invariant: `b` is what it was with the bytes from the i-th on moved. Assumes nothing.
 use mathlib.Core.Path.{_≡_, refl}
-use Prim.Native.Nat.{ℕ, _+_, _-_, _≤_, _<_}
+use Prim.Native.Nat.{_-_, _≤_}
 use lib.ListN.{length, length-set}
 use Rattle.buffer.proofs.Moving.{shifted, right-start, right-step, right-all}
 use native.Mathlib.Omega.{arith}
-use borrow.Author.Needs.{needs}
 use Rattle.buffer.proofs.move_right.Statement.{statement}
 use Rattle.buffer.proofs.move_right.Tie as tie
 

@@ -1,6 +1,5 @@
 -- `buffer::splice` meets its contract: a move and a copy. Assumes nothing.
 use Rattle.buffer.proofs.Splicing.{move-copy}
-use native.Mathlib.Omega.{arith}
 use borrow.Author.Needs.{needs}
 use Rattle.buffer.proofs.splice.Statement.{statement}
 use Rattle.buffer.proofs.splice.Tie as tie

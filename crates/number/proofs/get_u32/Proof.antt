@@ -1,6 +1,5 @@
 -- `number::get_u32` meets its contract: a number is read by its halves. Assumes nothing.
 use Rattle.number.proofs.Halves.{get-halves}
-use native.Mathlib.Omega.{arith}
 use borrow.Author.Needs.{needs}
 use Rattle.number.proofs.get_u32.Statement.{statement}
 use Rattle.number.proofs.get_u32.Tie as tie

@@ -1,6 +1,5 @@
 -- `number::put_u32` meets its contract: a number is written by its halves. Assumes nothing.
 use Rattle.number.proofs.Halves.{put-halves}
-use native.Mathlib.Omega.{arith}
 use borrow.Author.Needs.{needs}
 use Rattle.number.proofs.put_u32.Statement.{statement}
 use Rattle.number.proofs.put_u32.Tie as tie

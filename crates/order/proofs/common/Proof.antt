@@ -1,8 +1,8 @@
 -- `order::common` meets its contract. The invariant: the first i bytes are the same. Assumes nothing.
-use mathlib.Core.Path.{_≡_, refl, sym, _∙_}
+use mathlib.Core.Path.{_≡_}
 use Rattle.order.proofs.Strings.{same-byte}
-use Prim.Native.Nat.{ℕ, _+_, _-_, _≤_, _<_}
-use lib.ListN.{length, take, drop}
+use Prim.Native.Nat.{_-_, _≤_}
+use lib.ListN.{length, take}
 use native.Mathlib.Omega.{arith}
 use borrow.Author.Needs.{needs}
 use Rattle.order.proofs.common.Statement.{statement}

@@ -1,6 +1,6 @@
 -- `text::put_digest` meets its contract: the four words fill sixteen bytes, which are written. Assumes nothing.
 use Prim.Native.Nat.{ℕ}
-use mathlib.Core.List.{List, _++_}
+use mathlib.Core.List.{_++_}
 use lib.ListN.{replicate, length-replicate}
 use Rattle.number.specs.Number.{le}
 use Rattle.number.specs.NumberLaws.{length-le}

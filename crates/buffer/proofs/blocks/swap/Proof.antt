@@ -1,10 +1,9 @@
 -- `buffer::blocks::swap` meets its contract. The invariant: `b` is what it was with the first k bytes of each block swapped. Assumes nothing.
 use mathlib.Core.Path.{_≡_, refl}
-use Prim.Native.Nat.{ℕ, _+_, _-_, _≤_, _<_}
+use Prim.Native.Nat.{_-_, _≤_}
 use lib.ListN.{length, length-set}
 use Rattle.buffer.proofs.Swapping.{swapped, swap-none, swap-step, swap-all}
 use native.Mathlib.Omega.{arith}
-use borrow.Author.Needs.{needs}
 use Rattle.buffer.proofs.blocks.swap.Statement.{statement}
 use Rattle.buffer.proofs.blocks.swap.Tie as tie
 

@@ -15,5 +15,6 @@ pub mod KeepsValid
 pub mod Traces
 pub mod Numbers
 pub mod Commits
+pub mod Alike
 pub mod Unseen
 pub mod Demand3

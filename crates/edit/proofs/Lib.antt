@@ -1,5 +1,6 @@
-pub mod Rows
+pub mod RowLists
 pub mod Fit
 pub mod Standing
 pub mod Changes
 pub mod Headers
+pub mod RowFields

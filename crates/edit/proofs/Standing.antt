@@ -15,7 +15,7 @@ use Rattle.layout.specs.Memory.{rowsOf, encodeHeader, Stands}
 use Rattle.layout.specs.RowCounts.{length-contents}
 use Rattle.layout.specs.StandsLaws.{length-header}
 use Rattle.edit.specs.Header.{headerOf, headed}
-use Rattle.edit.proofs.Rows.{rows-spliced, data-spliced, data-rotated, header-written}
+use Rattle.edit.proofs.RowLists.{rows-spliced, data-spliced, data-rotated, header-written}
 
 append-nil : {A : Type 0} (l : List A) → l ++ [] ≡ l
 append-nil [] = refl

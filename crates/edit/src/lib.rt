@@ -1,2 +1,3 @@
 // Changes of memory that stands for a state.
 pub mod header;
+pub mod rows;

@@ -1,0 +1,77 @@
+-- A row, written field by field. Assumes nothing.
+use Prim.Native.Nat.{ℕ, _+_, _*_, _<_, _/_, _%_}
+use mathlib.Core.Path.{_≡_, refl, sym, ap, ap₂, _∙_}
+use mathlib.Core.List.{List, [], _∷_, _++_, append-assoc}
+use native.Mathlib.Omega.{arith}
+use lib.ListN.{length, take, drop, length-append}
+use lib.Seq.{take-at}
+use Rattle.number.specs.Number.{le}
+use Rattle.number.specs.NumberLaws.{length-le}
+use Rattle.number.proofs.Fields.{over, front-next}
+use Rattle.row.specs.declared.Head.{Head}
+use Rattle.row.specs.Fields.{width, fields, Fit}
+use Rattle.row.specs.Row.{Row, widths, encodeRow, headOf}
+use Rattle.edit.specs.RowBytes.{rowBytes}
+
+-- two bytes as one number
+pair-bytes : (k p : ℕ) → k < 256 → p < 256 → le 2 (k + 256 * p) ≡ le 1 k ++ le 1 p
+unfolding le
+pair-bytes k p h g =
+    let low : (k + 256 * p) % 256 ≡ k = omega arith in
+    let same : k % 256 ≡ k = omega arith in
+    let high : (k + 256 * p) / 256 ≡ p = omega arith in
+    rw (low, high, same)
+
+append-nil : (l : List ℕ) → l ++ [] ≡ l
+append-nil [] = refl
+append-nil (x ∷ l) = ap (λ (m : List ℕ). x ∷ m) (append-nil l)
+
+pub number-fields : (b b₁ b₂ b₃ b₄ b₅ : List ℕ) (h : Head) (k p pair : ℕ) → k ≡ h .kind → k < 256 → p ≡ h .pathlen → p < 256 → pair ≡ k + 256 * p
+    → b₁ ≡ over b 0 (le 4 (h .size)) 4 → b₂ ≡ over b₁ 4 (le 4 (h .number)) 4 → b₃ ≡ over b₂ 8 (le 8 (h .stamp)) 8
+    → b₄ ≡ over b₃ 16 (le 2 pair) 2 → b₅ ≡ over b₄ 18 (le 2 (h .count)) 2 → b₅ ≡ rowBytes h [] [] ++ drop 20 b
+unfolding rowBytes fields
+number-fields b b₁ b₂ b₃ b₄ b₅ h k p pair ke kl pe pl e e₁ e₂ e₃ e₄ e₅ =
+    let v = le 4 (h .size) in
+    let w = le 4 (h .number) in
+    let x = le 8 (h .stamp) in
+    let y = le 1 (h .kind) ++ le 1 (h .pathlen) in
+    let z = le 2 (h .count) in
+    let y-is : le 2 pair ≡ y = ap (le 2) e ∙ pair-bytes k p kl pl ∙ ap₂ (λ (m n : ℕ). le 1 m ++ le 1 n) ke pe in
+    let ly : length y ≡ 2 = omega (arith, ap length y-is, length-le 2 pair) in
+    let l₁ : length v ≡ 4 = length-le 4 (h .size) in
+    let l₂ : length (v ++ w) ≡ 8 = omega (arith, length-append v w, length-le 4 (h .number)) in
+    let l₃ : length ((v ++ w) ++ x) ≡ 16 = omega (arith, length-append (v ++ w) x, length-le 8 (h .stamp)) in
+    let l₄ : length (((v ++ w) ++ x) ++ y) ≡ 18 = omega (arith, length-append ((v ++ w) ++ x) y) in
+    let q₁ = front-next b b b₁ [] v 0 4 refl refl e₁ in
+    let q₂ = front-next b b₁ b₂ v w 4 4 q₁ l₁ e₂ in
+    let q₃ = front-next b b₂ b₃ (v ++ w) x 8 8 q₂ l₂ e₃ in
+    let q₄ = front-next b b₃ b₄ ((v ++ w) ++ x) y 16 2 q₃ l₃ (e₄ ∙ ap (λ (n : List ℕ). over b₃ 16 n 2) y-is) in
+    front-next b b₄ b₅ (((v ++ w) ++ x) ++ y) z 18 2 q₄ l₄ e₅ ∙ simp (append-assoc, append-nil)
+
+length-numbers : (h : Head) → length (rowBytes h [] []) ≡ 20
+unfolding rowBytes fields
+length-numbers h =
+    simp (length-append, length-le)
+
+pub row-fields : (b b₁ b₂ b₃ digest path : List ℕ) (h : Head) → length digest ≡ 16 → b₁ ≡ rowBytes h [] [] ++ drop 20 b → b₂ ≡ over b₁ 20 digest 16
+    → b₃ ≡ over b₂ 36 path (length path) → b₃ ≡ rowBytes h digest path ++ drop (36 + length path) b
+unfolding rowBytes
+row-fields b b₁ b₂ b₃ digest path h l e₁ e₂ e₃ =
+    let x = rowBytes h [] [] in
+    let q₂ = front-next b b₁ b₂ x digest 20 16 e₁ (length-numbers h) e₂ in
+    let l₂ : length (x ++ digest) ≡ 36 = omega (arith, length-append x digest, length-numbers h) in
+    front-next b b₂ b₃ (x ++ digest) path 36 (length path) q₂ l₂ e₃ ∙ simp (append-assoc, append-nil)
+
+pub length-rowBytes : (h : Head) (digest path : List ℕ) → length digest ≡ 16 → length (rowBytes h digest path) ≡ 36 + length path
+unfolding rowBytes fields
+length-rowBytes h digest path l = simp (length-append, length-le, l) (omega arith)
+
+-- the first bytes of a buffer that a row was written to
+pub row-front : (b b₁ : List ℕ) (digest path : List ℕ) (h : Head) (n : ℕ) → length digest ≡ 16 → n ≡ 36 + length path → b₁ ≡ rowBytes h digest path ++ drop (36 + length path) b
+    → take n b₁ ≡ rowBytes h digest path
+row-front b b₁ digest path h n l e told = ap₂ take e told ∙ take-at (rowBytes h digest path) (drop (36 + length path) b) (36 + length path) (length-rowBytes h digest path l)
+
+-- the bytes of a row that has this head
+pub row-bytes : (r : Row) → rowBytes (headOf r) (r .digest) (r .path) ≡ encodeRow r
+unfolding rowBytes encodeRow
+row-bytes r = refl

@@ -1,0 +1,81 @@
+-- `edit::rows::insert_row` meets its contract: the row is written to a local array, whose front is spliced in. Assumes nothing.
+use Prim.Native.Nat.{ℕ, _+_, _≤_}
+use mathlib.Core.Path.{_≡_, refl, sym, ap, _∙_}
+use mathlib.Core.List.{List}
+use native.Mathlib.Omega.{arith}
+use lib.ListN.{length, take, drop}
+use Rattle.md5.specs.Md5.{bytesOf}
+use Rattle.md5.specs.Md5Laws.{length-bytesOf}
+use Rattle.buffer.specs.Buffer.{spliced}
+use Rattle.edit.specs.Header.{headed}
+use Rattle.edit.specs.RowBytes.{rowBytes}
+use Rattle.edit.proofs.RowFields.{row-front, length-rowBytes}
+use native.Mathlib.Omega.{arith}
+use borrow.Author.Needs.{needs}
+use Rattle.edit.proofs.rows.insert_row.Statement.{statement}
+use Rattle.edit.proofs.rows.insert_row.Tie as tie
+
+slice-aggregate-write-row : tie.Need-slice-aggregate-write-row
+slice-aggregate-write-row c = search needs
+
+write-row-requires : tie.Need-write-row-requires
+write-row-requires c κs = search needs
+
+add-n : tie.Need-add-n
+add-n c = search needs
+
+array-share-prefix-row : tie.Need-array-share-prefix-row
+array-share-prefix-row c = search needs
+
+-- the front of the local array
+front : (k : tie.After-write-row)
+    → let a = k .before .before .before .before .args in
+    take (36 + length (a .path .now)) (k .write-row .last .0) ≡ rowBytes (a .h) (bytesOf (a .digest)) (a .path .now)
+front k =
+    let a = k .before .before .before .before .args in
+    row-front _ (k .write-row .last .0) (bytesOf (a .digest)) (a .path .now) (a .h) (36 + length (a .path .now)) (length-bytesOf (a .digest)) refl (k .write-row .ensures)
+
+front-length : (k : tie.After-write-row)
+    → let a = k .before .before .before .before .args in
+    length (take (36 + length (a .path .now)) (k .write-row .last .0)) ≡ 36 + length (a .path .now)
+front-length k =
+    let a = k .before .before .before .before .args in
+    ap length (front k) ∙ length-rowBytes (a .h) (bytesOf (a .digest)) (a .path .now) (length-bytesOf (a .digest))
+
+slice-aggregate-splice : tie.Need-slice-aggregate-splice
+slice-aggregate-splice c = sym (front-length (c .before .before .before))
+
+splice-requires : tie.Need-splice-requires
+splice-requires c κs =
+    let k = c .before .before .before in
+    let p = k .before .before .before .before .pre in
+    (omega (arith, p .1), (omega (arith, p .3), omega (arith, front-length k, p .3)))
+
+write-header-requires : tie.Need-write-header-requires
+write-header-requires c κs = search needs
+
+same-length : tie.Need-same-length
+same-length c = search needs
+
+returns : tie.Need-returns
+returns c =
+    let header = c .before .before in
+    let splice = header .before .before .before .before in
+    let row = splice .before .before .before .before in
+    let a = row .before .before .before .before .args in
+    header .write-header .ensures
+    ∙ ap (λ (t : List ℕ). headed t (a .header)) (splice .splice .ensures ∙ ap (λ (r : List ℕ). spliced (a .tables .now) (a .at) 0 (a .used) r) (front row))
+
+pub insert-row-spec : {M : Type 1} → statement M
+insert-row-spec =
+    tie.close
+    (tie.spec
+    slice-aggregate-write-row
+    write-row-requires
+    add-n
+    array-share-prefix-row
+    slice-aggregate-splice
+    splice-requires
+    write-header-requires
+    same-length
+    returns)

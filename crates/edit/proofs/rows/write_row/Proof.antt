@@ -1,0 +1,32 @@
+-- `edit::rows::write_row` meets its contract: numbers, digest and path, one behind the other. Assumes nothing.
+use Rattle.edit.proofs.RowFields.{row-fields}
+use Rattle.md5.specs.Md5Laws.{length-bytesOf}
+use Rattle.md5.specs.Md5.{bytesOf}
+use borrow.Author.Needs.{needs}
+use Rattle.edit.proofs.rows.write_row.Statement.{statement}
+use Rattle.edit.proofs.rows.write_row.Tie as tie
+
+write-numbers-requires : tie.Need-write-numbers-requires
+write-numbers-requires c κs = search needs
+
+put-requires : tie.Need-put-requires
+put-requires c κs = search needs
+
+copy-at-requires : tie.Need-copy-at-requires
+copy-at-requires c κs = search needs
+
+same-length : tie.Need-same-length
+same-length c = search needs
+
+returns : tie.Need-returns
+returns c =
+    let three = c .before .before in
+    let two = three .before .before .before .before in
+    let one = two .before .before .before .before in
+    let a = one .before .before .before .before .args in
+    row-fields (a .out .now) (one .write-numbers .last .0) (two .put .last .0) (three .copy-at .last .0) (bytesOf (a .digest)) (a .path .now) (a .h) (length-bytesOf (a .digest))
+    (one .write-numbers .ensures) (two .put .ensures) (three .copy-at .ensures)
+
+pub write-row-spec : {M : Type 1} → statement M
+write-row-spec =
+    tie.close (tie.spec write-numbers-requires put-requires copy-at-requires same-length returns)

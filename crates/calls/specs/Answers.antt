@@ -1,0 +1,69 @@
+-- Document 01's number and values for each answer of the code. Assumes nothing.
+use Prim.Native.Nat.{ℕ, _+_, _*_}
+use mathlib.Core.List.{List, [], _∷_}
+use Rattle.md5.specs.Md5.{bytesOf}
+use Rattle.types.specs.declared.Etag.{Etag}
+use Rattle.types.specs.declared.Etag.the-variants.{Absent, Plain, Joined}
+use Rattle.types.specs.declared.Metadata.{Metadata}
+use Rattle.types.specs.declared.Counts.{Counts}
+use Rattle.types.specs.declared.UploadNumber.{UploadNumber}
+use Rattle.types.specs.declared.DoneAnswer.{DoneAnswer}
+use Rattle.types.specs.declared.DoneAnswer.the-variants as done
+use Rattle.types.specs.declared.GetAnswer.{GetAnswer}
+use Rattle.types.specs.declared.GetAnswer.the-variants as get
+use Rattle.types.specs.declared.PartAnswer.{PartAnswer}
+use Rattle.types.specs.declared.PartAnswer.the-variants as part
+use Rattle.types.specs.declared.InitiateAnswer.{InitiateAnswer}
+use Rattle.types.specs.declared.InitiateAnswer.the-variants as initiate
+use Rattle.types.specs.declared.ListAnswer.{ListAnswer}
+use Rattle.types.specs.declared.ListAnswer.the-variants as list
+use Rattle.machine.specs.Names.{Bytes}
+use Rattle.machine.specs.Etags as machine
+use Rattle.machine.specs.Calls.{Answer, nothing, metadata, etag, number, counts, Reply}
+
+-- an etag, with its digest as sixteen bytes
+abbrev pub etagOf : Etag → machine.Etag
+etagOf Absent = machine.absent
+etagOf (Plain d) = machine.plain (bytesOf d)
+etagOf (Joined d n) = machine.joined (bytesOf d) n
+
+abbrev pub metadataOf : Metadata → Answer
+metadataOf m = metadata (m .length) (m .created .0) (etagOf (m .etag))
+
+-- a refusal returns only its number, and the answer buffer as it was
+abbrev pub refused : ℕ → Bytes → Reply
+refused n b = record { result = n; answer = nothing; buffer = b }
+
+abbrev pub accepted : Answer → Bytes → Reply
+accepted a b = record { result = 0; answer = a; buffer = b }
+
+-- PUT, DELETE, COPY, COMMIT and ABORT
+abbrev pub doneReply : DoneAnswer → Reply
+doneReply (done.Refused n) = refused n []
+doneReply done.Done = accepted nothing []
+
+-- GET and HEAD; b is what the answer buffer holds
+abbrev pub getReply : GetAnswer → Bytes → Reply
+getReply (get.Refused n) b = refused n b
+getReply (get.Found m) b = accepted (metadataOf m) b
+
+-- PART
+abbrev pub partReply : PartAnswer → Reply
+partReply (part.Refused n) = refused n []
+partReply (part.Stored e) = accepted (etag (etagOf e)) []
+
+-- INITIATE
+abbrev pub initiateReply : InitiateAnswer → Reply
+initiateReply (initiate.Refused n) = refused n []
+initiateReply (initiate.Opened u) = accepted (number (u .0)) []
+
+-- LIST and UPLOADS
+abbrev pub listReply : ListAnswer → Bytes → Reply
+listReply (list.Refused n) b = refused n b
+listReply (list.Written c) b = accepted (counts (c .records) (c .bytes)) b
+
+-- "a part list goes as 16-bit numbers, low byte first, and an odd byte left over makes it unfit": 0 is no part's number
+unfoldable pub partList : Bytes → List ℕ
+partList [] = []
+partList (x ∷ []) = 0 ∷ []
+partList (x ∷ (y ∷ bs)) = (x + 256 * y) ∷ partList bs

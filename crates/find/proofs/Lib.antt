@@ -1,4 +1,6 @@
 pub mod RowsAt
 pub mod Splits
-pub mod Counts
 pub mod Objects
+pub mod Walk
+pub mod Searches
+pub mod Answers

@@ -12,6 +12,7 @@ use Rattle.row.specs.Row.{Row, encodeRows, contentsOf}
 use Rattle.layout.specs.Memory.{objectRows, uploadRow, partRows, uploadRows, rowsOf}
 use Rattle.find.specs.declared.Offset.{Offset}
 use Rattle.find.specs.declared.Place.{Place}
+use Rattle.find.specs.declared.Parts.{Parts}
 
 module _ {X : Type 0} where
   abbrev pub isSome : Option X → Bool
@@ -69,3 +70,7 @@ uploadPlace s u = placeBehind (isSome (lookup byNumber u (s .U))) (beforeUpload 
 
 unfoldable pub partPlace : State → ℕ → Upload → ℕ → Place
 partPlace s u x n = placeBehind (isSome (lookup byNumber n (x .parts))) (beforePart s u x n)
+
+-- how many parts an upload has, and what follows them
+unfoldable pub partsOf : State → ℕ → Upload → Parts
+partsOf s u x = record { count = length (x .parts); at = behind (throughParts s u x) .at; base = behind (throughParts s u x) .base }

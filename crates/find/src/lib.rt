@@ -1,10 +1,16 @@
 // Readers of whole memory: where an object, an upload or a part stands.
 use order::Order;
+use row::Head;
 ghost use mathlib.Core.Path.{_≡_};
 ghost use mathlib.Core.Bool.{true};
-ghost use lib.ListN.{length};
+ghost use Prim.Native.Nat.{_+_, _<_};
+ghost use lib.ListN.{length, drop};
+ghost use mathlib.Core.Option.{some};
+ghost use Rattle.machine.specs.Map.{byNumber, lookup};
+ghost use Rattle.machine.specs.State.{Upload};
 ghost use Rattle.layout.specs.Memory.{whole, stateOf, rowsOf};
-ghost use Rattle.find.specs.Places.{objectPlace};
+ghost use Rattle.find.specs.Places.{isSome, behind, beforeUpload, objectPlace, uploadPlace, partPlace, partsOf};
+ghost use Rattle.find.specs.Search.{stopsAt, sought, spotAt, Spotted, leads};
 
 // Where a row stands in the tables, and its data in the arena.
 pub struct Offset {
@@ -19,12 +25,20 @@ pub struct Place {
     pub base: usize,
 }
 
+// How many parts an upload has, and the offset behind them.
+pub struct Parts {
+    pub count: usize,
+    pub at: usize,
+    pub base: usize,
+}
+
 // How many objects there are.
 fn object_count(tables: &[u8], arena: &[u8]) -> usize
     requires { ⌜ whole (now tables) (now arena) ≡ true ⌝ }
     ensures { λ r. ⌜ r ≡ length (stateOf (now (tables .entry)) (now (arena .entry)) .O) ⌝ }
 {
-    number::get_u16(tables, 12) as usize
+    let h = layout::headers::read_header(tables);
+    h.objects as usize
 }
 
 // The place of the object at `path`.
@@ -66,5 +80,171 @@ pub fn find_object(tables: &[u8], arena: &[u8], path: &[u8]) -> Place
         found: false,
         at,
         base,
+    }
+}
+
+// A row, counted from 0, and its offset.
+struct Spot {
+    row: usize,
+    at: usize,
+    base: usize,
+}
+
+// Where a search along the rows stops: behind them all; at the upload with a number, or the first above it; at the next
+// upload; at the part with a number, the first above it, or the next upload.
+enum Goal {
+    End,
+    Upload(u32),
+    NextUpload,
+    Part(u16),
+}
+
+// How many rows there are.
+fn row_count(tables: &[u8], arena: &[u8]) -> usize
+    requires { ⌜ whole (now tables) (now arena) ≡ true ⌝ }
+    ensures { λ r. ⌜ r ≡ length (rowsOf (stateOf (now (tables .entry)) (now (arena .entry)))) ⌝ }
+{
+    let h = layout::headers::read_header(tables);
+    h.objects as usize + (h.uploads as usize + h.parts as usize)
+}
+
+// Whether a search stops at the row with this head.
+fn stops(h: Head, goal: Goal) -> bool
+    ensures { λ r. ⌜ r ≡ stopsAt goal h ⌝ }
+{
+    match goal {
+        Goal::End => false,
+        Goal::Upload(u) => h.kind == 2 && u <= h.number,
+        Goal::NextUpload => h.kind == 2,
+        Goal::Part(n) => h.kind == 2 || n as u32 <= h.number,
+    }
+}
+
+// The row behind a row.
+fn row_behind(tables: &[u8], arena: &[u8], from: Spot) -> Spot
+    requires { ⌜ (whole (now tables) (now arena) ≡ true) × ((from ≡ spotAt (rowsOf (stateOf (now tables) (now arena))) (from .row)) × (from .row < length (rowsOf (stateOf (now tables) (now arena))))) ⌝ }
+    ensures { λ r. ⌜ r ≡ spotAt (rowsOf (stateOf (now (tables .entry)) (now (arena .entry)))) (from .row + 1) ⌝ }
+{
+    let at = from.at;
+    let h = row::read_head(tables, at);
+    Spot {
+        row: from.row + 1,
+        at: at + 36 + h.pathlen as usize,
+        base: from.base + h.size as usize,
+    }
+}
+
+// From a row on, the first row at which the search stops, or the end of the rows.
+fn seek(tables: &[u8], arena: &[u8], from: Spot, goal: Goal) -> Spot
+    requires { ⌜ (whole (now tables) (now arena) ≡ true) × Spotted (rowsOf (stateOf (now tables) (now arena))) from ⌝ }
+    ensures { λ r. ⌜ r ≡ sought goal (rowsOf (stateOf (now (tables .entry)) (now (arena .entry)))) (from .row) ⌝ }
+{
+    let rows = row_count(tables, arena);
+    let mut row = from.row;
+    let mut at = from.at;
+    let mut base = from.base;
+    while row < rows {
+        let h = row::read_head(tables, at);
+        if stops(h, goal) {
+            return Spot { row, at, base };
+        }
+        at = at + 36 + h.pathlen as usize;
+        base += h.size as usize;
+        row += 1;
+    }
+    Spot { row, at, base }
+}
+
+// Whether a row of this kind with this number stands there.
+fn stands(tables: &[u8], arena: &[u8], here: Spot, kind: u8, number: u32) -> bool
+    requires { ⌜ (whole (now tables) (now arena) ≡ true) × Spotted (rowsOf (stateOf (now tables) (now arena))) here ⌝ }
+    ensures { λ r. ⌜ r ≡ leads kind number (drop (here .row) (rowsOf (stateOf (now (tables .entry)) (now (arena .entry))))) ⌝ }
+{
+    if row_count(tables, arena) <= here.row {
+        return false;
+    }
+    let h = row::read_head(tables, here.at);
+    h.kind == kind && h.number == number
+}
+
+// The row of the upload with this number, or where it would stand.
+fn upload_row(tables: &[u8], arena: &[u8], upload: u32) -> Spot
+    requires { ⌜ whole (now tables) (now arena) ≡ true ⌝ }
+    ensures { λ r. ⌜ r ≡ spotAt (rowsOf (stateOf (now (tables .entry)) (now (arena .entry)))) (length (beforeUpload (stateOf (now (tables .entry)) (now (arena .entry))) upload)) ⌝ }
+{
+    let first = Spot {
+        row: 0,
+        at: 18,
+        base: 0,
+    };
+    seek(tables, arena, first, Goal::Upload(upload))
+}
+
+// The row behind that of an open upload.
+fn parts_row(tables: &[u8], arena: &[u8], upload: u32) -> Spot
+    requires { ⌜ (whole (now tables) (now arena) ≡ true) × (isSome (lookup byNumber upload (stateOf (now tables) (now arena) .U)) ≡ true) ⌝ }
+    ensures { λ r. ⌜ r ≡ spotAt (rowsOf (stateOf (now (tables .entry)) (now (arena .entry)))) (length (beforeUpload (stateOf (now (tables .entry)) (now (arena .entry))) upload) + 1) ⌝ }
+{
+    let here = upload_row(tables, arena, upload);
+    row_behind(tables, arena, here)
+}
+
+// The end of the rows.
+pub fn rows_end(tables: &[u8], arena: &[u8]) -> Offset
+    requires { ⌜ whole (now tables) (now arena) ≡ true ⌝ }
+    ensures { λ r. ⌜ r ≡ behind (rowsOf (stateOf (now (tables .entry)) (now (arena .entry)))) ⌝ }
+{
+    let first = Spot {
+        row: 0,
+        at: 18,
+        base: 0,
+    };
+    let end = seek(tables, arena, first, Goal::End);
+    Offset {
+        at: end.at,
+        base: end.base,
+    }
+}
+
+// The place of the upload with this number.
+pub fn find_upload(tables: &[u8], arena: &[u8], upload: u32) -> Place
+    requires { ⌜ whole (now tables) (now arena) ≡ true ⌝ }
+    ensures { λ r. ⌜ r ≡ uploadPlace (stateOf (now (tables .entry)) (now (arena .entry))) upload ⌝ }
+{
+    let here = upload_row(tables, arena, upload);
+    let found = stands(tables, arena, here, 2, upload);
+    Place {
+        found,
+        at: here.at,
+        base: here.base,
+    }
+}
+
+// The place of a part of an open upload.
+pub fn find_part(tables: &[u8], arena: &[u8], upload: u32, number: u16) -> Place
+    requires { ⌜ (whole (now tables) (now arena) ≡ true) × (isSome (lookup byNumber upload (stateOf (now tables) (now arena) .U)) ≡ true) ⌝ }
+    ensures { λ r. ⌜ ((x : Upload) → lookup byNumber upload (stateOf (now (tables .entry)) (now (arena .entry)) .U) ≡ some x → r ≡ partPlace (stateOf (now (tables .entry)) (now (arena .entry))) upload x number) ⌝ }
+{
+    let first = parts_row(tables, arena, upload);
+    let here = seek(tables, arena, first, Goal::Part(number));
+    let found = stands(tables, arena, here, 3, number as u32);
+    Place {
+        found,
+        at: here.at,
+        base: here.base,
+    }
+}
+
+// How many parts an open upload has, and the offset behind them.
+pub fn parts_end(tables: &[u8], arena: &[u8], upload: u32) -> Parts
+    requires { ⌜ (whole (now tables) (now arena) ≡ true) × (isSome (lookup byNumber upload (stateOf (now tables) (now arena) .U)) ≡ true) ⌝ }
+    ensures { λ r. ⌜ ((x : Upload) → lookup byNumber upload (stateOf (now (tables .entry)) (now (arena .entry)) .U) ≡ some x → r ≡ partsOf (stateOf (now (tables .entry)) (now (arena .entry))) upload x) ⌝ }
+{
+    let first = parts_row(tables, arena, upload);
+    let end = seek(tables, arena, first, Goal::NextUpload);
+    Parts {
+        count: end.row - first.row,
+        at: end.at,
+        base: end.base,
     }
 }

@@ -1,35 +1,28 @@
--- `find::object_count` meets its contract. Assumes nothing.
-use mathlib.Core.Path.{_∙_}
+-- `find::object_count` meets its contract: the header of whole memory has the state's counts. Assumes nothing.
+use mathlib.Core.Path.{ap, _∙_}
 use native.Mathlib.Omega.{arith}
 use borrow.Author.Needs.{needs}
+use Rattle.layout.specs.declared.Header.{Header}
 use Rattle.layout.specs.Memory.{Stands, stateOf}
+use Rattle.layout.specs.StandsLaws.{header-back}
 use Rattle.layout.specs.WholeLaws.{whole-stands}
-use Rattle.find.proofs.Counts.{objects-read}
 use Rattle.find.proofs.object_count.Statement.{statement}
 use Rattle.find.proofs.object_count.Tie as tie
 use Rattle.find.proofs.object_count.Reads as reads
 use Rattle.find.proofs.object_count.Lts as lts
-use Rattle.number.proofs.get_u16.Reads as get-u16-reads
+use Rattle.layout.proofs.headers.read_header.Reads as read-header-reads
 
-get-u16-requires : tie.Need-get-u16-requires
-get-u16-requires c κs =
-    let k = c .before .before in
-    let t = k .args .tables .now in
-    let a = k .args .arena .now in
-    let h = whole-stands t a (λ j. c .before .shared-slice-known .given j .fits) (k .pre) in
-    let z = h .size in
-    omega arith
+stands : (c : tie.After-shared-slice-known) → let x = c .before .args in Stands (x .tables .now) (x .arena .now) (stateOf (x .tables .now) (x .arena .now))
+stands c = whole-stands _ _ (λ j. c .shared-slice-known .given j .fits) (c .before .pre)
+
+read-header-requires : tie.Need-read-header-requires
+read-header-requires c κs = let z = stands (c .before) .size in omega arith
 
 cast-result : tie.Need-cast-result
 cast-result c = search needs
 
 returns : tie.Need-returns
-returns c =
-    let k = c .before .before .before in
-    let t = k .args .tables .now in
-    let a = k .args .arena .now in
-    let h = whole-stands t a (λ j. c .before .before .shared-slice-known .given j .fits) (k .pre) in
-    c .get-u16 .ensures ∙ objects-read t a (stateOf t a) h
+returns c = ap (λ (h : Header). h .objects) (c .before .read-header .ensures ∙ header-back _ _ _ (stands (c .before .before .before)))
 
 pub object-count-spec : {M : Type 1} → statement M
-object-count-spec = tie.close (tie.spec get-u16-requires cast-result returns)
+object-count-spec = tie.close (tie.spec read-header-requires cast-result returns)

@@ -1,0 +1,104 @@
+-- What the searches along the rows find. Assumes nothing.
+use Prim.Native.Nat.{ℕ, zero, suc, _+_, _≤_, _<_, compare, Ordering, Ordering·lt, Ordering·eq, Ordering·gt}
+use mathlib.Core.Path.{_≡_, refl, sym, ap, _∙_}
+use mathlib.Core.Bool.{Bool, true, false, _&&_, cond}
+use mathlib.Core.List.{List, [], _∷_, _++_, append-assoc}
+use mathlib.Core.Option.{none, some}
+use native.Mathlib.Omega.{arith}
+use borrow.Author.Tests.{eq-eqb, ne-eqb}
+use lib.Dec.{eqb}
+use lib.ListN.{length, take, drop, length-append}
+use lib.Seq.{take-at, drop-at, take-length}
+use Rattle.order.specs.OrderLaws.{cases, alike, below, numbers}
+use Rattle.machine.specs.Map.{Map, byNumber, lookup, place}
+use Rattle.machine.specs.Names.{Bytes}
+use Rattle.machine.specs.Etags.{Etag, absent, plain, joined}
+use Rattle.machine.specs.State.{Object, Part, Upload, State}
+use Rattle.row.specs.Row.{Row, encodeRows, contentsOf}
+use Rattle.layout.specs.Memory.{objectRow, objectRows, uploadRow, partRow, partRows, uploadRows, rowsOf}
+use Rattle.find.specs.declared.Goal.the-variants as goal
+use Rattle.find.specs.Places.{isSome}
+use Rattle.find.specs.Search.{reach, stopsAt, stopsOf, leads}
+
+-- to the end of the rows
+pub reach-end : (rs : List Row) → reach (stopsOf goal.End) rs ≡ length rs
+unfolding reach stopsAt
+reach-end [] = refl
+reach-end (r ∷ rs) = ap suc (reach-end rs)
+
+-- to an upload
+object-passes : (u : ℕ) (p : Bytes) (x : Object) → stopsOf (goal.Upload u) (objectRow p x) ≡ false
+unfolding stopsAt
+object-passes u p x = go (x .etag)
+  where
+    go : (e : Etag) → stopsOf (goal.Upload u) (objectRow p (record { content = x .content; created = x .created; etag = e })) ≡ false
+    go absent = refl
+    go (plain d) = refl
+    go (joined d n) = refl
+
+reach-objects : (u : ℕ) (m : Map Bytes Object) (rs : List Row) → reach (stopsOf (goal.Upload u)) (objectRows m ++ rs) ≡ length (objectRows m) + reach (stopsOf (goal.Upload u)) rs
+unfolding reach objectRows
+reach-objects u [] rs = omega arith
+reach-objects u (e ∷ m) rs = rw (object-passes u (e .0) (e .1), reach-objects u m rs) (omega arith)
+
+reach-over-parts : (u : ℕ) (ps : Map ℕ Part) (rs : List Row) → reach (stopsOf (goal.Upload u)) (partRows ps ++ rs) ≡ length (partRows ps) + reach (stopsOf (goal.Upload u)) rs
+unfolding reach partRows stopsAt
+reach-over-parts u [] rs = omega arith
+reach-over-parts u (e ∷ ps) rs = rw (reach-over-parts u ps rs) (omega arith)
+
+reach-uploads : (u : ℕ) (m : Map ℕ Upload) → reach (stopsOf (goal.Upload u)) (uploadRows m) ≡ length (uploadRows (take (place byNumber u m) m))
+unfolding reach uploadRows stopsAt
+reach-uploads u [] = refl
+reach-uploads u (e ∷ m) =
+    cases (compare u (e .0))
+    (λ q. rw q)
+    (λ q. rw q)
+    (λ q. rw q (ap suc (reach-over-parts u (e .1 .parts) (uploadRows m) ∙ rw (length-append, reach-uploads u m))))
+
+pub reach-upload : (s : State) (u : ℕ) → reach (stopsOf (goal.Upload u)) (rowsOf s) ≡ length (objectRows (s .O) ++ uploadRows (take (place byNumber u (s .U)) (s .U)))
+unfolding rowsOf
+reach-upload s u = reach-objects u (s .O) (uploadRows (s .U)) ∙ rw (length-append, reach-uploads u (s .U))
+
+pub upload-leads : (u : ℕ) (m : Map ℕ Upload) → leads 2 u (uploadRows (drop (place byNumber u m) m)) ≡ isSome (lookup byNumber u m)
+unfolding leads uploadRows
+upload-leads u [] = refl
+upload-leads u (e ∷ m) =
+    cases (compare u (e .0))
+    (λ q. let l = below u (e .0) q in rw (q, ne-eqb (e .0) u (λ z. omega arith)))
+    (λ q. rw (q, eq-eqb (e .0) u (sym (alike u (e .0) q))))
+    (λ q. rw q (upload-leads u m))
+
+-- to a part, and behind the parts
+reach-no-part : (n : ℕ) (m : Map ℕ Upload) → reach (stopsOf (goal.Part n)) (uploadRows m) ≡ 0
+unfolding reach uploadRows stopsAt
+reach-no-part n [] = refl
+reach-no-part n (e ∷ m) = refl
+
+pub reach-part : (n : ℕ) (ps : Map ℕ Part) (m : Map ℕ Upload) → reach (stopsOf (goal.Part n)) (partRows ps ++ uploadRows m) ≡ length (partRows (take (place byNumber n ps) ps))
+unfolding reach partRows stopsAt
+reach-part n [] m = reach-no-part n m
+reach-part n (e ∷ ps) m = cases (compare n (e .0)) (λ q. rw q) (λ q. rw q) (λ q. rw q (ap suc (reach-part n ps m)))
+
+no-part-leads : (n : ℕ) (m : Map ℕ Upload) → leads 3 n (uploadRows m) ≡ false
+unfolding leads uploadRows
+no-part-leads n [] = refl
+no-part-leads n (e ∷ m) = refl
+
+pub part-leads : (n : ℕ) (ps : Map ℕ Part) (m : Map ℕ Upload) → leads 3 n (partRows (drop (place byNumber n ps) ps) ++ uploadRows m) ≡ isSome (lookup byNumber n ps)
+unfolding leads partRows
+part-leads n [] m = no-part-leads n m
+part-leads n (e ∷ ps) m =
+    cases (compare n (e .0))
+    (λ q. let l = below n (e .0) q in rw (q, ne-eqb (e .0) n (λ z. omega arith)))
+    (λ q. rw (q, eq-eqb (e .0) n (sym (alike n (e .0) q))))
+    (λ q. rw q (part-leads n ps m))
+
+reach-no-upload : (m : Map ℕ Upload) → reach (stopsOf goal.NextUpload) (uploadRows m) ≡ 0
+unfolding reach uploadRows stopsAt
+reach-no-upload [] = refl
+reach-no-upload (e ∷ m) = refl
+
+pub reach-next : (ps : Map ℕ Part) (m : Map ℕ Upload) → reach (stopsOf goal.NextUpload) (partRows ps ++ uploadRows m) ≡ length (partRows ps)
+unfolding reach partRows stopsAt
+reach-next [] m = reach-no-upload m
+reach-next (e ∷ ps) m = ap suc (reach-next ps m)

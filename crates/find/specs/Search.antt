@@ -1,0 +1,44 @@
+-- Searches along the rows. Assumes nothing.
+use Prim.Native.Nat.{ℕ, zero, suc, _+_, _≤_}
+use mathlib.Core.Path.{_≡_}
+use mathlib.Core.Bool.{Bool, true, false, _&&_, _||_, cond}
+use mathlib.Core.List.{List, [], _∷_}
+use lib.Dec.{leb, eqb}
+use lib.ListN.{length, take, drop}
+use Rattle.row.specs.declared.Head.{Head}
+use Rattle.row.specs.Row.{Row, encodeRows, contentsOf, headOf}
+use Rattle.layout.specs.Rules.{uploadKind}
+use Rattle.find.specs.declared.Spot.{Spot}
+use Rattle.find.specs.declared.Goal.{Goal}
+use Rattle.find.specs.declared.Goal.the-variants.{End, Upload, NextUpload, Part}
+
+-- how many rows stand before the first that passes a test
+unfoldable pub reach : (Row → Bool) → List Row → ℕ
+reach stop [] = 0
+reach stop (r ∷ rs) = cond (stop r) 0 (suc (reach stop rs))
+
+-- whether a search with a goal stops at a row
+unfoldable pub stopsAt : Goal → Head → Bool
+stopsAt End h = false
+stopsAt (Upload u) h = eqb (h .kind) uploadKind && leb u (h .number)
+stopsAt NextUpload h = eqb (h .kind) uploadKind
+stopsAt (Part n) h = eqb (h .kind) uploadKind || leb n (h .number)
+
+abbrev pub stopsOf : Goal → Row → Bool
+stopsOf g r = stopsAt g (headOf r)
+
+-- row i of rs, counted from 0
+unfoldable pub spotAt : List Row → ℕ → Spot
+spotAt rs i = record { row = i; at = 18 + length (encodeRows (take i rs)); base = length (contentsOf (take i rs)) }
+
+abbrev pub Spotted : List Row → Spot → Type 0
+Spotted rs p = (p ≡ spotAt rs (p .row)) × (p .row ≤ length rs)
+
+-- the first row, from row i on, at which the search stops, or the end of the rows
+unfoldable pub sought : Goal → List Row → ℕ → Spot
+sought g rs i = spotAt rs (i + reach (stopsOf g) (drop i rs))
+
+-- the first row is of this kind and has this number
+unfoldable pub leads : (kind number : ℕ) → List Row → Bool
+leads kind number [] = false
+leads kind number (r ∷ rs) = eqb (r .kind) kind && eqb (r .number) number

@@ -4,3 +4,4 @@ pub mod Standing
 pub mod Changes
 pub mod Headers
 pub mod RowFields
+pub mod OneRow

@@ -26,13 +26,14 @@ is-less Ordering·gt e = absurd (false≢true e)
 
 -- Sound ------------------------------------------------------------------------------------------------------------------
 
-record Etagged (kind count : ℕ) (digest : Bytes) : Type 0 where
-  same-kind : kindOf (etagOf kind digest count) ≡ kind
-  same-digest : digestOf (etagOf kind digest count) ≡ digest
-  same-count : countOf (etagOf kind digest count) ≡ count
-  ok : length digest ≡ 16 → EtagOk (etagOf kind digest count)
+-- the kind, digest and count of a row's etag are the row's
+pub record Etagged (kind count : ℕ) (digest : Bytes) : Type 0 where
+  pub same-kind : kindOf (etagOf kind digest count) ≡ kind
+  pub same-digest : digestOf (etagOf kind digest count) ≡ digest
+  pub same-count : countOf (etagOf kind digest count) ≡ count
+  pub ok : length digest ≡ 16 → EtagOk (etagOf kind digest count)
 
-etagged : (kind count : ℕ) (digest : Bytes) → kind ≤ 1 → count ≤ cond (eqb kind 0) 0 256 → Etagged kind count digest
+pub etagged : (kind count : ℕ) (digest : Bytes) → kind ≤ 1 → count ≤ cond (eqb kind 0) 0 256 → Etagged kind count digest
 etagged kind count digest k c = go (eqb kind 0) refl c
   where
     go : (b : Bool) → eqb kind 0 ≡ b → count ≤ cond b 0 256 → Etagged kind count digest

@@ -1,0 +1,113 @@
+-- One row taken out or put in: what the functions that do it require, and what memory then stands for. Assumes nothing.
+use Prim.Native.Nat.{ℕ, _+_, _-_, _≤_}
+use mathlib.Core.Path.{_≡_, refl, sym, ap, _∙_}
+use mathlib.Core.List.{List, [], _∷_, _++_}
+use native.Mathlib.Omega.{arith}
+use lib.ListN.{length, take, drop, length-append}
+use Rattle.machine.specs.State.{State, held}
+use Rattle.machine.specs.Valid.{Valid}
+use Rattle.buffer.specs.Buffer.{spliced, rotated}
+use Rattle.row.specs.declared.Head.{Head}
+use Rattle.row.specs.Row.{Row, encodeRow, encodeRows, contentsOf, headAt, headOf}
+use Rattle.row.specs.RowLaws.{Encodable, length-row, encode-append, contents-append}
+use Rattle.layout.specs.declared.Header.{Header}
+use Rattle.layout.specs.Memory.{rowsOf, Stands}
+use Rattle.layout.specs.RowCounts.{length-contents}
+use Rattle.find.proofs.RowsAt.{At, row-at, Cut, cut}
+use Rattle.edit.specs.Header.{headerOf, headed}
+use Rattle.edit.specs.RowBytes.{rowBytes}
+use Rattle.edit.proofs.Fit.{tables-fit}
+use Rattle.edit.proofs.RowFields.{row-bytes}
+use Rattle.edit.proofs.Standing.{removed, inserted}
+
+module _ (t a : List ℕ) (s : State) (h : Stands t a s) (xs : List Row) (r : Row) (ys : List Row) (at base used end : ℕ)
+    (at-is : at ≡ 18 + length (encodeRows xs)) (base-is : base ≡ length (contentsOf xs))
+    (used-is : used ≡ 18 + length (encodeRows (rowsOf s))) (end-is : end ≡ length (contentsOf (rowsOf s))) where
+
+  -- the row r taken out
+  module _ (split : rowsOf s ≡ xs ++ (r ∷ ys)) where
+    here : At t a s h xs r ys
+    here = row-at t a s h xs r ys split
+
+    pub head-inside : at + 36 ≤ length t
+    head-inside = omega (arith, here .inside)
+
+    used-inside : used ≤ length t
+    used-inside = let f = tables-fit (length a) s (h .small) (h .valid) in omega (arith, h .size)
+
+    end-inside : end ≤ length a
+    end-inside = let v = h .valid .room in omega (arith, length-contents s)
+
+    rows-length : length (encodeRows (rowsOf s)) ≡ length (encodeRows xs) + (36 + length (r .path) + length (encodeRows ys))
+    unfolding encodeRows
+    rows-length =
+        ap length (ap encodeRows split ∙ encode-append xs (r ∷ ys))
+        ∙ omega (arith, length-append (encodeRows xs) (encodeRow r ++ encodeRows ys), length-append (encodeRow r) (encodeRows ys), length-row r (here .encodable))
+
+    data-length : length (contentsOf (rowsOf s)) ≡ length (contentsOf xs) + (length (r .content) + length (contentsOf ys))
+    unfolding contentsOf
+    data-length =
+        ap length (ap contentsOf split ∙ contents-append xs (r ∷ ys))
+        ∙ omega (arith, length-append (contentsOf xs) (r .content ++ contentsOf ys), length-append (r .content) (contentsOf ys))
+
+    module _ (head : Head) (head-is : head ≡ headAt (drop at t)) where
+      head-of : head ≡ headOf r
+      head-of = head-is ∙ ap (λ (i : ℕ). headAt (drop i t)) at-is ∙ here .head
+
+      pathlen-is : head .pathlen ≡ length (r .path)
+      pathlen-is = ap (λ (x : Head). x .pathlen) head-of
+
+      size-is : head .size ≡ length (r .content)
+      size-is = ap (λ (x : Head). x .size) head-of
+
+      pub rows-inside : (18 ≤ at) × (at + (36 + head .pathlen) ≤ used) × (used ≤ length t)
+      rows-inside = (omega (arith, at-is), omega (arith, rows-length, pathlen-is), used-inside)
+
+      pub data-inside : (base + head .size ≤ end) × (end ≤ length a)
+      data-inside = (omega (arith, data-length, size-is), end-inside)
+
+      pub removed-stands : (s′ : State) → Valid (length a) s′ → rowsOf s′ ≡ xs ++ ys → (t′ a′ : List ℕ) (header : Header) → header ≡ headerOf (length a) s′
+          → t′ ≡ headed (spliced t at (36 + head .pathlen) used []) header → a′ ≡ spliced a base (head .size) end []
+          → length t′ ≡ length t → length a′ ≡ length a → Stands t′ a′ s′
+      unfolding encodeRows contentsOf
+      removed-stands s′ valid split′ t′ a′ header is e e′ l l′ =
+          let n-is : 36 + head .pathlen ≡ length (encodeRow r ++ []) = omega (arith, pathlen-is, length-row r (here .encodable), length-append (encodeRow r) []) in
+          let m-is : head .size ≡ length (r .content ++ []) = omega (arith, size-is, length-append (r .content) []) in
+          removed t a s h s′ valid (spliced t at (36 + head .pathlen) used []) t′ a′ header is e l l′ xs (r ∷ []) ys at (36 + head .pathlen) used base (head .size) end split split′
+          at-is n-is used-is refl base-is m-is end-is e′
+
+  -- the row r put in; its data stand behind the last byte held
+  module _ (split : rowsOf s ≡ xs ++ ys) (s′ : State) (valid : Valid (length a) s′) (split′ : rowsOf s′ ≡ xs ++ (r ∷ ys)) (path : length (r .path) ≤ 128)
+      (encodable : Encodable r) (content : take (length (r .content)) (drop (held s) a) ≡ r .content) (room : held s + length (r .content) ≤ length a) where
+    old-length : length (encodeRows (rowsOf s)) ≡ length (encodeRows xs) + length (encodeRows ys)
+    old-length = ap length (ap encodeRows split ∙ encode-append xs ys) ∙ length-append (encodeRows xs) (encodeRows ys)
+
+    old-data : length (contentsOf (rowsOf s)) ≡ length (contentsOf xs) + length (contentsOf ys)
+    old-data = ap length (ap contentsOf split ∙ contents-append xs ys) ∙ length-append (contentsOf xs) (contentsOf ys)
+
+    new-length : length (encodeRows (rowsOf s′)) ≡ length (encodeRows xs) + (36 + length (r .path) + length (encodeRows ys))
+    unfolding encodeRows
+    new-length =
+        ap length (ap encodeRows split′ ∙ encode-append xs (r ∷ ys))
+        ∙ omega (arith, length-append (encodeRows xs) (encodeRow r ++ encodeRows ys), length-append (encodeRow r) (encodeRows ys), length-row r encodable)
+
+    pub row-room : (18 ≤ at) × (at ≤ used) × (length (r .path) ≤ 128) × (used + (36 + length (r .path)) ≤ length t)
+    row-room =
+        let f = tables-fit (length a) s′ (h .small) valid in
+        (omega (arith, at-is), omega (arith, old-length), path, omega (arith, old-length, new-length, h .size))
+
+    pub base-inside : base ≤ end
+    base-inside = omega (arith, old-data)
+
+    pub data-room : base + (end - base) + length (r .content) ≤ length a
+    data-room = omega (arith, old-data, room, length-contents s)
+
+    pub inserted-stands : (t′ a′ path digest : List ℕ) (head : Head) (header : Header) (size : ℕ) → header ≡ headerOf (length a) s′
+        → head ≡ headOf r → digest ≡ r .digest → path ≡ r .path → size ≡ length (r .content)
+        → t′ ≡ headed (spliced t at 0 used (rowBytes head digest path)) header → a′ ≡ rotated a base (end - base) size
+        → length t′ ≡ length t → length a′ ≡ length a → Stands t′ a′ s′
+    inserted-stands t′ a′ p d head header size is head-is d-is p-is size-is e e′ l l′ =
+        let bytes : rowBytes head d p ≡ encodeRow r = rw (head-is, d-is, p-is) (row-bytes r) in
+        let left : end - base ≡ length (contentsOf ys) = omega (arith, old-data) in
+        inserted t a s h s′ valid (spliced t at 0 used (rowBytes head d p)) t′ a′ header is e l l′ xs r ys at used base (end - base) (rowBytes head d p) split split′
+        bytes at-is used-is refl base-is left (e′ ∙ ap (rotated a base (end - base)) size-is) content

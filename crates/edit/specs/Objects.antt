@@ -1,0 +1,29 @@
+-- An object whose data stand behind the last byte held. Assumes nothing.
+use Prim.Native.Nat.{ℕ, _+_, _≤_}
+use mathlib.Core.Path.{_≡_}
+use mathlib.Core.Bool.{true, cond}
+use mathlib.Core.List.{List}
+use mathlib.Core.Option.{none}
+use lib.Dec.{eqb}
+use lib.ListN.{length, take, drop}
+use Rattle.md5.specs.declared.words.Digest.{Digest}
+use Rattle.md5.specs.Md5.{bytesOf}
+use Rattle.order.specs.Order.{byBytes}
+use Rattle.machine.specs.Map.{lookup}
+use Rattle.machine.specs.Names.{Bytes}
+use Rattle.machine.specs.State.{Object, held, withObject}
+use Rattle.machine.specs.Valid.{Valid}
+use Rattle.layout.specs.Memory.{whole, stateOf, etagOf}
+
+unfoldable pub objectBehind : (t a : List ℕ) (stamp kind count : ℕ) (digest : Digest) (size : ℕ) → Object
+objectBehind t a stamp kind count digest size =
+    record { content = take size (drop (held (stateOf t a)) a); created = stamp; etag = etagOf kind (bytesOf digest) count }
+
+-- the path has no object, and the state with this one keeps the rules and ceilings
+pub record Addable (t a : List ℕ) (stamp kind count : ℕ) (digest : Digest) (path : Bytes) (size : ℕ) : Type 0 where
+  pub is-whole : whole t a ≡ true
+  pub absent : lookup byBytes path (stateOf t a .O) ≡ none
+  pub room : held (stateOf t a) + size ≤ length a
+  pub kind-most : kind ≤ 1
+  pub count-most : count ≤ cond (eqb kind 0) 0 256
+  pub valid : Valid (length a) (withObject (stateOf t a) path (objectBehind t a stamp kind count digest size))

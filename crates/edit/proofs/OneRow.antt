@@ -23,7 +23,6 @@ use Rattle.edit.proofs.Standing.{removed, inserted}
 module _ (t a : List ℕ) (s : State) (h : Stands t a s) (xs : List Row) (r : Row) (ys : List Row) (at base used end : ℕ)
     (at-is : at ≡ 18 + length (encodeRows xs)) (base-is : base ≡ length (contentsOf xs))
     (used-is : used ≡ 18 + length (encodeRows (rowsOf s))) (end-is : end ≡ length (contentsOf (rowsOf s))) where
-
   -- the row r taken out
   module _ (split : rowsOf s ≡ xs ++ (r ∷ ys)) where
     here : At t a s h xs r ys

@@ -1,0 +1,2 @@
+-- `Tests` has what the exported functions' tests show.
+pub mod Tests

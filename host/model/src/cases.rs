@@ -1,0 +1,454 @@
+//! Document 01's cases as a table: the marked orders of the day, the unmarked ones and the slips.
+//! Each starts from FRESH; what is expected is written out, not computed by a store.
+
+use crate::call::{Answer, Call, Reply};
+use crate::etag::Etag;
+use crate::md5::Digest;
+
+/// Calls in order, each with the reply that document 01 asks for.
+pub struct Case {
+    pub name: &'static str,
+    pub arena: usize,
+    pub steps: Vec<(Call, Reply)>,
+}
+
+impl Case {
+    /// Runs the case over a store that is fresh; says the first call with another reply.
+    pub fn check(&self, mut call: impl FnMut(&Call) -> Reply) -> Result<(), String> {
+        for (i, (made, expected)) in self.steps.iter().enumerate() {
+            let reply = call(made);
+            if reply != *expected {
+                let at = format!("{}, call {}: {made}", self.name, i + 1);
+                return Err(format!("{at}\n  expected {expected:?}\n  answered {reply:?}"));
+            }
+        }
+        Ok(())
+    }
+}
+
+/// What an untouched byte of an answer buffer holds.
+const UNTOUCHED: u8 = 0xee;
+
+// Digests by md5sum(1).
+const OF_NOTHING: &str = "d41d8cd98f00b204e9800998ecf8427e";
+const OF_A: &str = "7fc56270e7a70fa81a5935b72eacbe29";
+const OF_B: &str = "9d5ed678fe57bcca610140957afab571";
+const OF_XYZ: &str = "d16fb36f0911f878998c136191af705e";
+const OF_AB: &str = "b86fc6b051f63d73de262d4c34e3a0a9";
+const OF_BA: &str = "5fc810cf62601df84b7923b9964c53e6";
+const OF_THE_DIGESTS_OF_B_AND_A: &str = "e010117c9617553bf0b9556c0f5b541f";
+
+fn digest(text: &str) -> Digest {
+    std::array::from_fn(|i| u8::from_str_radix(&text[2 * i..2 * i + 2], 16).expect("hexadecimal"))
+}
+
+fn plain(text: &str) -> Etag {
+    Etag::Plain(digest(text))
+}
+
+fn joined(text: &str, count: u16) -> Etag {
+    Etag::Joined(digest(text), count)
+}
+
+fn put(stamp: u64, path: &str, data: &str) -> Call {
+    Call::Put { stamp, path: path.into(), data: data.into() }
+}
+
+fn get(path: &str) -> Call {
+    Call::Get { path: path.into(), buffer: vec![UNTOUCHED; 8] }
+}
+
+fn head(path: &str) -> Call {
+    Call::Head { path: path.into() }
+}
+
+fn delete(path: &str) -> Call {
+    Call::Delete { path: path.into() }
+}
+
+fn copy(stamp: u64, source: &str, destination: &str) -> Call {
+    Call::Copy { stamp, source: source.into(), destination: destination.into() }
+}
+
+fn list(prefix: &str, suffix: &str, room: usize) -> Call {
+    Call::List { prefix: prefix.into(), suffix: suffix.into(), buffer: vec![UNTOUCHED; room] }
+}
+
+fn initiate(stamp: u64, path: &str) -> Call {
+    Call::Initiate { stamp, path: path.into() }
+}
+
+fn part(upload: u32, part: u16, data: &str) -> Call {
+    Call::Part { upload, part, data: data.into() }
+}
+
+fn commit(upload: u32, parts: &[u16]) -> Call {
+    Call::Commit { upload, list: parts.iter().flat_map(|part| part.to_le_bytes()).collect() }
+}
+
+fn abort(upload: u32) -> Call {
+    Call::Abort { upload }
+}
+
+fn uploads(room: usize) -> Call {
+    Call::Uploads { prefix: Vec::new(), buffer: vec![UNTOUCHED; room] }
+}
+
+/// The call is accepted with this answer.
+fn answers(call: Call, answer: Answer) -> (Call, Reply) {
+    writes(call, answer, &[])
+}
+
+/// The call is accepted with this answer and these bytes at the front of its buffer.
+fn writes(call: Call, answer: Answer, bytes: &[u8]) -> (Call, Reply) {
+    let mut buffer = call.buffer().to_vec();
+    buffer[..bytes.len()].copy_from_slice(bytes);
+    (call, Reply { number: 0, answer, buffer })
+}
+
+fn done(call: Call) -> (Call, Reply) {
+    answers(call, Answer::Nothing)
+}
+
+fn refused(call: Call, number: u32) -> (Call, Reply) {
+    let reply = Reply::refused(number, call.buffer());
+    (call, reply)
+}
+
+fn metadata(length: u32, created: u64, etag: Etag) -> Answer {
+    Answer::Metadata { length, created, etag }
+}
+
+fn gets(path: &str, data: &str, created: u64, etag: Etag) -> (Call, Reply) {
+    writes(get(path), metadata(data.len() as u32, created, etag), data.as_bytes())
+}
+
+fn stores(upload: u32, number: u16, data: &str, etag: &str) -> (Call, Reply) {
+    answers(part(upload, number, data), Answer::Etag(plain(etag)))
+}
+
+fn opens(stamp: u64, path: &str, upload: u32) -> (Call, Reply) {
+    answers(initiate(stamp, path), Answer::Upload(upload))
+}
+
+/// A record of UPLOADS, for one upload alone.
+fn one_upload(number: u8, path: &str, started: u8, parts: u8) -> (Call, Reply) {
+    let mut record = vec![number, 0, 0, 0, path.len() as u8];
+    record.extend(path.as_bytes());
+    record.extend([started, 0, 0, 0, 0, 0, 0, 0, parts, 0]);
+    let counts = Answer::Written { records: 1, bytes: record.len() as u32 };
+    writes(uploads(record.len() + 3), counts, &record)
+}
+
+fn no_records(call: Call) -> (Call, Reply) {
+    answers(call, Answer::Written { records: 0, bytes: 0 })
+}
+
+/// A record of LIST for a path with no data.
+fn empty_record(path: &str, created: u8) -> Vec<u8> {
+    let mut record = vec![path.len() as u8];
+    record.extend(path.as_bytes());
+    record.extend([0, 0, 0, 0, created, 0, 0, 0, 0, 0, 0, 0, 32]);
+    record.extend(OF_NOTHING.as_bytes());
+    record
+}
+
+pub fn all() -> Vec<Case> {
+    let mut cases = marked();
+    cases.extend(unmarked());
+    cases.extend(slips());
+    cases.extend(ceilings());
+    cases
+}
+
+/// "A = 64 where none is given."
+fn day(name: &'static str, steps: Vec<(Call, Reply)>) -> Case {
+    Case { name, arena: 64, steps }
+}
+
+/// "Marked orders of the day".
+pub fn marked() -> Vec<Case> {
+    let m5 = || done(put(5, "a", "xyz"));
+    let m7 = || vec![opens(7, "r", 1), stores(1, 2, "B", OF_B), stores(1, 1, "A", OF_A)];
+    let m8 = |list: &[u16]| {
+        let mut steps = m7();
+        steps.extend([refused(commit(1, list), 2), one_upload(1, "r", 7, 2), refused(get("r"), 3)]);
+        steps
+    };
+    let with_four = |name, steps| Case { name, arena: 4, steps };
+    vec![
+        day("M1", vec![refused(get("a"), 3)]),
+        day("M2", vec![answers(get(""), metadata(0, 0, Etag::Absent))]),
+        day("M3", vec![refused(delete(""), 2)]),
+        day("M4", vec![refused(put(0, "a", "xyz"), 2), refused(get("a"), 3)]),
+        day("M5", vec![m5(), answers(head("a"), metadata(3, 5, plain(OF_XYZ)))]),
+        day("M6", vec![m5(), done(copy(9, "a", "a")), gets("a", "xyz", 9, plain(OF_XYZ))]),
+        day("M7", {
+            let mut steps = m7();
+            let etag = joined(OF_THE_DIGESTS_OF_B_AND_A, 2);
+            steps.extend([done(commit(1, &[2, 1])), gets("r", "BA", 7, etag)]);
+            steps.extend([no_records(uploads(0))]);
+            steps
+        }),
+        day("M8, a part missing", m8(&[1])),
+        day("M8, a part twice", m8(&[1, 1, 2])),
+        day("M9", {
+            let etag = joined(OF_NOTHING, 0);
+            vec![opens(7, "r", 1), done(commit(1, &[])), gets("r", "", 7, etag)]
+        }),
+        day(
+            "M10",
+            vec![opens(7, "r", 1), done(abort(1)), opens(7, "r", 2), refused(part(1, 1, "A"), 2)],
+        ),
+        with_four(
+            "M11",
+            vec![
+                done(put(5, "a", "xyz")),
+                refused(put(5, "b", "AB"), 5),
+                done(put(5, "a", "xyzx")),
+                refused(head("b"), 3),
+            ],
+        ),
+        with_four(
+            "M12",
+            vec![
+                opens(7, "r", 1),
+                stores(1, 1, "AB", OF_AB),
+                stores(1, 2, "BA", OF_BA),
+                done(commit(1, &[1, 2])),
+            ],
+        ),
+    ]
+}
+
+/// The sentences behind "Unmarked".
+pub fn unmarked() -> Vec<Case> {
+    let long = "p".repeat(128);
+    let too_long = "p".repeat(129);
+    let m5 = || done(put(5, "a", "xyz"));
+    let mut listing = vec![1, 97, 3, 0, 0, 0, 5, 0, 0, 0, 0, 0, 0, 0, 32];
+    listing.extend(OF_XYZ.as_bytes());
+    let one = Answer::Written { records: 1, bytes: 47 };
+    vec![
+        day(
+            "the length of a path",
+            vec![
+                done(put(1, &long, "")),
+                answers(head(&long), metadata(0, 1, plain(OF_NOTHING))),
+                refused(put(1, &too_long, ""), 2),
+                refused(get(&too_long), 2),
+                refused(initiate(1, &too_long), 2),
+                refused(copy(1, &long, &too_long), 2),
+                opens(1, &long, 1),
+            ],
+        ),
+        day(
+            "slashes",
+            vec![
+                done(put(1, "a/", "")),
+                gets("a/", "", 1, plain(OF_NOTHING)),
+                refused(put(1, "/a", ""), 2),
+                refused(put(1, "a//b", ""), 2),
+                refused(put(1, "a//", ""), 2),
+                refused(put(1, "/", ""), 2),
+                refused(head("/"), 2),
+                done(put(1, "a/b/", "")),
+            ],
+        ),
+        day(
+            "the bytes of a path",
+            vec![
+                done(put(1, "!", "")),
+                done(put(1, "~", "")),
+                refused(put(1, "a b", ""), 2),
+                refused(put(1, "a\u{7f}", ""), 2),
+                refused(put(1, "\u{e4}", ""), 2),
+                refused(put(1, "a\0", ""), 2),
+            ],
+        ),
+        day(
+            "part numbers",
+            vec![
+                opens(7, "r", 1),
+                stores(1, 11_000, "A", OF_A),
+                refused(part(1, 0, "A"), 2),
+                refused(part(1, 11_001, "A"), 2),
+                refused(part(1, 65_535, "A"), 2),
+                refused(commit(1, &[11_000, 0]), 2),
+                done(commit(1, &[11_000])),
+            ],
+        ),
+        day("a prefix and a suffix do not overlap", {
+            let record = empty_record("abbc", 2);
+            let counts = Answer::Written { records: 1, bytes: record.len() as u32 };
+            let made = list("ab", "bc", record.len());
+            vec![
+                done(put(1, "abc", "")),
+                done(put(2, "abbc", "")),
+                writes(made, counts, &record),
+                no_records(list("abb", "bc", 0)),
+                no_records(list("abbcd", "", 0)),
+            ]
+        }),
+        day("a shorter path comes before its extensions", {
+            let records: Vec<u8> = ["a", "a!", "a/", "aa", "b"]
+                .iter()
+                .flat_map(|path| empty_record(path, 1))
+                .collect();
+            let counts = Answer::Written { records: 5, bytes: records.len() as u32 };
+            let mut steps: Vec<(Call, Reply)> =
+                ["b", "aa", "a/", "a", "a!"].iter().map(|path| done(put(1, path, ""))).collect();
+            steps.push(writes(list("", "", records.len() + 1), counts, &records));
+            steps
+        }),
+        day("LIST after M5, 47 bytes", vec![m5(), writes(list("", "", 47), one.clone(), &listing)]),
+        day("LIST after M5, more", vec![m5(), writes(list("", "", 50), one, &listing)]),
+        day("LIST after M5, 46 bytes", vec![m5(), refused(list("", "", 46), 7)]),
+        day("GET into a buffer one byte short", {
+            let get = |room| Call::Get { path: b"a".to_vec(), buffer: vec![UNTOUCHED; room] };
+            let found = metadata(3, 5, plain(OF_XYZ));
+            vec![m5(), refused(get(2), 7), writes(get(3), found, b"xyz")]
+        }),
+        day("UPLOADS into a buffer one byte short", {
+            vec![opens(7, "r", 1), refused(uploads(15), 7), one_upload(1, "r", 7, 0)]
+        }),
+        day("an odd byte in a part list", {
+            let odd = |bytes: &[u8]| Call::Commit { upload: 1, list: bytes.to_vec() };
+            vec![
+                opens(7, "r", 1),
+                refused(odd(&[0]), 2),
+                stores(1, 1, "A", OF_A),
+                refused(odd(&[1]), 2),
+                refused(odd(&[1, 0, 0]), 2),
+                done(odd(&[1, 0])),
+            ]
+        }),
+    ]
+}
+
+/// "Slips to shut out", where the marked cases leave them open.
+pub fn slips() -> Vec<Case> {
+    let joined_a = || {
+        vec![opens(7, "r", 1), stores(1, 2, "B", OF_B), stores(1, 1, "A", OF_A)]
+            .into_iter()
+            .chain([done(commit(1, &[2, 1]))])
+    };
+    vec![
+        day("COPY of a joined object has a plain etag", {
+            let mut steps: Vec<(Call, Reply)> = joined_a().collect();
+            steps.extend([done(copy(9, "r", "s")), gets("s", "BA", 9, plain(OF_BA))]);
+            steps.extend([done(copy(9, "r", "r")), gets("r", "BA", 9, plain(OF_BA))]);
+            steps
+        }),
+        day("LIST sees no parts", {
+            vec![
+                opens(7, "r", 1),
+                stores(1, 1, "A", OF_A),
+                no_records(list("", "", 0)),
+                refused(get("r"), 3),
+                refused(head("r"), 3),
+                refused(delete("r"), 3),
+            ]
+        }),
+        Case {
+            name: "a part's old bytes are free for its replacement",
+            arena: 2,
+            steps: vec![
+                opens(7, "r", 1),
+                stores(1, 1, "AB", OF_AB),
+                stores(1, 1, "BA", OF_BA),
+                refused(part(1, 1, "xyz"), 5),
+                refused(part(1, 2, "A"), 5),
+                done(commit(1, &[1])),
+                refused(put(1, "a", "A"), 5),
+                done(copy(8, "r", "r")),
+                refused(copy(8, "r", "s"), 5),
+                done(put(1, "r", "B")),
+                done(put(1, "a", "A")),
+            ],
+        },
+        day("an aborted upload leaves nothing", {
+            vec![
+                opens(7, "r", 1),
+                stores(1, 1, "A", OF_A),
+                done(abort(1)),
+                refused(commit(1, &[1]), 2),
+                refused(abort(1), 2),
+                opens(8, "r", 2),
+                refused(commit(2, &[1]), 2),
+                done(commit(2, &[])),
+                gets("r", "", 8, joined(OF_NOTHING, 0)),
+            ]
+        }),
+        day("an upload's start is its object's stamp, though stamps go back", {
+            vec![
+                opens(9, "r", 1),
+                done(put(3, "r", "xyz")),
+                stores(1, 1, "A", OF_A),
+                stores(1, 1, "B", OF_B),
+                done(put(2, "s", "")),
+                one_upload(1, "r", 9, 1),
+                gets("r", "xyz", 3, plain(OF_XYZ)),
+            ]
+        }),
+    ]
+}
+
+/// 256 paths, 16 uploads, 256 parts; none of them needs the arena.
+pub fn ceilings() -> Vec<Case> {
+    let name = |i: usize| format!("p{i:03}");
+    let full = || (0..256).map(|i| done(put(1, &name(i), ""))).collect::<Vec<_>>();
+    let none = |name, steps| Case { name, arena: 0, steps };
+    vec![
+        none("256 objects", {
+            let mut steps = vec![opens(7, "new", 1), opens(8, "p007", 2)];
+            steps.extend(full());
+            steps.extend([
+                refused(put(1, "new", ""), 4),
+                refused(put(1, "new", "A"), 4),
+                refused(put(1, "p000", "A"), 5),
+                done(put(2, "p000", "")),
+                refused(copy(1, "p000", "new"), 4),
+                refused(copy(1, "new", "newer"), 3),
+                done(copy(3, "p000", "p255")),
+                refused(commit(1, &[]), 4),
+                done(commit(2, &[])),
+                gets("p007", "", 8, joined(OF_NOTHING, 0)),
+                one_upload(1, "new", 7, 0),
+                done(delete("p128")),
+                done(commit(1, &[])),
+                refused(put(1, "p128", ""), 4),
+            ]);
+            steps
+        }),
+        none("16 uploads", {
+            let mut steps: Vec<(Call, Reply)> = (1..=16).map(|i| opens(i as u64, "r", i)).collect();
+            steps.extend([
+                refused(initiate(1, "r"), 4),
+                refused(initiate(0, "r"), 2),
+                done(abort(5)),
+                opens(1, "r", 17),
+                refused(initiate(1, "s"), 4),
+                done(commit(17, &[])),
+                opens(1, "s", 18),
+            ]);
+            steps
+        }),
+        none("256 parts over all uploads", {
+            let mut steps = vec![opens(7, "r", 1), opens(8, "s", 2)];
+            steps.extend((1..=200).map(|i| stores(1, i, "", OF_NOTHING)));
+            steps.extend((1..=56).map(|i| stores(2, i, "", OF_NOTHING)));
+            steps.extend([
+                refused(part(1, 201, ""), 4),
+                refused(part(2, 57, "A"), 4),
+                stores(2, 56, "", OF_NOTHING),
+                refused(part(2, 56, "A"), 5),
+                refused(part(2, 0, ""), 2),
+                done(abort(1)),
+                stores(2, 57, "", OF_NOTHING),
+                one_upload(2, "s", 8, 57),
+            ]);
+            steps
+        }),
+    ]
+}

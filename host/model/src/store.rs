@@ -1,0 +1,309 @@
+//! The machine of document 01: O, U, N and the eleven steps.
+
+use crate::call::{Answer, Call, Reply};
+use crate::etag::Etag;
+use crate::md5::{md5, Digest};
+use crate::{LAST_PART, LONGEST_PATH, MOST_OBJECTS, MOST_PARTS, MOST_UPLOADS, NUMBERS_END};
+use std::collections::BTreeMap;
+
+/// The refusals that a list of calls can meet; 1, "not a store", is about memory alone.
+#[derive(Clone, Copy, Debug, PartialEq, Eq)]
+pub enum Refusal {
+    BadRequest = 2,
+    NotFound = 3,
+    TableFull = 4,
+    ArenaFull = 5,
+    NumbersUsedUp = 6,
+    BufferShort = 7,
+}
+
+use Refusal::*;
+
+#[derive(Clone, Debug, PartialEq, Eq)]
+pub struct Object {
+    pub data: Vec<u8>,
+    pub created: u64,
+    pub etag: Etag,
+}
+
+#[derive(Clone, Debug, PartialEq, Eq)]
+pub struct Part {
+    pub data: Vec<u8>,
+    pub digest: Digest,
+}
+
+#[derive(Clone, Debug, PartialEq, Eq)]
+pub struct Upload {
+    pub path: Vec<u8>,
+    pub started: u64,
+    pub parts: BTreeMap<u16, Part>,
+}
+
+/// O, U and N over an arena of a length. The fields are open, so that a test can start anywhere.
+#[derive(Clone, Debug, PartialEq, Eq)]
+pub struct Model {
+    pub arena: usize,
+    pub objects: BTreeMap<Vec<u8>, Object>,
+    pub uploads: BTreeMap<u32, Upload>,
+    pub next: u64,
+}
+
+/// 1 to 128 bytes from 33 to 126, no "/" first, no two adjacent "/".
+pub fn path_ok(path: &[u8]) -> bool {
+    (1..=LONGEST_PATH).contains(&path.len())
+        && path.iter().all(|byte| (33..=126).contains(byte))
+        && path[0] != b'/'
+        && !path.windows(2).any(|pair| pair == b"//")
+}
+
+fn stamp_ok(stamp: u64) -> bool {
+    stamp >= 1
+}
+
+fn part_ok(part: u16) -> bool {
+    (1..=LAST_PART).contains(&part)
+}
+
+/// The numbers of a part list; an odd byte left over makes it unfit.
+fn part_numbers(list: &[u8]) -> Option<Vec<u16>> {
+    (list.len() % 2 == 0)
+        .then(|| list.chunks_exact(2).map(|pair| u16::from_le_bytes([pair[0], pair[1]])).collect())
+}
+
+impl Model {
+    /// FRESH.
+    pub fn fresh(arena: usize) -> Model {
+        Model { arena, objects: BTreeMap::new(), uploads: BTreeMap::new(), next: 1 }
+    }
+
+    /// The sum of the lengths of all data in O and in all parts of U.
+    pub fn held(&self) -> usize {
+        let objects: usize = self.objects.values().map(|object| object.data.len()).sum();
+        let parts = self.uploads.values().flat_map(|upload| upload.parts.values());
+        objects + parts.map(|part| part.data.len()).sum::<usize>()
+    }
+
+    /// The parts over all uploads.
+    pub fn parts(&self) -> usize {
+        self.uploads.values().map(|upload| upload.parts.len()).sum()
+    }
+
+    /// One call: a refusal keeps the state and the buffer.
+    pub fn call(&mut self, call: &Call) -> Reply {
+        match self.step(call) {
+            Ok((answer, written)) => {
+                let mut buffer = call.buffer().to_vec();
+                buffer[..written.len()].copy_from_slice(&written);
+                Reply { number: 0, answer, buffer }
+            }
+            Err(refusal) => Reply::refused(refusal as u32, call.buffer()),
+        }
+    }
+
+    /// The answer, and the bytes for the front of the answer buffer.
+    fn step(&mut self, call: &Call) -> Result<(Answer, Vec<u8>), Refusal> {
+        let silent = |answer| (answer, Vec::new());
+        match call {
+            Call::Put { stamp, path, data } => {
+                self.put(*stamp, path, data).map(|()| silent(Answer::Nothing))
+            }
+            Call::Get { path, buffer } => self.get(path, buffer.len()),
+            Call::Head { path } => self.head(path).map(silent),
+            Call::Delete { path } => self.delete(path).map(|()| silent(Answer::Nothing)),
+            Call::Copy { stamp, source, destination } => {
+                self.copy(*stamp, source, destination).map(|()| silent(Answer::Nothing))
+            }
+            Call::List { prefix, suffix, buffer } => {
+                written(self.list(prefix, suffix), buffer.len())
+            }
+            Call::Initiate { stamp, path } => {
+                self.initiate(*stamp, path).map(|number| silent(Answer::Upload(number)))
+            }
+            Call::Part { upload, part, data } => {
+                self.part(*upload, *part, data).map(|etag| silent(Answer::Etag(etag)))
+            }
+            Call::Commit { upload, list } => {
+                self.commit(*upload, list).map(|()| silent(Answer::Nothing))
+            }
+            Call::Abort { upload } => self.abort(*upload).map(|()| silent(Answer::Nothing)),
+            Call::Uploads { prefix, buffer } => written(self.list_uploads(prefix), buffer.len()),
+        }
+    }
+
+    fn put(&mut self, stamp: u64, path: &[u8], data: &[u8]) -> Result<(), Refusal> {
+        if !stamp_ok(stamp) || !path_ok(path) {
+            return Err(BadRequest);
+        }
+        self.set_object(
+            path,
+            Object { data: data.to_vec(), created: stamp, etag: Etag::of_data(data) },
+        )
+    }
+
+    /// Sets O at path, or leaves it as it was where the state after the call passes a ceiling.
+    fn set_object(&mut self, path: &[u8], object: Object) -> Result<(), Refusal> {
+        let before = self.objects.insert(path.to_vec(), object);
+        let refusal = if self.objects.len() > MOST_OBJECTS {
+            TableFull
+        } else if self.held() > self.arena {
+            ArenaFull
+        } else {
+            return Ok(());
+        };
+        match before {
+            Some(object) => self.objects.insert(path.to_vec(), object),
+            None => self.objects.remove(path),
+        };
+        Err(refusal)
+    }
+
+    fn head(&self, path: &[u8]) -> Result<Answer, Refusal> {
+        if path.is_empty() {
+            return Ok(Answer::Metadata { length: 0, created: 0, etag: Etag::Absent });
+        }
+        if !path_ok(path) {
+            return Err(BadRequest);
+        }
+        let object = self.objects.get(path).ok_or(NotFound)?;
+        Ok(Answer::Metadata {
+            length: object.data.len() as u32,
+            created: object.created,
+            etag: object.etag,
+        })
+    }
+
+    fn get(&self, path: &[u8], room: usize) -> Result<(Answer, Vec<u8>), Refusal> {
+        let metadata = self.head(path)?;
+        let data = self.objects.get(path).map_or(Vec::new(), |object| object.data.clone());
+        if data.len() > room {
+            return Err(BufferShort);
+        }
+        Ok((metadata, data))
+    }
+
+    fn delete(&mut self, path: &[u8]) -> Result<(), Refusal> {
+        if !path_ok(path) {
+            return Err(BadRequest);
+        }
+        self.objects.remove(path).map(|_| ()).ok_or(NotFound)
+    }
+
+    fn copy(&mut self, stamp: u64, source: &[u8], destination: &[u8]) -> Result<(), Refusal> {
+        if !stamp_ok(stamp) || !path_ok(source) || !path_ok(destination) {
+            return Err(BadRequest);
+        }
+        let data = self.objects.get(source).ok_or(NotFound)?.data.clone();
+        self.put(stamp, destination, &data)
+    }
+
+    fn list(&self, prefix: &[u8], suffix: &[u8]) -> Vec<Vec<u8>> {
+        let mut records = Vec::new();
+        for (path, object) in &self.objects {
+            let Some(rest) = path.strip_prefix(prefix) else { continue };
+            if rest.ends_with(suffix) {
+                let text = object.etag.text();
+                let mut record = vec![path.len() as u8];
+                record.extend(path);
+                record.extend((object.data.len() as u32).to_le_bytes());
+                record.extend(object.created.to_le_bytes());
+                record.push(text.len() as u8);
+                record.extend(text.as_bytes());
+                records.push(record);
+            }
+        }
+        records
+    }
+
+    fn initiate(&mut self, stamp: u64, path: &[u8]) -> Result<u32, Refusal> {
+        if !stamp_ok(stamp) || !path_ok(path) {
+            return Err(BadRequest);
+        }
+        if self.uploads.len() + 1 > MOST_UPLOADS {
+            return Err(TableFull);
+        }
+        if self.next == NUMBERS_END {
+            return Err(NumbersUsedUp);
+        }
+        let number = self.next as u32;
+        self.next += 1;
+        let upload = Upload { path: path.to_vec(), started: stamp, parts: BTreeMap::new() };
+        self.uploads.insert(number, upload);
+        Ok(number)
+    }
+
+    fn part(&mut self, upload: u32, number: u16, data: &[u8]) -> Result<Etag, Refusal> {
+        if !self.uploads.contains_key(&upload) || !part_ok(number) {
+            return Err(BadRequest);
+        }
+        let digest = md5(data);
+        let before = self.set_part(upload, number, Some(Part { data: data.to_vec(), digest }));
+        let refusal = if self.parts() > MOST_PARTS {
+            TableFull
+        } else if self.held() > self.arena {
+            ArenaFull
+        } else {
+            return Ok(Etag::Plain(digest));
+        };
+        self.set_part(upload, number, before);
+        Err(refusal)
+    }
+
+    /// Sets or removes a part of an open upload; gives what was there.
+    fn set_part(&mut self, upload: u32, number: u16, part: Option<Part>) -> Option<Part> {
+        let parts = &mut self.uploads.get_mut(&upload).expect("open").parts;
+        match part {
+            Some(part) => parts.insert(number, part),
+            None => parts.remove(&number),
+        }
+    }
+
+    fn commit(&mut self, number: u32, list: &[u8]) -> Result<(), Refusal> {
+        let upload = self.uploads.get(&number).ok_or(BadRequest)?;
+        let listed = part_numbers(list).ok_or(BadRequest)?;
+        let mut sorted = listed.clone();
+        sorted.sort();
+        if !sorted.iter().eq(upload.parts.keys()) {
+            return Err(BadRequest);
+        }
+        let parts: Vec<&Part> = listed.iter().map(|part| &upload.parts[part]).collect();
+        let data: Vec<&[u8]> = parts.iter().map(|part| part.data.as_slice()).collect();
+        let digests: Vec<Digest> = parts.iter().map(|part| part.digest).collect();
+        let object =
+            Object { data: data.concat(), created: upload.started, etag: Etag::of_parts(&digests) };
+        if !self.objects.contains_key(&upload.path) && self.objects.len() + 1 > MOST_OBJECTS {
+            return Err(TableFull);
+        }
+        let upload = self.uploads.remove(&number).expect("open");
+        self.objects.insert(upload.path, object);
+        Ok(())
+    }
+
+    fn abort(&mut self, upload: u32) -> Result<(), Refusal> {
+        self.uploads.remove(&upload).map(|_| ()).ok_or(BadRequest)
+    }
+
+    fn list_uploads(&self, prefix: &[u8]) -> Vec<Vec<u8>> {
+        let mut records = Vec::new();
+        for (number, upload) in &self.uploads {
+            if upload.path.starts_with(prefix) {
+                let mut record = number.to_le_bytes().to_vec();
+                record.push(upload.path.len() as u8);
+                record.extend(&upload.path);
+                record.extend(upload.started.to_le_bytes());
+                record.extend((upload.parts.len() as u16).to_le_bytes());
+                records.push(record);
+            }
+        }
+        records
+    }
+}
+
+/// The count of records and of bytes, and the bytes themselves where they fit.
+fn written(records: Vec<Vec<u8>>, room: usize) -> Result<(Answer, Vec<u8>), Refusal> {
+    let bytes = records.concat();
+    if bytes.len() > room {
+        return Err(BufferShort);
+    }
+    let counts = Answer::Written { records: records.len() as u32, bytes: bytes.len() as u32 };
+    Ok((counts, bytes))
+}

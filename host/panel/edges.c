@@ -1,0 +1,330 @@
+/*
+ * Bad input from C, answered as document 01 says: wrong lengths, memory that is no store, bad arguments, short answers.
+ * After each refusal every lent byte is compared. The last line counts.
+ */
+#include <inttypes.h>
+#include <stdio.h>
+#include <string.h>
+
+#include "rathnodi.h"
+
+enum { ARENA_LEN = 64, ANSWER_LEN = 200, ROOM = 1024 };
+
+/* All that is lent. Slices start one byte in, so that none is aligned and a byte stands free on either side. */
+struct lent {
+    uint8_t tables[RATHNODI_TABLES_LEN + 3];
+    uint8_t arena[RATHNODI_ARENA_MAX + 3];
+    uint8_t answer[ROOM + 2];
+    uint8_t reply[ROOM + 2];
+};
+
+static struct lent now, before;
+static size_t tables_len = RATHNODI_TABLES_LEN, arena_len = ARENA_LEN, answer_len = ANSWER_LEN,
+              reply_len = RATHNODI_REPLY_LEN;
+
+#define STORE now.tables + 1, tables_len, now.arena + 1, arena_len
+#define ANSWER now.answer + 1, answer_len
+#define REPLY now.reply + 1, reply_len
+#define BYTES(text) (const uint8_t *)(text), sizeof(text) - 1
+#define FIELD(type, offset) (*(type *)memcpy(&(type){0}, now.reply + 1 + (offset), sizeof(type)))
+
+static int passed, failed;
+
+static void check(const char *what, int holds)
+{
+    if (holds) {
+        passed++;
+    } else {
+        failed++;
+        printf("FAILED: %s\n", what);
+    }
+}
+
+static void mark(void)
+{
+    memcpy(&before, &now, sizeof now);
+}
+
+/* The call was refused by this number, and every byte is as it was. */
+static void refused(const char *what, uint32_t number, uint32_t expected)
+{
+    check(what, number == expected && memcmp(&before, &now, sizeof now) == 0);
+    if (number != expected) {
+        printf("  answered %" PRIu32 ", expected %" PRIu32 "\n", number, expected);
+    }
+    mark();
+}
+
+/* The call was accepted, and the bytes around the slices are as they were. */
+static void accepted(const char *what, uint32_t number)
+{
+    int kept = now.tables[0] == before.tables[0] && now.arena[0] == before.arena[0] &&
+               now.answer[0] == before.answer[0] && now.reply[0] == before.reply[0] &&
+               now.tables[tables_len + 1] == before.tables[tables_len + 1] &&
+               now.arena[arena_len + 1] == before.arena[arena_len + 1] &&
+               now.answer[answer_len + 1] == before.answer[answer_len + 1] &&
+               now.reply[reply_len + 1] == before.reply[reply_len + 1];
+    check(what, number == RATHNODI_OK && kept);
+    if (number != RATHNODI_OK) {
+        printf("  answered %" PRIu32 "\n", number);
+    }
+    mark();
+}
+
+enum { FRESH, PUT, GET, HEAD, DELETE, COPY, LIST, INITIATE, PART, COMMIT, ABORT, UPLOADS, CALLS };
+
+static const char *const CALL_NAMES[CALLS] = {"fresh", "put",      "get",  "head",   "delete", "copy",
+                                              "list",  "initiate", "part", "commit", "abort",  "uploads"};
+
+/* A call with good arguments, over what is lent now. */
+static uint32_t good(int call)
+{
+    switch (call) {
+    case FRESH: return rathnodi_fresh(STORE);
+    case PUT: return rathnodi_put(STORE, 5, BYTES("a"), BYTES("xyz"));
+    case GET: return rathnodi_get(STORE, BYTES("a"), ANSWER, REPLY);
+    case HEAD: return rathnodi_head(STORE, BYTES("a"), REPLY);
+    case DELETE: return rathnodi_delete(STORE, BYTES("a"));
+    case COPY: return rathnodi_copy(STORE, 6, BYTES("a"), BYTES("b"));
+    case LIST: return rathnodi_list(STORE, BYTES(""), BYTES(""), ANSWER, REPLY);
+    case INITIATE: return rathnodi_initiate(STORE, 7, BYTES("r"), REPLY);
+    case PART: return rathnodi_part(STORE, 1, 1, BYTES("A"), REPLY);
+    case COMMIT: return rathnodi_commit(STORE, 1, BYTES("\1\0"));
+    case ABORT: return rathnodi_abort(STORE, 1);
+    default: return rathnodi_uploads(STORE, BYTES(""), ANSWER, REPLY);
+    }
+}
+
+static int has_reply(int call)
+{
+    return call == GET || call == HEAD || call == LIST || call == INITIATE || call == PART || call == UPLOADS;
+}
+
+/* A store with object "a" and upload 1 to "r" with part 1. */
+static void start(void)
+{
+    tables_len = RATHNODI_TABLES_LEN;
+    arena_len = ARENA_LEN;
+    answer_len = ANSWER_LEN;
+    reply_len = RATHNODI_REPLY_LEN;
+    memset(&now, 0xa5, sizeof now);
+    mark();
+    accepted("fresh", good(FRESH));
+    accepted("put", good(PUT));
+    accepted("initiate", good(INITIATE));
+    accepted("part", good(PART));
+}
+
+static void wrong_lengths(void)
+{
+    const size_t tables_lens[] = {0, 1, RATHNODI_TABLES_LEN - 1, RATHNODI_TABLES_LEN + 1};
+    const size_t arena_lens[] = {0, 1, ARENA_LEN - 1, ARENA_LEN + 1, RATHNODI_ARENA_MAX, RATHNODI_ARENA_MAX + 1};
+    const size_t reply_lens[] = {0, 1, RATHNODI_REPLY_LEN - 1, RATHNODI_REPLY_LEN + 1, 2 * RATHNODI_REPLY_LEN};
+    start();
+    for (int call = FRESH; call < CALLS; call++) {
+        for (size_t i = 0; i < sizeof tables_lens / sizeof *tables_lens; i++) {
+            tables_len = tables_lens[i];
+            refused(CALL_NAMES[call], good(call), RATHNODI_NOT_A_STORE);
+        }
+        tables_len = RATHNODI_TABLES_LEN;
+        for (size_t i = 0; call != FRESH && i < sizeof arena_lens / sizeof *arena_lens; i++) {
+            arena_len = arena_lens[i];
+            refused(CALL_NAMES[call], good(call), RATHNODI_NOT_A_STORE);
+        }
+        arena_len = ARENA_LEN;
+        for (size_t i = 0; has_reply(call) && i < sizeof reply_lens / sizeof *reply_lens; i++) {
+            reply_len = reply_lens[i];
+            refused(CALL_NAMES[call], good(call), RATHNODI_NOT_A_STORE);
+        }
+        reply_len = RATHNODI_REPLY_LEN;
+    }
+    arena_len = RATHNODI_ARENA_MAX + 1;
+    refused("fresh, an arena too long", good(FRESH), RATHNODI_BAD_REQUEST);
+    tables_len = RATHNODI_TABLES_LEN - 1;
+    refused("fresh, tables too short are seen first", good(FRESH), RATHNODI_NOT_A_STORE);
+    tables_len = RATHNODI_TABLES_LEN;
+    arena_len = RATHNODI_ARENA_MAX;
+    accepted("fresh, the longest arena", good(FRESH));
+    accepted("put, the longest arena",
+             rathnodi_put(STORE, 5, BYTES("a"), before.arena, RATHNODI_ARENA_MAX));
+    refused("put, one byte more", rathnodi_put(STORE, 5, BYTES("b"), BYTES("A")), RATHNODI_ARENA_FULL);
+    arena_len = 0;
+    accepted("fresh, no arena", good(FRESH));
+    refused("put, no arena", good(PUT), RATHNODI_ARENA_FULL);
+    accepted("put of nothing, no arena", rathnodi_put(STORE, 5, BYTES("a"), BYTES("")));
+    accepted("initiate, no arena", good(INITIATE));
+    accepted("commit of an empty list", rathnodi_commit(STORE, 1, BYTES("")));
+}
+
+static void no_store(void)
+{
+    const int fills[] = {0x00, 0x01, 0x7f, 0xff};
+    start();
+    for (size_t i = 0; i < sizeof fills / sizeof *fills; i++) {
+        memset(now.tables, fills[i], sizeof now.tables);
+        mark();
+        for (int call = PUT; call < CALLS; call++) {
+            refused(CALL_NAMES[call], good(call), RATHNODI_NOT_A_STORE);
+        }
+    }
+    accepted("fresh over anything", good(FRESH));
+}
+
+static void bad_arguments(void)
+{
+    static uint8_t over[RATHNODI_PATH_MAX + 1];
+    static const struct {
+        const uint8_t *bytes;
+        size_t len;
+    } bad_paths[] = {{BYTES("/a")}, {BYTES("a//b")}, {BYTES("/")},      {BYTES("a b")},
+                     {BYTES("a\0")}, {BYTES("\x7f")}, {BYTES("\xc3\xa4")}, {over, sizeof over}};
+    memset(over, 'p', sizeof over);
+    start();
+    for (size_t i = 0; i < sizeof bad_paths / sizeof *bad_paths; i++) {
+        const uint8_t *path = bad_paths[i].bytes;
+        size_t len = bad_paths[i].len;
+        refused("put, a bad path", rathnodi_put(STORE, 5, path, len, BYTES("xyz")), RATHNODI_BAD_REQUEST);
+        refused("get, a bad path", rathnodi_get(STORE, path, len, ANSWER, REPLY), RATHNODI_BAD_REQUEST);
+        refused("head, a bad path", rathnodi_head(STORE, path, len, REPLY), RATHNODI_BAD_REQUEST);
+        refused("delete, a bad path", rathnodi_delete(STORE, path, len), RATHNODI_BAD_REQUEST);
+        refused("copy from a bad path", rathnodi_copy(STORE, 5, path, len, BYTES("b")), RATHNODI_BAD_REQUEST);
+        refused("copy to a bad path", rathnodi_copy(STORE, 5, BYTES("a"), path, len), RATHNODI_BAD_REQUEST);
+        refused("initiate, a bad path", rathnodi_initiate(STORE, 5, path, len, REPLY), RATHNODI_BAD_REQUEST);
+    }
+    refused("put to the root", rathnodi_put(STORE, 5, BYTES(""), BYTES("xyz")), RATHNODI_BAD_REQUEST);
+    refused("delete the root", rathnodi_delete(STORE, BYTES("")), RATHNODI_BAD_REQUEST);
+    refused("copy the root", rathnodi_copy(STORE, 5, BYTES(""), BYTES("b")), RATHNODI_BAD_REQUEST);
+    refused("initiate to the root", rathnodi_initiate(STORE, 5, BYTES(""), REPLY), RATHNODI_BAD_REQUEST);
+    refused("put at 0", rathnodi_put(STORE, 0, BYTES("a"), BYTES("xyz")), RATHNODI_BAD_REQUEST);
+    refused("copy at 0", rathnodi_copy(STORE, 0, BYTES("a"), BYTES("b")), RATHNODI_BAD_REQUEST);
+    refused("initiate at 0", rathnodi_initiate(STORE, 0, BYTES("a"), REPLY), RATHNODI_BAD_REQUEST);
+    refused("part of upload 0", rathnodi_part(STORE, 0, 1, BYTES("A"), REPLY), RATHNODI_BAD_REQUEST);
+    refused("part of upload 2", rathnodi_part(STORE, 2, 1, BYTES("A"), REPLY), RATHNODI_BAD_REQUEST);
+    refused("part 0", rathnodi_part(STORE, 1, 0, BYTES("A"), REPLY), RATHNODI_BAD_REQUEST);
+    refused("part 11001", rathnodi_part(STORE, 1, 11001, BYTES("A"), REPLY), RATHNODI_BAD_REQUEST);
+    refused("part 65535", rathnodi_part(STORE, 1, 65535, BYTES("A"), REPLY), RATHNODI_BAD_REQUEST);
+    refused("commit of upload 2", rathnodi_commit(STORE, 2, BYTES("\1\0")), RATHNODI_BAD_REQUEST);
+    refused("commit, none listed", rathnodi_commit(STORE, 1, BYTES("")), RATHNODI_BAD_REQUEST);
+    refused("commit, half a number", rathnodi_commit(STORE, 1, BYTES("\1")), RATHNODI_BAD_REQUEST);
+    refused("commit, an odd byte", rathnodi_commit(STORE, 1, BYTES("\1\0\0")), RATHNODI_BAD_REQUEST);
+    refused("commit, a part twice", rathnodi_commit(STORE, 1, BYTES("\1\0\1\0")), RATHNODI_BAD_REQUEST);
+    refused("commit, high byte first", rathnodi_commit(STORE, 1, BYTES("\0\1")), RATHNODI_BAD_REQUEST);
+    refused("abort of upload 2", rathnodi_abort(STORE, 2), RATHNODI_BAD_REQUEST);
+    refused("get, not there", rathnodi_get(STORE, BYTES("b"), ANSWER, REPLY), RATHNODI_NOT_FOUND);
+    refused("head, not there", rathnodi_head(STORE, BYTES("b"), REPLY), RATHNODI_NOT_FOUND);
+    refused("delete, not there", rathnodi_delete(STORE, BYTES("b")), RATHNODI_NOT_FOUND);
+    refused("copy, not there", rathnodi_copy(STORE, 5, BYTES("b"), BYTES("c")), RATHNODI_NOT_FOUND);
+    reply_len = RATHNODI_REPLY_LEN - 1;
+    refused("a reply of another length is seen before a bad path", rathnodi_head(STORE, BYTES("//"), REPLY),
+            RATHNODI_NOT_A_STORE);
+}
+
+static void short_answers(void)
+{
+    start();
+    answer_len = 2;
+    refused("get, a byte short", good(GET), RATHNODI_BUFFER_SHORT);
+    answer_len = 3;
+    accepted("get, just room", good(GET));
+    check("get wrote the data", memcmp(now.answer + 1, "xyz", 3) == 0);
+    answer_len = 46;
+    refused("list, a byte short", good(LIST), RATHNODI_BUFFER_SHORT);
+    answer_len = 47;
+    accepted("list, just room", good(LIST));
+    answer_len = 15;
+    refused("uploads, a byte short", good(UPLOADS), RATHNODI_BUFFER_SHORT);
+    answer_len = 16;
+    accepted("uploads, just room", good(UPLOADS));
+    check("uploads wrote its record",
+          memcmp(now.answer + 1, "\1\0\0\0\1r\7\0\0\0\0\0\0\0\1\0", 16) == 0);
+    answer_len = 0;
+    accepted("get of the root needs no room", rathnodi_get(STORE, BYTES(""), ANSWER, REPLY));
+    accepted("a list of nothing needs no room",
+             rathnodi_list(STORE, BYTES("\xff no path"), BYTES(""), ANSWER, REPLY));
+    answer_len = ANSWER_LEN;
+    memset(now.answer, 0x5a, sizeof now.answer);
+    mark();
+    accepted("list, more room", good(LIST));
+    int kept = 1;
+    for (int i = 47; i < ANSWER_LEN; i++) {
+        kept &= now.answer[1 + i] == 0x5a;
+    }
+    check("the rest of the answer keeps", kept);
+}
+
+/* The reply's bytes, by offset and through the struct. */
+static void replies(void)
+{
+    static const uint8_t of_xyz[16] = {0xd1, 0x6f, 0xb3, 0x6f, 0x09, 0x11, 0xf8, 0x78,
+                                       0x99, 0x8c, 0x13, 0x61, 0x91, 0xaf, 0x70, 0x5e};
+    struct rathnodi_reply reply;
+    uint8_t expected[RATHNODI_REPLY_LEN];
+    start();
+    check("the tables' length", rathnodi_tables_len() == RATHNODI_TABLES_LEN);
+
+    accepted("head", good(HEAD));
+    memset(expected, 0, sizeof expected);
+    expected[RATHNODI_REPLY_CREATED] = 5;
+    expected[RATHNODI_REPLY_LENGTH] = 3;
+    expected[RATHNODI_REPLY_ETAG_KIND] = RATHNODI_ETAG_PLAIN;
+    memcpy(expected + RATHNODI_REPLY_ETAG_DIGEST, of_xyz, 16);
+    check("head's reply", memcmp(now.reply + 1, expected, sizeof expected) == 0);
+    memcpy(&reply, now.reply + 1, sizeof reply);
+    check("the struct", reply.created == 5 && reply.length == 3 && reply.etag_kind == RATHNODI_ETAG_PLAIN &&
+                            reply.etag_count == 0 && memcmp(reply.etag_digest, of_xyz, 16) == 0);
+
+    accepted("part", rathnodi_part(STORE, 1, 2, BYTES("xyz"), REPLY));
+    expected[RATHNODI_REPLY_CREATED] = 0;
+    expected[RATHNODI_REPLY_LENGTH] = 0;
+    check("part's reply", memcmp(now.reply + 1, expected, sizeof expected) == 0);
+
+    memset(expected, 0, sizeof expected);
+    expected[RATHNODI_REPLY_UPLOAD] = 2;
+    accepted("initiate", good(INITIATE));
+    check("initiate's reply", memcmp(now.reply + 1, expected, sizeof expected) == 0);
+
+    expected[RATHNODI_REPLY_UPLOAD] = 0;
+    expected[RATHNODI_REPLY_RECORDS] = 1;
+    expected[RATHNODI_REPLY_BYTES] = 47;
+    accepted("list", good(LIST));
+    check("list's reply", memcmp(now.reply + 1, expected, sizeof expected) == 0);
+
+    expected[RATHNODI_REPLY_RECORDS] = 2;
+    expected[RATHNODI_REPLY_BYTES] = 32;
+    accepted("uploads", good(UPLOADS));
+    check("uploads' reply", memcmp(now.reply + 1, expected, sizeof expected) == 0);
+
+    memset(expected, 0, sizeof expected);
+    accepted("head of the root", rathnodi_head(STORE, BYTES(""), REPLY));
+    check("the root's reply", memcmp(now.reply + 1, expected, sizeof expected) == 0);
+
+    accepted("commit", rathnodi_commit(STORE, 1, BYTES("\2\0\1\0")));
+    accepted("head of a joined object", rathnodi_head(STORE, BYTES("r"), REPLY));
+    check("a joined object's reply", FIELD(uint64_t, RATHNODI_REPLY_CREATED) == 7 &&
+                                         FIELD(uint32_t, RATHNODI_REPLY_LENGTH) == 4 &&
+                                         FIELD(uint8_t, RATHNODI_REPLY_ETAG_KIND) == RATHNODI_ETAG_JOINED &&
+                                         FIELD(uint16_t, RATHNODI_REPLY_ETAG_COUNT) == 2);
+}
+
+/* Slices that a call only reads may be one and the same. */
+static void shared_arguments(void)
+{
+    static const uint8_t both[] = {'p', 'a', 't', 'h'};
+    start();
+    accepted("put, the path as data", rathnodi_put(STORE, 5, both, 4, both, 4));
+    accepted("copy onto itself", rathnodi_copy(STORE, 6, both, 4, both, 4));
+    accepted("get", rathnodi_get(STORE, both, 4, ANSWER, REPLY));
+    check("the path is the data", memcmp(now.answer + 1, both, 4) == 0);
+}
+
+int main(void)
+{
+    wrong_lengths();
+    no_store();
+    bad_arguments();
+    short_answers();
+    replies();
+    shared_arguments();
+    printf("edges: %d passed, %d failed\n", passed, failed);
+    return failed != 0;
+}

@@ -1,0 +1,313 @@
+/*
+ * A short shift at a bakery terminal, as the panel's program would make it: recipes and a label picture are put, a
+ * scale sends its weighings as parts while the panel lists, the upload is committed; another scale is given up and its
+ * upload aborted. Each call is printed with its answer.
+ */
+#include <inttypes.h>
+#include <stdio.h>
+#include <stdlib.h>
+#include <string.h>
+
+#include "rathnodi.h"
+
+enum { ARENA_LEN = 4096 };
+
+/* The store, and what the panel lends for answers. */
+static uint8_t tables[RATHNODI_TABLES_LEN];
+static uint8_t arena[ARENA_LEN];
+static uint8_t answer[RATHNODI_OBJECTS_MAX * RATHNODI_LIST_RECORD_MAX];
+static struct rathnodi_reply reply;
+
+#define STORE tables, sizeof tables, arena, sizeof arena
+#define REPLY (uint8_t *)&reply, sizeof reply
+#define TEXT(text) (const uint8_t *)(text), strlen(text)
+
+/* Seconds since 1970 at the start of the shift, 3 in the morning of 14 November 2023. */
+static const uint64_t SHIFT = 1699930800;
+
+/* Calls that were answered otherwise than the shift expects. */
+static int surprises;
+
+static const char *name_of(uint32_t number)
+{
+    switch (number) {
+    case RATHNODI_OK: return "ok";
+    case RATHNODI_NOT_A_STORE: return "not a store";
+    case RATHNODI_BAD_REQUEST: return "bad request";
+    case RATHNODI_NOT_FOUND: return "not found";
+    case RATHNODI_TABLE_FULL: return "table full";
+    case RATHNODI_ARENA_FULL: return "arena full";
+    case RATHNODI_NUMBERS_USED_UP: return "numbers used up";
+    case RATHNODI_BUFFER_SHORT: return "buffer short";
+    default: return "an unknown number";
+    }
+}
+
+/* Ends the line of a call with its answer. */
+static int answered(uint32_t number, uint32_t expected)
+{
+    if (number == RATHNODI_OK) {
+        printf("-> ok");
+    } else {
+        printf("-> refused, %" PRIu32 ": %s", number, name_of(number));
+    }
+    if (number != expected) {
+        printf("  (expected %" PRIu32 ": %s)", expected, name_of(expected));
+        surprises++;
+    }
+    return number == RATHNODI_OK;
+}
+
+static void print_etag(uint8_t kind, const uint8_t *digest, unsigned count)
+{
+    if (kind == RATHNODI_ETAG_ABSENT) {
+        printf("no etag");
+        return;
+    }
+    for (int i = 0; i < 16; i++) {
+        printf("%02x", digest[i]);
+    }
+    if (kind == RATHNODI_ETAG_JOINED) {
+        printf("-%u", count);
+    }
+}
+
+static uint64_t number_at(const uint8_t *bytes, int width)
+{
+    uint64_t number = 0;
+    for (int i = width; i > 0; i--) {
+        number = number << 8 | bytes[i - 1];
+    }
+    return number;
+}
+
+static void say(const char *line)
+{
+    printf("\n%s\n", line);
+}
+
+static void put(uint64_t stamp, const char *path, const uint8_t *data, size_t data_len, uint32_t expected)
+{
+    printf("  put       \"%s\", %zu bytes ", path, data_len);
+    answered(rathnodi_put(STORE, stamp, TEXT(path), data, data_len), expected);
+    printf("\n");
+}
+
+static void put_text(uint64_t stamp, const char *path, const char *text, uint32_t expected)
+{
+    put(stamp, path, TEXT(text), expected);
+}
+
+static void head(const char *path, uint32_t expected)
+{
+    printf("  head      \"%s\" ", path);
+    if (answered(rathnodi_head(STORE, TEXT(path), REPLY), expected)) {
+        printf(", %" PRIu32 " bytes, created %" PRIu64 ", ", reply.length, reply.created);
+        print_etag(reply.etag_kind, reply.etag_digest, reply.etag_count);
+    }
+    printf("\n");
+}
+
+/* The data of the object is left in answer. */
+static size_t get(const char *path, uint32_t expected)
+{
+    size_t length = 0;
+    printf("  get       \"%s\" ", path);
+    if (answered(rathnodi_get(STORE, TEXT(path), answer, sizeof answer, REPLY), expected)) {
+        printf(", %" PRIu32 " bytes", reply.length);
+        length = reply.length;
+    }
+    printf("\n");
+    return length;
+}
+
+static void copy(uint64_t stamp, const char *source, const char *destination, uint32_t expected)
+{
+    printf("  copy      \"%s\" to \"%s\" ", source, destination);
+    answered(rathnodi_copy(STORE, stamp, TEXT(source), TEXT(destination)), expected);
+    printf("\n");
+}
+
+static void delete(const char *path, uint32_t expected)
+{
+    printf("  delete    \"%s\" ", path);
+    answered(rathnodi_delete(STORE, TEXT(path)), expected);
+    printf("\n");
+}
+
+static void list(const char *prefix, const char *suffix, size_t room, uint32_t expected)
+{
+    printf("  list      \"%s\"..\"%s\" ", prefix, suffix);
+    if (!answered(rathnodi_list(STORE, TEXT(prefix), TEXT(suffix), answer, room, REPLY), expected)) {
+        printf("\n");
+        return;
+    }
+    printf(", records %" PRIu32 ", bytes %" PRIu32 "\n", reply.records, reply.bytes);
+    const uint8_t *at = answer;
+    for (uint32_t i = 0; i < reply.records; i++) {
+        int path_len = *at++;
+        const uint8_t *path = at;
+        at += path_len;
+        uint64_t length = number_at(at, 4);
+        uint64_t created = number_at(at + 4, 8);
+        int etag_len = at[12];
+        at += 13;
+        printf("              %-24.*s %5" PRIu64 " bytes  %" PRIu64 "  %.*s\n", path_len, (const char *)path, length,
+               created, etag_len, (const char *)at);
+        at += etag_len;
+    }
+}
+
+/* The number of the upload, 0 if none was opened. */
+static uint32_t initiate(uint64_t stamp, const char *path, uint32_t expected)
+{
+    uint32_t upload = 0;
+    printf("  initiate  \"%s\" ", path);
+    if (answered(rathnodi_initiate(STORE, stamp, TEXT(path), REPLY), expected)) {
+        printf(", upload %" PRIu32, reply.upload);
+        upload = reply.upload;
+    }
+    printf("\n");
+    return upload;
+}
+
+static void part(uint32_t upload, uint16_t number, const char *text, uint32_t expected)
+{
+    printf("  part      %" PRIu32 ", number %" PRIu16 ", %zu bytes ", upload, number, strlen(text));
+    if (answered(rathnodi_part(STORE, upload, number, TEXT(text), REPLY), expected)) {
+        printf(", ");
+        print_etag(reply.etag_kind, reply.etag_digest, reply.etag_count);
+    }
+    printf("\n");
+}
+
+static void commit(uint32_t upload, const uint16_t *numbers, size_t count, uint32_t expected)
+{
+    uint8_t bytes[2 * RATHNODI_PARTS_MAX];
+    printf("  commit    %" PRIu32 ", parts", upload);
+    for (size_t i = 0; i < count; i++) {
+        printf(" %" PRIu16, numbers[i]);
+        bytes[2 * i] = (uint8_t)(numbers[i] & 255);
+        bytes[2 * i + 1] = (uint8_t)(numbers[i] >> 8);
+    }
+    printf(" ");
+    answered(rathnodi_commit(STORE, upload, bytes, 2 * count), expected);
+    printf("\n");
+}
+
+static void abort_upload(uint32_t upload, uint32_t expected)
+{
+    printf("  abort     %" PRIu32 " ", upload);
+    answered(rathnodi_abort(STORE, upload), expected);
+    printf("\n");
+}
+
+static void uploads(const char *prefix, uint32_t expected)
+{
+    printf("  uploads   \"%s\" ", prefix);
+    if (!answered(rathnodi_uploads(STORE, TEXT(prefix), answer, sizeof answer, REPLY), expected)) {
+        printf("\n");
+        return;
+    }
+    printf(", records %" PRIu32 ", bytes %" PRIu32 "\n", reply.records, reply.bytes);
+    const uint8_t *at = answer;
+    for (uint32_t i = 0; i < reply.records; i++) {
+        uint64_t number = number_at(at, 4);
+        int path_len = at[4];
+        const uint8_t *path = at + 5;
+        at += 5 + path_len;
+        printf("              upload %" PRIu64 " to %.*s, started %" PRIu64 ", parts %" PRIu64 "\n", number, path_len,
+               (const char *)path, number_at(at, 8), number_at(at + 8, 2));
+        at += 10;
+    }
+}
+
+/* A label of 96 by 32 dots as a portable bitmap: a frame and bars. */
+static size_t draw_label(uint8_t *picture, size_t room)
+{
+    int head_len = snprintf((char *)picture, room, "P4\n96 32\n");
+    uint8_t *dots = picture + head_len;
+    for (int y = 0; y < 32; y++) {
+        for (int x = 0; x < 12; x++) {
+            uint8_t bars = (uint8_t)(y > 5 && y < 26 && x > 0 && x < 11 ? 0xb5 >> (x % 3) : 0);
+            uint8_t frame = (uint8_t)(y == 0 || y == 31 ? 0xff : x == 0 ? 0x80 : x == 11 ? 0x01 : 0);
+            dots[12 * y + x] = bars | frame;
+        }
+    }
+    return (size_t)head_len + 12 * 32;
+}
+
+int main(void)
+{
+    say("The terminal starts with an empty store.");
+    printf("  tables    %zu bytes, arena %d bytes\n", rathnodi_tables_len(), ARENA_LEN);
+    printf("  fresh     ");
+    answered(rathnodi_fresh(STORE), RATHNODI_OK);
+    printf("\n");
+    head("", RATHNODI_OK);
+    list("", "", sizeof answer, RATHNODI_OK);
+
+    say("Recipes are put; one of them twice.");
+    put_text(SHIFT, "recipe/rye", "rye flour 60 kg\nwater 42 kg\nsalt 1.2 kg\nsour 9 kg\n", RATHNODI_OK);
+    put_text(SHIFT + 5, "recipe/roll", "wheat flour 50 kg\nwater 29 kg\nyeast 1.5 kg\n", RATHNODI_OK);
+    put_text(SHIFT + 9, "recipe/rye", "rye flour 60 kg\nwater 43 kg\nsalt 1.2 kg\nsour 9 kg\n", RATHNODI_OK);
+    head("recipe/rye", RATHNODI_OK);
+    copy(SHIFT + 12, "recipe/roll", "recipe/roll-sunday", RATHNODI_OK);
+    get("recipe/baguette", RATHNODI_NOT_FOUND);
+    put_text(0, "recipe/baguette", "no clock", RATHNODI_BAD_REQUEST);
+    put_text(SHIFT + 15, "recipe//baguette", "two slashes", RATHNODI_BAD_REQUEST);
+
+    say("A label picture is stored and read back.");
+    uint8_t picture[512];
+    size_t picture_len = draw_label(picture, sizeof picture);
+    put(SHIFT + 20, "label/rye.pbm", picture, picture_len, RATHNODI_OK);
+    size_t length = get("label/rye.pbm", RATHNODI_OK);
+    int same = length == picture_len && memcmp(answer, picture, picture_len) == 0;
+    printf("              %s\n", same ? "the same bytes" : "OTHER BYTES");
+    surprises += !same;
+
+    say("Scale 1 sends its weighings as parts; the panel lists meanwhile and sees none of them.");
+    uint32_t scale_1 = initiate(SHIFT + 60, "weighing/scale-1", RATHNODI_OK);
+    part(scale_1, 1, "03:01 rye flour 59.98 kg\n03:03 water 43.02 kg\n", RATHNODI_OK);
+    list("weighing/", "", sizeof answer, RATHNODI_OK);
+    uploads("weighing/", RATHNODI_OK);
+    part(scale_1, 3, "03:09 sour 9.00 kg\n", RATHNODI_OK);
+    uint32_t scale_2 = initiate(SHIFT + 300, "weighing/scale-2", RATHNODI_OK);
+    part(scale_2, 1, "03:05 wheat flour 5", RATHNODI_OK);
+    part(scale_1, 2, "03:06 salt 1.19 kg\n", RATHNODI_OK);
+    get("weighing/scale-1", RATHNODI_NOT_FOUND);
+    uploads("", RATHNODI_OK);
+
+    say("A part is forgotten in the first list; then the upload is committed.");
+    commit(scale_1, (const uint16_t[]){1, 2}, 2, RATHNODI_BAD_REQUEST);
+    commit(scale_1, (const uint16_t[]){1, 2, 3}, 3, RATHNODI_OK);
+    head("weighing/scale-1", RATHNODI_OK);
+    length = get("weighing/scale-1", RATHNODI_OK);
+    printf("%.*s", (int)length, (const char *)answer);
+
+    say("Scale 2 is swapped out: its upload is aborted, and a late part finds no upload.");
+    abort_upload(scale_2, RATHNODI_OK);
+    part(scale_2, 2, "0.01 kg\n", RATHNODI_BAD_REQUEST);
+    initiate(SHIFT + 900, "weighing/scale-2", RATHNODI_OK);
+
+    say("What does not fit is refused, and changes nothing.");
+    uint8_t *large = calloc(1, ARENA_LEN);
+    if (large == NULL) {
+        return 1;
+    }
+    put(SHIFT + 950, "label/poster.pbm", large, ARENA_LEN, RATHNODI_ARENA_FULL);
+    free(large);
+    list("", "", 46, RATHNODI_BUFFER_SHORT);
+
+    say("The end of the shift.");
+    delete("recipe/roll-sunday", RATHNODI_OK);
+    list("recipe/", "", sizeof answer, RATHNODI_OK);
+    list("", "", sizeof answer, RATHNODI_OK);
+    uploads("", RATHNODI_OK);
+
+    if (surprises > 0) {
+        printf("\n%d surprises\n", surprises);
+        return 1;
+    }
+    return 0;
+}

@@ -1,0 +1,80 @@
+/*
+ * How much stack the calls use: they run on a stack of their own, painted beforehand, over a store with many objects and
+ * parts. The header speaks of some kilobytes; more than LIMIT fails.
+ */
+#define _XOPEN_SOURCE 600
+#include <stdio.h>
+#include <string.h>
+#include <ucontext.h>
+
+#include "rathnodi.h"
+
+enum { LIMIT = 16384, PAINT = 0xc7 };
+
+static uint8_t tables[RATHNODI_TABLES_LEN];
+static uint8_t arena[65536];
+static uint8_t answer[65536];
+static uint8_t reply[RATHNODI_REPLY_LEN];
+static uint8_t data[4096];
+static uint8_t stack[1 << 20];
+static uint32_t refusals;
+
+#define STORE tables, sizeof tables, arena, sizeof arena
+#define BYTES(text) (const uint8_t *)(text), sizeof(text) - 1
+
+static void calls(void)
+{
+    uint8_t path[] = "object/000";
+    uint8_t forward[64], backward[64];
+    refusals += rathnodi_fresh(STORE);
+    for (int i = 0; i < 100; i++) {
+        path[8] = (uint8_t)('0' + i / 10);
+        path[9] = (uint8_t)('0' + i % 10);
+        refusals += rathnodi_put(STORE, 1, path, 10, data, (size_t)(3 * i));
+        refusals += rathnodi_copy(STORE, 2, path, 10, BYTES("copy"));
+    }
+    for (uint32_t upload = 1; upload <= 2; upload++) {
+        refusals += rathnodi_initiate(STORE, 3, BYTES("joined"), reply, sizeof reply);
+        for (uint16_t part = 1; part <= 32; part++) {
+            refusals += rathnodi_part(STORE, upload, part, data, 11u * part, reply, sizeof reply);
+            forward[2 * part - 2] = (uint8_t)part;
+            forward[2 * part - 1] = 0;
+            backward[64 - 2 * part] = (uint8_t)part;
+            backward[65 - 2 * part] = 0;
+        }
+    }
+    refusals += rathnodi_uploads(STORE, BYTES(""), answer, sizeof answer, reply, sizeof reply);
+    refusals += rathnodi_commit(STORE, 1, backward, sizeof backward);
+    refusals += rathnodi_commit(STORE, 2, forward, sizeof forward);
+    refusals += rathnodi_get(STORE, BYTES("joined"), answer, sizeof answer, reply, sizeof reply);
+    refusals += rathnodi_head(STORE, BYTES("copy"), reply, sizeof reply);
+    refusals += rathnodi_list(STORE, BYTES("object/"), BYTES("7"), answer, sizeof answer, reply, sizeof reply);
+    refusals += rathnodi_initiate(STORE, 3, BYTES("joined"), reply, sizeof reply);
+    refusals += rathnodi_abort(STORE, 3);
+    refusals += rathnodi_put(STORE, 9, BYTES("large"), data, sizeof data);
+    refusals += rathnodi_delete(STORE, BYTES("joined"));
+}
+
+static void run_on_painted_stack(void)
+{
+    static ucontext_t here, there;
+    memset(stack, PAINT, sizeof stack);
+    getcontext(&there);
+    there.uc_stack.ss_sp = stack;
+    there.uc_stack.ss_size = sizeof stack;
+    there.uc_link = &here;
+    makecontext(&there, calls, 0);
+    swapcontext(&here, &there);
+}
+
+int main(void)
+{
+    run_on_painted_stack();
+    size_t untouched = 0;
+    while (untouched < sizeof stack && stack[untouched] == PAINT) {
+        untouched++;
+    }
+    size_t used = sizeof stack - untouched;
+    printf("stack: the calls used %zu bytes, %u refused\n", used, refusals);
+    return used > LIMIT || refusals != 0;
+}

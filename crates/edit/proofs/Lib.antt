@@ -5,3 +5,4 @@ pub mod Changes
 pub mod Headers
 pub mod RowFields
 pub mod OneRow
+pub mod ObjectEdits

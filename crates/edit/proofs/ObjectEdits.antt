@@ -1,0 +1,179 @@
+-- An object taken out or put in: what the steps require, and what memory then stands for. Assumes nothing.
+use Prim.Native.Nat.{ℕ, suc, _+_, _-_, _≤_, _<_, _^_}
+use mathlib.Core.Path.{_≡_, refl, sym, ap, _∙_}
+use mathlib.Core.Bool.{Bool, true, false, cond}
+use mathlib.Core.List.{List, [], _∷_, _++_}
+use mathlib.Core.Option.{Option, none, some}
+use native.Mathlib.Omega.{arith}
+use lib.Dec.{eqb}
+use lib.ListN.{length, take, drop}
+use lib.Seq.{length-take-le}
+use lib.ListN.{length-drop}
+use Rattle.number.specs.NumberLaws.{Bytes}
+use Rattle.md5.specs.declared.words.Digest.{Digest}
+use Rattle.md5.specs.Md5.{bytesOf}
+use Rattle.order.specs.Order.{byBytes}
+use Rattle.order.specs.OrderLaws.{bytes}
+use Rattle.buffer.specs.Buffer.{spliced, rotated}
+use Rattle.machine.specs.Map.{lookup}
+use Rattle.machine.specs.State.{Object, State, held, withObject, withoutObject}
+use Rattle.machine.specs.Valid.{Valid, ObjectOk}
+use Rattle.machine.proofs.MapSums.{length-insert, length-remove}
+use Rattle.machine.proofs.MapLaws.{lookup-insert, every-lookup}
+use Rattle.machine.proofs.KeepsValid.{without-object-valid}
+use Rattle.row.specs.declared.Head.{Head}
+use Rattle.row.specs.Row.{Row, encodeRows, contentsOf, headAt, headOf}
+use Rattle.row.specs.RowLaws.{Encodable}
+use Rattle.layout.specs.declared.Header.{Header}
+use Rattle.layout.specs.Memory.{rowsOf, objectRow, headerAt, whole, stateOf, Stands, etagOf}
+use Rattle.layout.specs.TestLaws.{stored-path-length}
+use Rattle.layout.specs.ObjectLaws.{Etagged, etagged, object-encodable}
+use Rattle.layout.specs.WholeLaws.{whole-stands}
+use Rattle.layout.specs.StandsLaws.{header-back}
+use Rattle.find.specs.declared.Offset.{Offset}
+use Rattle.find.specs.declared.Place.{Place}
+use Rattle.find.specs.Places.{isSome, behind, beforeObject, afterObject, fromObject, objectPlace}
+use Rattle.find.proofs.Splits.{object-place, object-found}
+use Rattle.edit.specs.Header.{headerOf, headed}
+use Rattle.edit.specs.RowBytes.{rowBytes}
+use Rattle.edit.specs.Objects.{objectBehind, Addable}
+use Rattle.edit.proofs.Changes.{without-object-rows, new-object-rows}
+use Rattle.edit.proofs.OneRow as row
+
+pub is-some : {X : Type 0} (o : Option X) → isSome o ≡ true → (x : X) × (o ≡ some x)
+is-some none e = absurd (let z : _≡_ {A = ℕ} 0 1 = cc in omega arith)
+is-some (some x) e = (x, refl)
+
+-- the header with another count of objects
+abbrev pub withObjects : Header → ℕ → Header
+withObjects h n = record { arena = h .arena; next = h .next; objects = n; uploads = h .uploads; parts = h .parts }
+
+module _ (t a : List ℕ) (b : Bytes t) (w : whole t a ≡ true) where
+  abbrev s : State
+  s = stateOf t a
+
+  abbrev stands : Stands t a s
+  stands = whole-stands t a b w
+
+  pub header-inside : 18 ≤ length t
+  header-inside = let z = stands .size in omega arith
+
+  pub header-is : headerAt t ≡ headerOf (length a) s
+  header-is = header-back t a s stands
+
+  module _ (p : List ℕ) (place : Place) (place-is : place ≡ objectPlace s p) (end : Offset) (end-is : end ≡ behind (rowsOf s)) where
+    at-is : place .at ≡ 18 + length (encodeRows (beforeObject s p))
+    unfolding objectPlace
+    at-is = ap (λ (x : Place). x .at) place-is
+
+    base-is : place .base ≡ length (contentsOf (beforeObject s p))
+    unfolding objectPlace
+    base-is = ap (λ (x : Place). x .base) place-is
+
+    used-is : end .at ≡ 18 + length (encodeRows (rowsOf s))
+    used-is = ap (λ (x : Offset). x .at) end-is
+
+    held-is : end .base ≡ length (contentsOf (rowsOf s))
+    held-is = ap (λ (x : Offset). x .base) end-is
+
+    -- taken out
+    module _ (there : isSome (lookup byBytes p (s .O)) ≡ true) where
+      abbrev x : Object
+      x = is-some (lookup byBytes p (s .O)) there .0
+
+      found : lookup byBytes p (s .O) ≡ some x
+      found = is-some (lookup byBytes p (s .O)) there .1
+
+      pub remove-head : place .at + 36 ≤ length t
+      remove-head = row.head-inside t a s stands (beforeObject s p) (objectRow p x) (afterObject s p) (place .at) (place .base) (end .at) (end .base) at-is base-is used-is held-is (object-found s p x found)
+
+      pub some-object : 1 ≤ headerAt t .objects
+      some-object =
+          let n = ap (λ (h : Header). h .objects) header-is in
+          omega (arith, rw found at (length-remove bytes p (s .O)))
+
+      module _ (head : Head) (head-is : head ≡ headAt (drop (place .at) t)) where
+        pub remove-rows : (18 ≤ place .at) × (place .at + (36 + head .pathlen) ≤ end .at) × (end .at ≤ length t)
+        remove-rows = row.rows-inside t a s stands (beforeObject s p) (objectRow p x) (afterObject s p) (place .at) (place .base) (end .at) (end .base) at-is base-is used-is held-is (object-found s p x found) head head-is
+
+        pub remove-data : (place .base + head .size ≤ end .base) × (end .base ≤ length a)
+        remove-data = row.data-inside t a s stands (beforeObject s p) (objectRow p x) (afterObject s p) (place .at) (place .base) (end .at) (end .base) at-is base-is used-is held-is (object-found s p x found) head head-is
+
+        pub remove-stands : (width : ℕ) (header : Header) (t′ a′ : List ℕ) → width ≡ head .pathlen → header ≡ headerAt t
+            → t′ ≡ headed (spliced t (place .at) (36 + width) (end .at) []) (withObjects header (header .objects - 1))
+            → a′ ≡ spliced a (place .base) (head .size) (end .base) [] → length t′ ≡ length t → length a′ ≡ length a → Stands t′ a′ (withoutObject s p)
+        remove-stands width header t′ a′ width-is read e e′ l l′ =
+            let one : length (s .O) - 1 ≡ length (withoutObject s p .O) = omega (arith, rw found at (length-remove bytes p (s .O))) in
+            let was : header ≡ headerOf (length a) s = read ∙ header-is in
+            let after-is : withObjects header (header .objects - 1) ≡ headerOf (length a) (withoutObject s p) = rw (was, one) in
+            row.removed-stands t a s stands (beforeObject s p) (objectRow p x) (afterObject s p) (place .at) (place .base) (end .at) (end .base) at-is base-is used-is held-is (object-found s p x found) head head-is
+            (withoutObject s p) (without-object-valid (length a) s p (stands .valid)) (without-object-rows s p x found) t′ a′ _ after-is
+            (e ∙ ap (λ (n : ℕ). headed (spliced t (place .at) (36 + n) (end .at) []) (withObjects header (header .objects - 1))) width-is) e′ l l′
+
+    -- put in
+    module _ (stamp kind count : ℕ) (digest : Digest) (size : ℕ) (pre : Addable t a stamp kind count digest p size) where
+      abbrev y : Object
+      y = objectBehind t a stamp kind count digest size
+
+      abbrev s′ : State
+      s′ = withObject s p y
+
+      tagged : Etagged kind count (bytesOf digest)
+      tagged = etagged kind count (bytesOf digest) (pre .kind-most) (pre .count-most)
+
+      content-length : length (y .content) ≡ size
+      unfolding objectBehind
+      content-length = length-take-le size (drop (held s) a) (rw length-drop (let r = pre .room in omega arith))
+
+      object-ok : ObjectOk p y
+      object-ok = every-lookup bytes ObjectOk p y (s′ .O) (pre .valid .object) (lookup-insert bytes p y (s .O))
+
+      pub path-most : length p ≤ 128
+      path-most = stored-path-length p (object-ok .path) .below
+
+      pub size-small : size < 256 ^ 4
+      size-small = let r = pre .room in let l = stands .small in omega arith
+
+      pub some-room : headerAt t .objects ≤ 255
+      some-room =
+          let n = ap (λ (h : Header). h .objects) header-is in
+          let v = pre .valid .paths in
+          omega (arith, rw (pre .absent) at (length-insert bytes p y (s .O)))
+
+      row-encodable : Encodable (objectRow p y)
+      row-encodable = object-encodable p y (let r = size-small in omega (arith, content-length)) object-ok
+
+      content-is : take (length (y .content)) (drop (held s) a) ≡ y .content
+      unfolding objectBehind
+      content-is = ap (λ (n : ℕ). take n (drop (held s) a)) content-length
+
+      room : held s + length (y .content) ≤ length a
+      room = let r = pre .room in omega (arith, content-length)
+
+      pub add-row : (18 ≤ place .at) × (place .at ≤ end .at) × (length p ≤ 128) × (end .at + (36 + length p) ≤ length t)
+      add-row = row.row-room t a s stands (beforeObject s p) (objectRow p y) (fromObject s p) (place .at) (place .base) (end .at) (end .base) at-is base-is used-is held-is (object-place s p) s′ (pre .valid) (new-object-rows s p y (pre .absent)) path-most row-encodable content-is room
+
+      pub add-base : place .base ≤ end .base
+      add-base = row.base-inside t a s stands (beforeObject s p) (objectRow p y) (fromObject s p) (place .at) (place .base) (end .at) (end .base) at-is base-is used-is held-is (object-place s p) s′ (pre .valid) (new-object-rows s p y (pre .absent)) path-most row-encodable content-is room
+
+      pub add-data : place .base + (end .base - place .base) + size ≤ length a
+      add-data = let d = row.data-room t a s stands (beforeObject s p) (objectRow p y) (fromObject s p) (place .at) (place .base) (end .at) (end .base) at-is base-is used-is held-is (object-place s p) s′ (pre .valid) (new-object-rows s p y (pre .absent)) path-most row-encodable content-is room in omega (arith, content-length)
+
+      new-head : record { size = size; number = 0; stamp = stamp; kind = kind; pathlen = length p; count = count } ≡ headOf (objectRow p y)
+      unfolding objectBehind
+      new-head = rw (content-length, tagged .same-kind, tagged .same-count)
+
+      digest-is : bytesOf digest ≡ objectRow p y .digest
+      unfolding objectBehind
+      digest-is = sym (tagged .same-digest)
+
+      pub add-stands : (header : Header) (t′ a′ : List ℕ) → header ≡ headerAt t
+          → t′ ≡ headed (spliced t (place .at) 0 (end .at) (rowBytes (record { size = size; number = 0; stamp = stamp; kind = kind; pathlen = length p; count = count }) (bytesOf digest) p))
+          (withObjects header (header .objects + 1))
+          → a′ ≡ rotated a (place .base) (end .base - place .base) size → length t′ ≡ length t → length a′ ≡ length a → Stands t′ a′ (withObject s p y)
+      add-stands header t′ a′ read e e′ l l′ =
+          let one : length (s .O) + 1 ≡ length (s′ .O) = omega (arith, rw (pre .absent) at (length-insert bytes p y (s .O))) in
+          let was : header ≡ headerOf (length a) s = read ∙ header-is in
+          let after-is : withObjects header (header .objects + 1) ≡ headerOf (length a) s′ = rw (was, one) in
+          row.inserted-stands t a s stands (beforeObject s p) (objectRow p y) (fromObject s p) (place .at) (place .base) (end .at) (end .base) at-is base-is used-is held-is (object-place s p) s′ (pre .valid) (new-object-rows s p y (pre .absent)) path-most row-encodable content-is room
+          t′ a′ p (bytesOf digest) _ _ size after-is new-head digest-is refl (sym content-length) e e′ l l′

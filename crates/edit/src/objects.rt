@@ -1,0 +1,75 @@
+// An object put among the others, and taken out.
+use layout::Header;
+use md5::words::Digest;
+use row::Head;
+ghost use mathlib.Core.Path.{_≡_};
+ghost use mathlib.Core.Bool.{true};
+ghost use lib.ListN.{length};
+ghost use Rattle.order.specs.Order.{byBytes};
+ghost use Rattle.machine.specs.Map.{lookup};
+ghost use Rattle.machine.specs.State.{withoutObject, withObject};
+ghost use Rattle.layout.specs.Memory.{whole, stateOf, Stands};
+ghost use Rattle.find.specs.Places.{isSome};
+ghost use Rattle.edit.specs.Objects.{Addable, objectBehind};
+
+// The object at path, taken out.
+pub fn remove_object(tables: &mut [u8], arena: &mut [u8], path: &[u8])
+    requires { ⌜ (whole (now tables) (now arena) ≡ true) × (isSome (lookup byBytes (now path) (stateOf (now tables) (now arena) .O)) ≡ true) ⌝ }
+    ensures { λ _. ⌜ Stands (now (tables .exit)) (now (arena .exit)) (withoutObject (stateOf (now (tables .entry)) (now (arena .entry))) (now (path .entry))) ⌝ }
+{
+    let place = find::find_object(tables, arena, path);
+    let end = find::rows_end(tables, arena);
+    let header = layout::headers::read_header(tables);
+    let at = place.at;
+    let base = place.base;
+    let h = row::read_head(tables, at);
+    let n = 36 + number::wide(h.pathlen) as usize;
+    let m = h.size as usize;
+    let after = Header {
+        arena: header.arena,
+        next: header.next,
+        objects: header.objects - 1,
+        uploads: header.uploads,
+        parts: header.parts,
+    };
+    crate::rows::remove_rows(tables, at, n, end.at, after);
+    buffer::remove(arena, base, m, end.base);
+}
+
+// An object put in at a path that has none; its data, `size` bytes, stand behind the last byte held.
+pub fn add_object(
+    tables: &mut [u8],
+    arena: &mut [u8],
+    stamp: u64,
+    kind: u8,
+    count: u16,
+    digest: Digest,
+    path: &[u8],
+    size: usize,
+)
+    requires { ⌜ Addable (now tables) (now arena) stamp kind count digest (now path) size ⌝ }
+    ensures { λ _. ⌜ Stands (now (tables .exit)) (now (arena .exit)) (withObject (stateOf (now (tables .entry)) (now (arena .entry))) (now (path .entry)) (objectBehind (now (tables .entry)) (now (arena .entry)) stamp kind count digest size)) ⌝ }
+{
+    let place = find::find_object(tables, arena, path);
+    let end = find::rows_end(tables, arena);
+    let header = layout::headers::read_header(tables);
+    let base = place.base;
+    let held = end.base;
+    let h = Head {
+        size: size as u32,
+        number: 0,
+        stamp,
+        kind,
+        pathlen: path.len() as u8,
+        count,
+    };
+    let after = Header {
+        arena: header.arena,
+        next: header.next,
+        objects: header.objects + 1,
+        uploads: header.uploads,
+        parts: header.parts,
+    };
+    crate::rows::insert_row(tables, place.at, end.at, h, digest, path, after);
+    buffer::rotate(arena, base, held - base, size);
+}

@@ -1,0 +1,4 @@
+pub mod Rows
+pub mod Search
+pub mod Bringing
+pub mod Ordering

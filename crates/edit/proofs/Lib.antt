@@ -6,3 +6,6 @@ pub mod Headers
 pub mod RowFields
 pub mod OneRow
 pub mod ObjectEdits
+pub mod Tail
+pub mod MapEdits
+pub mod PutLaws

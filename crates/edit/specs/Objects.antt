@@ -11,6 +11,7 @@ use Rattle.md5.specs.Md5.{bytesOf}
 use Rattle.order.specs.Order.{byBytes}
 use Rattle.machine.specs.Map.{lookup}
 use Rattle.machine.specs.Names.{Bytes}
+use Rattle.machine.specs.Etags.{plain}
 use Rattle.machine.specs.State.{Object, held, withObject}
 use Rattle.machine.specs.Valid.{Valid}
 use Rattle.layout.specs.Memory.{whole, stateOf, etagOf}
@@ -18,6 +19,10 @@ use Rattle.layout.specs.Memory.{whole, stateOf, etagOf}
 unfoldable pub objectBehind : (t a : List ℕ) (stamp kind count : ℕ) (digest : Digest) (size : ℕ) → Object
 objectBehind t a stamp kind count digest size =
     record { content = take size (drop (held (stateOf t a)) a); created = stamp; etag = etagOf kind (bytesOf digest) count }
+
+-- an object with a plain etag
+abbrev pub plainWith : (stamp : ℕ) (digest : Digest) (content : List ℕ) → Object
+plainWith stamp digest content = record { content = content; created = stamp; etag = plain (bytesOf digest) }
 
 -- the path has no object, and the state with this one keeps the rules and ceilings
 pub record Addable (t a : List ℕ) (stamp kind count : ℕ) (digest : Digest) (path : Bytes) (size : ℕ) : Type 0 where

@@ -10,7 +10,8 @@ ghost use Rattle.machine.specs.Map.{lookup};
 ghost use Rattle.machine.specs.State.{withoutObject, withObject};
 ghost use Rattle.layout.specs.Memory.{whole, stateOf, Stands};
 ghost use Rattle.find.specs.Places.{isSome};
-ghost use Rattle.edit.specs.Objects.{Addable, objectBehind};
+ghost use Rattle.machine.specs.Valid.{Valid};
+ghost use Rattle.edit.specs.Objects.{Addable, objectBehind, plainWith};
 
 // The object at path, taken out.
 pub fn remove_object(tables: &mut [u8], arena: &mut [u8], path: &[u8])
@@ -72,4 +73,34 @@ pub fn add_object(
     };
     crate::rows::insert_row(tables, place.at, end.at, h, digest, path, after);
     buffer::rotate(arena, base, held - base, size);
+}
+
+// The object at path becomes one with this data and a plain etag. What stood there goes first, so that its bytes are free.
+pub fn put_object(
+    tables: &mut [u8],
+    arena: &mut [u8],
+    stamp: u64,
+    digest: Digest,
+    path: &[u8],
+    content: &[u8],
+)
+    requires { ⌜ (whole (now tables) (now arena) ≡ true) × Valid (length (now arena)) (withObject (stateOf (now tables) (now arena)) (now path) (plainWith stamp digest (now content))) ⌝ }
+    ensures { λ _. ⌜ Stands (now (tables .exit)) (now (arena .exit)) (withObject (stateOf (now (tables .entry)) (now (arena .entry))) (now (path .entry)) (plainWith stamp digest (now (content .entry)))) ⌝ }
+{
+    free_path(tables, arena, path);
+    let end = find::rows_end(tables, arena);
+    let held = end.base;
+    buffer::copy_at(arena, held, content);
+    add_object(tables, arena, stamp, 0, 0, digest, path, content.len());
+}
+
+// The object at path taken out, if there is one.
+fn free_path(tables: &mut [u8], arena: &mut [u8], path: &[u8])
+    requires { ⌜ whole (now tables) (now arena) ≡ true ⌝ }
+    ensures { λ _. ⌜ Stands (now (tables .exit)) (now (arena .exit)) (withoutObject (stateOf (now (tables .entry)) (now (arena .entry))) (now (path .entry))) ⌝ }
+{
+    let place = find::find_object(tables, arena, path);
+    if place.found {
+        remove_object(tables, arena, path);
+    }
 }

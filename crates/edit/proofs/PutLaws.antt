@@ -1,0 +1,93 @@
+-- An object put in place of another: what the steps require, and what memory then stands for. Assumes nothing.
+use Prim.Native.Nat.{ℕ, _+_, _≤_}
+use mathlib.Core.Path.{_≡_, refl, sym, ap, _∙_, subst}
+use mathlib.Core.Bool.{Bool, true, false}
+use mathlib.Core.List.{List}
+use mathlib.Core.Option.{Option, none, some}
+use native.Mathlib.Omega.{arith}
+use lib.ListN.{length, take, drop}
+use Rattle.md5.specs.declared.words.Digest.{Digest}
+use Rattle.md5.specs.Md5.{bytesOf}
+use Rattle.number.specs.NumberLaws.{Bytes}
+use Rattle.number.proofs.Fields.{over}
+use Rattle.order.specs.Order.{byBytes}
+use Rattle.order.specs.OrderLaws.{bytes}
+use Rattle.machine.specs.Map.{Map, lookup, insert, remove, owed}
+use Rattle.machine.specs.State.{Object, State, objectLength, held, withO, withObject, withoutObject}
+use Rattle.machine.specs.Valid.{Valid}
+use Rattle.machine.proofs.MapLaws.{lookup-remove}
+use Rattle.machine.proofs.Counts.{held-put, held-delete}
+use Rattle.row.specs.Row.{contentsOf}
+use Rattle.layout.specs.Memory.{rowsOf, whole, stateOf, Stands}
+use Rattle.layout.specs.RowCounts.{length-contents}
+use Rattle.layout.specs.WholeLaws.{whole-stands}
+use Rattle.layout.specs.StandsLaws.{stands-state, stands-whole}
+use Rattle.find.specs.declared.Offset.{Offset}
+use Rattle.find.specs.declared.Place.{Place}
+use Rattle.find.specs.Places.{isSome, behind, objectPlace}
+use Rattle.edit.specs.Objects.{objectBehind, plainWith, Addable}
+use Rattle.edit.proofs.MapEdits.{remove-absent, insert-removed}
+use Rattle.edit.proofs.Tail.{tail-stands, tail-read}
+
+-- the place says whether there is one
+pub place-found : (s : State) (p : List ℕ) (place : Place) (b : Bool) → place ≡ objectPlace s p → place .found ≡ b → isSome (lookup byBytes p (s .O)) ≡ b
+unfolding objectPlace
+place-found s p place b is e = sym (ap (λ (x : Place). x .found) is) ∙ e
+
+is-none : {X : Type 0} (o : Option X) → isSome o ≡ false → o ≡ none
+is-none none e = refl
+is-none (some x) e = cc
+
+-- taking out an object that is not there changes nothing
+pub free-already : (t a p : List ℕ) → Bytes t → whole t a ≡ true → isSome (lookup byBytes p (stateOf t a .O)) ≡ false → Stands t a (withoutObject (stateOf t a) p)
+free-already t a p b w e =
+    subst (λ (m : Map (List ℕ) Object). Stands t a (withO (stateOf t a) m)) (sym (remove-absent bytes p (stateOf t a .O) (is-none _ e))) (whole-stands t a b w)
+
+-- memory t₁, a₁ stands for s without the object at p; content then goes behind the last byte held
+module _ (s : State) (p content : List ℕ) (stamp : ℕ) (digest : Digest) (A : ℕ) (v : Valid A s) (valid : Valid A (withObject s p (plainWith stamp digest content)))
+    (t₁ a₁ : List ℕ) (h : Stands t₁ a₁ (withoutObject s p)) (keeps : length a₁ ≡ A)
+    (end : Offset) (end-is : end ≡ behind (rowsOf (stateOf t₁ a₁))) where
+  abbrev s₁ : State
+  s₁ = withoutObject s p
+
+  abbrev y : Object
+  y = plainWith stamp digest content
+
+  held-is : end .base ≡ held s₁
+  held-is = ap (λ (x : Offset). x .base) end-is ∙ ap (λ (x : State). length (contentsOf (rowsOf x))) (stands-state t₁ a₁ s₁ h) ∙ length-contents s₁
+
+  pub put-room : end .base + length content ≤ length a₁
+  put-room = let r = valid .room in omega (arith, held-is, held-put s p y, held-delete s p)
+
+  module _ (a₂ : List ℕ) (e : a₂ ≡ over a₁ (end .base) content (length content)) (keeps₂ : length a₂ ≡ length a₁) where
+    written : a₂ ≡ over a₁ (held s₁) content (length content)
+    written = e ∙ ap (λ (i : ℕ). over a₁ i content (length content)) held-is
+
+    there : Stands t₁ a₂ s₁
+    there = tail-stands t₁ a₁ s₁ h a₂ content (length content) written keeps₂
+
+    state-is : stateOf t₁ a₂ ≡ s₁
+    state-is = stands-state t₁ a₂ s₁ there
+
+    object-is : objectBehind t₁ a₂ stamp 0 0 digest (length content) ≡ y
+    unfolding objectBehind
+    object-is =
+        let c : take (length content) (drop (held (stateOf t₁ a₂)) a₂) ≡ content = ap (λ (x : State). take (length content) (drop (held x) a₂)) state-is ∙ tail-read t₁ a₁ s₁ h a₂ content (length content) written keeps₂ in
+        ap (plainWith stamp digest) c
+
+    target : withObject (stateOf t₁ a₂) p (objectBehind t₁ a₂ stamp 0 0 digest (length content)) ≡ withObject s p y
+    target = rw (state-is, object-is) (ap (withO s) (insert-removed bytes p y (s .O) (v .objects)))
+
+    pub put-addable : Addable t₁ a₂ stamp 0 0 digest p (length content)
+    put-addable =
+        record {
+          is-whole = stands-whole t₁ a₂ s₁ there;
+          absent = ap (λ (x : State). lookup byBytes p (x .O)) state-is ∙ lookup-remove bytes p (s .O) (v .objects);
+          room = let r = put-room in omega (arith, held-is, ap held state-is);
+          kind-most = omega arith;
+          count-most = omega arith;
+          valid = subst (Valid (length a₂)) (sym target) (subst (λ (n : ℕ). Valid n (withObject s p y)) (sym (keeps₂ ∙ keeps)) valid);
+        }
+
+    pub put-stands : (t′ a′ : List ℕ) → Stands t′ a′ (withObject (stateOf t₁ a₂) p (objectBehind t₁ a₂ stamp 0 0 digest (length content))) → Stands t′ a′ (withObject s p y)
+    put-stands t′ a′ g = subst (Stands t′ a′) target g

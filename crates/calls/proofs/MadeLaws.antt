@@ -6,7 +6,7 @@ use mathlib.Core.List.{List, []}
 use native.Mathlib.Omega.{arith}
 use lib.ListN.{length}
 use Rattle.machine.specs.State.{State}
-use Rattle.machine.specs.Calls.{Call, Reply, Answer, Outcome, refuse, accept, Refusal, badRequest, notFound, tableFull, arenaFull, numbersUsedUp, bufferShort, code, lent}
+use Rattle.machine.specs.Calls.{Call, Reply, Answer, Outcome, refuse, accept, lent}
 use Rattle.machine.specs.Steps.{act, reply, next, replyOf, after}
 use Rattle.layout.specs.Memory.{whole, stateOf, Stands}
 use Rattle.layout.specs.StandsLaws.{stands-state, stands-whole}
@@ -29,14 +29,6 @@ not-whole k m w =
       arena-length = refl;
       refusal = λ _. refl;
     }
-
-code-not-zero : (n : Refusal) → code n ≡ 0 → ⊥
-code-not-zero badRequest e = omega arith
-code-not-zero notFound e = omega arith
-code-not-zero tableFull e = omega arith
-code-not-zero arenaFull e = omega arith
-code-not-zero numbersUsedUp e = omega arith
-code-not-zero bufferShort e = omega arith
 
 -- a refusal that was judged over whole memory
 pub judged : (k : Call) (m : Memory) (n : ℕ) → wholeMemory m ≡ true → n ≡ resultOf (outcome k m) → (n ≡ 0 → ⊥) → Made k m (refused n (lent k)) m

@@ -1,0 +1,278 @@
+-- An upload opened, or taken out with its parts: what the steps require, and what memory then stands for. Assumes nothing.
+use Prim.Native.Nat.{ℕ, _+_, _-_, _≤_, _<_, _^_}
+use mathlib.Core.Path.{_≡_, refl, sym, ap, _∙_}
+use mathlib.Core.Bool.{true}
+use mathlib.Core.List.{List, [], _∷_, _++_, append-assoc}
+use mathlib.Core.Option.{none, some}
+use native.Mathlib.Omega.{arith}
+use lib.ListN.{length, take, drop, length-append, take-append-drop}
+use Rattle.number.specs.NumberLaws.{Bytes}
+use Rattle.number.specs.Number.{le}
+use Rattle.md5.specs.declared.words.Digest.{Digest}
+use Rattle.md5.specs.Md5.{bytesOf}
+use Rattle.order.specs.OrderLaws.{numbers, compare-above}
+use Rattle.buffer.specs.Buffer.{spliced, rotated}
+use Rattle.machine.specs.Map.{Map, byNumber, lookup, Every, total}
+use Rattle.machine.specs.State.{Upload, State, held, partsIn, withUpload, withoutUpload, withNext}
+use Rattle.machine.specs.Steps.{newUpload}
+use Rattle.machine.specs.Valid.{Valid, UploadOk}
+use Rattle.machine.proofs.MapSums.{length-insert, length-remove, total-insert, total-remove, total-share}
+use Rattle.machine.proofs.MapLaws.{lookup-insert, every-lookup}
+use Rattle.machine.proofs.KeepsValid.{without-upload-valid}
+use Rattle.row.specs.declared.Head.{Head}
+use Rattle.row.specs.Row.{Row, encodeRows, contentsOf, headOf}
+use Rattle.row.specs.RowLaws.{Encodable, encode-append, contents-append}
+use Rattle.layout.specs.declared.Header.{Header}
+use Rattle.layout.specs.Rules.{zeros}
+use Rattle.layout.specs.Memory.{rowsOf, uploadRow, partRows, headerAt, whole, stateOf, Stands}
+use Rattle.layout.specs.TestLaws.{stored-path-length}
+use Rattle.layout.specs.UploadLaws.{upload-encodable}
+use Rattle.layout.specs.WholeLaws.{whole-stands}
+use Rattle.layout.specs.StandsLaws.{header-back}
+use Rattle.layout.specs.RowCounts.{length-contents}
+use Rattle.find.specs.declared.Offset.{Offset}
+use Rattle.find.specs.declared.Place.{Place}
+use Rattle.find.specs.declared.Parts.{Parts}
+use Rattle.find.specs.Places.{isSome, behind, beforeUpload, beforeParts, afterUpload, throughParts, uploadPlace, partsOf}
+use Rattle.find.proofs.Splits.{upload-found, parts-behind}
+use Rattle.edit.specs.Header.{headerOf, headed}
+use Rattle.edit.specs.RowBytes.{rowBytes}
+use Rattle.edit.proofs.Changes.{new-upload-rows, without-upload-rows}
+use Rattle.edit.proofs.Fit.{tables-fit}
+use Rattle.edit.proofs.ObjectEdits.{is-some}
+use Rattle.edit.proofs.Standing.{removed}
+use Rattle.edit.proofs.OneRow as row
+
+append-nil : {A : Type 0} (l : List A) → l ++ [] ≡ l
+append-nil [] = refl
+append-nil {A} (x ∷ l) = ap (λ (m : List A). x ∷ m) (append-nil l)
+
+-- no upload has the coming number
+no-upload : (N : ℕ) (us : Map ℕ Upload) → Every (UploadOk N) us → lookup byNumber N us ≡ none
+no-upload N [] v = refl
+no-upload N (e ∷ us) v = rw (compare-above N (e .0) (v .0 .high)) (no-upload N us (v .1))
+
+-- the digest of a row that has none
+abbrev zeroDigest : Digest
+zeroDigest = record { a = 0; b = 0; c = 0; d = 0 }
+
+zero-bytes : bytesOf zeroDigest ≡ zeros
+unfolding bytesOf le
+zero-bytes = refl
+
+-- no bytes are turned
+rotated-none : (a : List ℕ) (at : ℕ) → rotated a at (at - at) 0 ≡ a
+rotated-none a at =
+    let z : at - at ≡ 0 = omega arith in
+    let i : at + 0 + 0 ≡ at = omega arith in
+    ap (λ (n : ℕ). rotated a at n 0) z ∙ ap (λ (n : ℕ). take at a ++ drop n a) i ∙ take-append-drop at a
+
+module _ (t a : List ℕ) (b : Bytes t) (w : whole t a ≡ true) (end : Offset) (end-is : end ≡ behind (rowsOf (stateOf t a)))
+    (header : Header) (read : header ≡ headerAt t) where
+  abbrev s : State
+  s = stateOf t a
+
+  abbrev stands : Stands t a s
+  stands = whole-stands t a b w
+
+  header-is : header ≡ headerOf (length a) s
+  header-is = read ∙ header-back t a s stands
+
+  uploads-are : header .uploads ≡ length (s .U)
+  uploads-are = ap (λ (h : Header). h .uploads) header-is
+
+  parts-are : header .parts ≡ total partsIn (s .U)
+  parts-are = ap (λ (h : Header). h .parts) header-is
+
+  used-is : end .at ≡ 18 + length (encodeRows (rowsOf s))
+  used-is = ap (λ (x : Offset). x .at) end-is
+
+  held-is : end .base ≡ length (contentsOf (rowsOf s))
+  held-is = ap (λ (x : Offset). x .base) end-is
+
+  -- opened
+  module _ (stamp : ℕ) (p : List ℕ) (valid : Valid (length a) (withNext (withUpload s (s .N) (newUpload stamp p)))) where
+    abbrev x : Upload
+    x = newUpload stamp p
+
+    abbrev s′ : State
+    s′ = withNext (withUpload s (s .N) x)
+
+    upload-ok : UploadOk (s .N + 1) (s .N) x
+    upload-ok = every-lookup numbers (UploadOk (s .N + 1)) (s .N) x (s′ .U) (valid .upload) (lookup-insert numbers (s .N) x (s .U))
+
+    absent : lookup byNumber (s .N) (s .U) ≡ none
+    absent = no-upload (s .N) (s .U) (stands .valid .upload)
+
+    one-more : length (s .U) + 1 ≡ length (s′ .U)
+    one-more = omega (arith, rw absent at (length-insert numbers (s .N) x (s .U)))
+
+    same-parts : total partsIn (s .U) ≡ total partsIn (s′ .U)
+    same-parts = omega (arith, rw absent at (total-insert numbers partsIn (s .N) x (s .U)))
+
+    path-most : length p ≤ 128
+    path-most = stored-path-length p (upload-ok .path) .below
+
+    row-encodable : Encodable (uploadRow (s .N) x)
+    row-encodable = upload-encodable (s .N + 1) (s .N) x (valid .last) upload-ok
+
+    no-room : held s + 0 ≤ length a
+    no-room = let l = stands .valid .room in omega arith
+
+    split : rowsOf s ≡ rowsOf s ++ []
+    split = sym (append-nil (rowsOf s))
+
+    split′ : rowsOf s′ ≡ rowsOf s ++ (uploadRow (s .N) x ∷ [])
+    split′ = new-upload-rows s x (s .N + 1) (stands .valid .upload) refl
+
+    abbrev opened : Header
+    opened = record { arena = header .arena; next = header .next + 1; objects = header .objects; uploads = header .uploads + 1; parts = header .parts }
+
+    opened-is : opened ≡ headerOf (length a) s′
+    opened-is = rw (header-is, one-more, same-parts)
+
+    abbrev head : Head
+    head = record { size = 0; number = header .next; stamp = stamp; kind = 2; pathlen = length p; count = 0 }
+
+    head-is : head ≡ headOf (uploadRow (s .N) x)
+    head-is = rw header-is
+
+    pub record Opening : Type 0 where
+      pub path : length p ≤ 128
+      pub number : header .next < 256 ^ 4
+      pub count : header .uploads ≤ 15
+      pub room : (18 ≤ end .at) × (end .at ≤ end .at) × (length p ≤ 128) × (end .at + (36 + length p) ≤ length t)
+      pub stands : (t′ : List ℕ) → t′ ≡ headed (spliced t (end .at) 0 (end .at) (rowBytes head (bytesOf zeroDigest) p)) opened → length t′ ≡ length t → Stands t′ a s′
+
+    pub opening : Opening
+    opening =
+        record {
+          path = path-most;
+          number = let n = ap (λ (h : Header). h .next) header-is in let l = valid .last in omega arith;
+          count = let l = valid .opens in omega (arith, uploads-are, one-more);
+          room =
+              row.row-room t a s stands (rowsOf s) (uploadRow (s .N) x) [] (end .at) (end .base) (end .at) (end .base) used-is held-is used-is held-is
+              split s′ valid split′ path-most row-encodable refl no-room;
+          stands =
+              λ t′ e l.
+              row.inserted-stands t a s stands (rowsOf s) (uploadRow (s .N) x) [] (end .at) (end .base) (end .at) (end .base) used-is held-is used-is held-is
+              split s′ valid split′ path-most row-encodable refl no-room
+              t′ a p (bytesOf zeroDigest) _ _ 0 opened-is head-is zero-bytes refl refl e (sym (rotated-none a (end .base))) l refl;
+        }
+
+  -- taken out
+  module _ (u : ℕ) (there : isSome (lookup byNumber u (s .U)) ≡ true) (place : Place) (place-is : place ≡ uploadPlace s u)
+      (parts : Parts) (parts-told : (x : Upload) → lookup byNumber u (s .U) ≡ some x → parts ≡ partsOf s u x) where
+    abbrev y : Upload
+    y = is-some (lookup byNumber u (s .U)) there .0
+
+    found : lookup byNumber u (s .U) ≡ some y
+    found = is-some (lookup byNumber u (s .U)) there .1
+
+    abbrev gone : List Row
+    gone = uploadRow u y ∷ partRows (y .parts)
+
+    through : throughParts s u y ≡ beforeUpload s u ++ gone
+    unfolding throughParts beforeParts
+    through = append-assoc (beforeUpload s u) (uploadRow u y ∷ []) (partRows (y .parts))
+
+    at-is : place .at ≡ 18 + length (encodeRows (beforeUpload s u))
+    unfolding uploadPlace
+    at-is = ap (λ (k : Place). k .at) place-is
+
+    base-is : place .base ≡ length (contentsOf (beforeUpload s u))
+    unfolding uploadPlace
+    base-is = ap (λ (k : Place). k .base) place-is
+
+    count-is : parts .count ≡ length (y .parts)
+    unfolding partsOf
+    count-is = ap (λ (k : Parts). k .count) (parts-told y found)
+
+    at-through : parts .at ≡ 18 + length (encodeRows (throughParts s u y))
+    unfolding partsOf
+    at-through = ap (λ (k : Parts). k .at) (parts-told y found)
+
+    base-through : parts .base ≡ length (contentsOf (throughParts s u y))
+    unfolding partsOf
+    base-through = ap (λ (k : Parts). k .base) (parts-told y found)
+
+    parts-at : parts .at ≡ place .at + length (encodeRows gone)
+    parts-at =
+        omega (
+          arith,
+          at-through,
+          at-is,
+          ap length (ap encodeRows through ∙ encode-append (beforeUpload s u) gone),
+          length-append (encodeRows (beforeUpload s u)) (encodeRows gone),
+        )
+
+    parts-base : parts .base ≡ place .base + length (contentsOf gone)
+    parts-base =
+        omega (
+          arith,
+          base-through,
+          base-is,
+          ap length (ap contentsOf through ∙ contents-append (beforeUpload s u) gone),
+          length-append (contentsOf (beforeUpload s u)) (contentsOf gone),
+        )
+
+    rows-length : end .at ≡ parts .at + length (encodeRows (afterUpload s u))
+    rows-length =
+        omega (
+          arith,
+          used-is,
+          at-through,
+          ap length (ap encodeRows (parts-behind s u y found) ∙ encode-append (throughParts s u y) (afterUpload s u)),
+          length-append (encodeRows (throughParts s u y)) (encodeRows (afterUpload s u)),
+        )
+
+    data-length : end .base ≡ parts .base + length (contentsOf (afterUpload s u))
+    data-length =
+        omega (
+          arith,
+          held-is,
+          base-through,
+          ap length (ap contentsOf (parts-behind s u y found) ∙ contents-append (throughParts s u y) (afterUpload s u)),
+          length-append (contentsOf (throughParts s u y)) (contentsOf (afterUpload s u)),
+        )
+
+    abbrev closed : Header
+    closed = record { arena = header .arena; next = header .next; objects = header .objects; uploads = header .uploads - 1; parts = header .parts - parts .count }
+
+    closed-is : closed ≡ headerOf (length a) (withoutUpload s u)
+    closed-is =
+        let one : length (s .U) - 1 ≡ length (withoutUpload s u .U) = omega (arith, rw found at (length-remove numbers u (s .U))) in
+        let less : total partsIn (s .U) - parts .count ≡ total partsIn (withoutUpload s u .U) = omega (arith, count-is, rw found at (total-remove numbers partsIn u (s .U))) in
+        rw (header-is, one, less)
+
+    pub record Removal : Type 0 where
+      pub span : place .at ≤ parts .at
+      pub size : place .base ≤ parts .base
+      pub uploads : 1 ≤ header .uploads
+      pub count : parts .count ≤ header .parts
+      pub few : header .parts ≤ 256
+      pub rows : (18 ≤ place .at) × (place .at + (parts .at - place .at) ≤ end .at) × (end .at ≤ length t)
+      pub content : (place .base + (parts .base - place .base) ≤ end .base) × (end .base ≤ length a)
+      pub stands : (t′ a′ : List ℕ) → t′ ≡ headed (spliced t (place .at) (parts .at - place .at) (end .at) []) closed
+          → a′ ≡ spliced a (place .base) (parts .base - place .base) (end .base) [] → length t′ ≡ length t → length a′ ≡ length a → Stands t′ a′ (withoutUpload s u)
+
+    pub removal : Removal
+    removal =
+        let span : place .at ≤ parts .at = omega (arith, parts-at) in
+        let size : place .base ≤ parts .base = omega (arith, parts-base) in
+        record {
+          span = span;
+          size = size;
+          uploads = omega (arith, uploads-are, rw found at (length-remove numbers u (s .U)));
+          count = omega (arith, count-is, parts-are, total-share numbers partsIn u y (s .U) found);
+          few = let l = stands .valid .parts in omega (arith, parts-are);
+          rows =
+              let f = tables-fit (length a) s (stands .small) (stands .valid) in
+              (omega (arith, at-is), omega (arith, rows-length), omega (arith, used-is, stands .size));
+          content = let v = stands .valid .room in (omega (arith, data-length), omega (arith, held-is, length-contents s));
+          stands =
+              λ t′ a′ e e′ l l′.
+              removed t a s stands (withoutUpload s u) (without-upload-valid (length a) s u (stands .valid)) _ t′ a′ _ closed-is e l l′ (beforeUpload s u) gone (afterUpload s u)
+              (place .at) (parts .at - place .at) (end .at) (place .base) (parts .base - place .base) (end .base) (upload-found s u y found) (without-upload-rows s u y found)
+              at-is (omega (arith, parts-at)) used-is refl base-is (omega (arith, parts-base)) held-is e′;
+        }

@@ -1,0 +1,2 @@
+// Changes of uploads and parts, in memory that stands for a state.
+pub mod uploads;

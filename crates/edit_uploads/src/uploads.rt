@@ -1,0 +1,69 @@
+// An upload opened, and taken out with its parts.
+use layout::Header;
+use md5::words::Digest;
+use row::Head;
+ghost use mathlib.Core.Path.{_≡_};
+ghost use mathlib.Core.Bool.{true};
+ghost use lib.ListN.{length};
+ghost use Rattle.machine.specs.Map.{byNumber, lookup};
+ghost use Rattle.machine.specs.State.{withUpload, withoutUpload, withNext};
+ghost use Rattle.machine.specs.Steps.{newUpload};
+ghost use Rattle.machine.specs.Valid.{Valid};
+ghost use Rattle.layout.specs.Memory.{whole, stateOf, Stands};
+ghost use Rattle.find.specs.Places.{isSome};
+
+// An upload without parts, put behind all rows with the coming number. No data change.
+pub fn open_upload(tables: &mut [u8], arena: &[u8], stamp: u64, path: &[u8])
+    requires { ⌜ (whole (now tables) (now arena) ≡ true) × Valid (length (now arena)) (withNext (withUpload (stateOf (now tables) (now arena)) (stateOf (now tables) (now arena) .N) (newUpload stamp (now path)))) ⌝ }
+    ensures { λ _. ⌜ Stands (now (tables .exit)) (now (arena .entry)) (withNext (withUpload (stateOf (now (tables .entry)) (now (arena .entry))) (stateOf (now (tables .entry)) (now (arena .entry)) .N) (newUpload stamp (now (path .entry))))) ⌝ }
+{
+    let end = find::rows_end(tables, arena);
+    let header = layout::headers::read_header(tables);
+    let used = end.at;
+    let h = Head {
+        size: 0,
+        number: header.next as u32,
+        stamp,
+        kind: 2,
+        pathlen: path.len() as u8,
+        count: 0,
+    };
+    let digest = Digest {
+        a: 0,
+        b: 0,
+        c: 0,
+        d: 0,
+    };
+    let after = Header {
+        arena: header.arena,
+        next: header.next + 1,
+        objects: header.objects,
+        uploads: header.uploads + 1,
+        parts: header.parts,
+    };
+    edit::rows::insert_row(tables, used, used, h, digest, path, after);
+}
+
+// The upload with this number, taken out with its parts.
+pub fn remove_upload(tables: &mut [u8], arena: &mut [u8], upload: u32)
+    requires { ⌜ (whole (now tables) (now arena) ≡ true) × (isSome (lookup byNumber upload (stateOf (now tables) (now arena) .U)) ≡ true) ⌝ }
+    ensures { λ _. ⌜ Stands (now (tables .exit)) (now (arena .exit)) (withoutUpload (stateOf (now (tables .entry)) (now (arena .entry))) upload) ⌝ }
+{
+    let place = find::find_upload(tables, arena, upload);
+    let parts = find::parts_end(tables, arena, upload);
+    let end = find::rows_end(tables, arena);
+    let header = layout::headers::read_header(tables);
+    let at = place.at;
+    let base = place.base;
+    let n = parts.at - at;
+    let m = parts.base - base;
+    let after = Header {
+        arena: header.arena,
+        next: header.next,
+        objects: header.objects,
+        uploads: header.uploads - 1,
+        parts: header.parts - parts.count as u16,
+    };
+    edit::rows::remove_rows(tables, at, n, end.at, after);
+    buffer::remove(arena, base, m, end.base);
+}

@@ -1,12 +1,11 @@
 -- A part brought to the front of those that remain. Assumes nothing.
 use Prim.Native.Nat.{ℕ, suc, _+_, _≤_}
-use mathlib.Core.Path.{_≡_, refl, sym, ap, _∙_}
-use mathlib.Core.List.{List, [], _∷_, _++_, append-assoc}
-use mathlib.Core.Option.{some}
+use mathlib.Core.Path.{_≡_, sym, ap, _∙_}
+use mathlib.Core.List.{List, _∷_, _++_, append-assoc}
 use native.Mathlib.Omega.{arith}
 use lib.ListN.{length, take, drop}
 use Rattle.order.specs.OrderLaws.{numbers}
-use Rattle.machine.specs.Map.{Map, byNumber, lookup, remove, place}
+use Rattle.machine.specs.Map.{Map, byNumber, remove, place}
 use Rattle.machine.specs.State.{Part}
 use Rattle.machine.proofs.MapPlaces.{split-found, remove-old}
 use Rattle.buffer.specs.Buffer.{rotated}

@@ -2,3 +2,4 @@ pub mod Rows
 pub mod Search
 pub mod Bringing
 pub mod Ordering
+pub mod Gathering

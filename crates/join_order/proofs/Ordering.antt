@@ -2,7 +2,7 @@
 use Prim.Native.Nat.{ℕ, suc, _+_, _*_, _≤_, _<_}
 use mathlib.Core.Path.{_≡_, refl, sym, ap, ap₂, _∙_, subst}
 use mathlib.Core.List.{List, [], _∷_, _++_, append-assoc}
-use mathlib.Core.Option.{none, some}
+use mathlib.Core.Option.{some}
 use native.Mathlib.Nat.{not-suc-le-zero}
 use native.Mathlib.Omega.{arith}
 use lib.ListN.{length, take, drop, length-append, length-drop}
@@ -15,12 +15,12 @@ use Rattle.machine.specs.Steps.{fit, contents}
 use Rattle.machine.proofs.Options.{none-some}
 use Rattle.machine.proofs.MapPlaces.{split-found, remove-old}
 use Rattle.machine.proofs.Fit.{fit-cons}
-use Rattle.row.specs.Row.{Row, encodeRow, encodeRows, contentsOf}
-use Rattle.row.specs.RowLaws.{Encodable, EncodableAll, length-row}
+use Rattle.row.specs.Row.{encodeRow, encodeRows, contentsOf}
+use Rattle.row.specs.RowLaws.{EncodableAll}
 use Rattle.layout.specs.Memory.{partRow, partRows}
 use Rattle.calls.specs.Answers.{partList}
 use Rattle.join_order.specs.Region.{Region, PartAt, Brought, listedRows, ListedAt, orderedTables, orderedArena}
-use Rattle.join_order.proofs.Rows.{Here, row-here, encodable-without}
+use Rattle.join_order.proofs.Rows.{row-here, encodable-without}
 
 -- the first number of a list with no odd byte
 pub record First (bs : List ℕ) : Type 0 where

@@ -7,7 +7,6 @@ use lib.ListN.{length, drop, length-append}
 use lib.Seq.{drop-at}
 use Rattle.machine.specs.Map.{Map}
 use Rattle.machine.specs.State.{Part}
-use Rattle.row.specs.declared.Head.{Head}
 use Rattle.row.specs.Row.{Row, encodeRow, encodeRows, contentsOf, headAt, headOf}
 use Rattle.row.specs.RowLaws.{Encodable, EncodableAll, encode-append, contents-append, encodable-right, length-row, head-back}
 use Rattle.layout.specs.Memory.{partRow, partRows}

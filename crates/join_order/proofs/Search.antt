@@ -1,21 +1,20 @@
 -- The search for a part's row, row by row. Assumes nothing.
-use Prim.Native.Nat.{ℕ, _+_, _≤_, Ordering, Ordering·lt, Ordering·eq, Ordering·gt}
+use Prim.Native.Nat.{ℕ, _+_, _≤_, Ordering·eq, Ordering·gt}
 use mathlib.Core.Path.{_≡_, refl, sym, ap, _∙_}
 use mathlib.Core.List.{List, [], _∷_, _++_, append-assoc}
-use mathlib.Core.Option.{none, some}
+use mathlib.Core.Option.{some}
 use native.Mathlib.Omega.{arith}
-use lib.ListN.{length, take, drop, length-append}
+use lib.ListN.{length, take, drop}
 use lib.Seq.{take-at}
 use Rattle.order.specs.OrderLaws.{numbers, cases}
 use Rattle.machine.specs.Map.{Map, byNumber, lookup, place}
 use Rattle.machine.specs.State.{Part}
-use Rattle.machine.proofs.MapSplits.{Below, lookup-append, place-append}
+use Rattle.machine.proofs.MapSplits.{Below, place-append}
 use Rattle.machine.proofs.Options.{none-some}
 use Rattle.row.specs.declared.Head.{Head}
-use Rattle.row.specs.Row.{encodeRow, encodeRows, contentsOf, headAt, headOf}
+use Rattle.row.specs.Row.{encodeRows, contentsOf, headAt, headOf}
 use Rattle.layout.specs.Memory.{partRow, partRows}
-use Rattle.join_order.specs.declared.Found.{Found}
-use Rattle.join_order.specs.Region.{Region, PartAt, foundIn}
+use Rattle.join_order.specs.Region.{PartAt, foundIn}
 use Rattle.join_order.proofs.Rows.{rowBytes, dataBytes, length-rows-snoc, length-data-snoc, Here, row-here}
 
 -- the parts passed have numbers below n, and e is the next

@@ -1,6 +1,8 @@
 // An upload's parts, brought into listed order where they stand.
+pub mod digests;
+
 ghost use mathlib.Core.Path.{_≡_};
-ghost use Rattle.join_order.specs.Region.{Region, PartAt, foundIn, Brought, ListedAt, orderedTables, orderedArena};
+ghost use Rattle.join_order.specs.Region.{PartAt, foundIn, Brought, ListedAt, orderedTables, orderedArena};
 
 // The bytes of rows and of data before a part's, and the size of its data.
 pub struct Found {

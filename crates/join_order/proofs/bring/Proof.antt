@@ -4,10 +4,6 @@ use native.Mathlib.Omega.{arith}
 use borrow.Author.Needs.{needs}
 use Rattle.join_order.proofs.bring.Statement.{statement}
 use Rattle.join_order.proofs.bring.Tie as tie
-use Rattle.join_order.proofs.bring.Reads as reads
-use Rattle.join_order.proofs.bring.Lts as lts
-use Rattle.buffer.proofs.rotate.Reads as rotate-reads
-use Rattle.join_order.proofs.find_row.Reads as find-row-reads
 
 find-row-requires : tie.Need-find-row-requires
 find-row-requires c κs = search needs

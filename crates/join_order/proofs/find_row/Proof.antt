@@ -1,7 +1,5 @@
 -- `join_order::find_row` meets its contract. The invariant: the parts passed have other numbers. Assumes nothing.
-use Prim.Native.Nat.{ℕ, _+_, _-_, _≤_}
-use mathlib.Core.Path.{_≡_}
-use mathlib.Core.List.{List}
+use Prim.Native.Nat.{_+_, _-_, _≤_}
 use native.Mathlib.Omega.{arith}
 use borrow.Author.Needs.{needs}
 use lib.ListN.{length}
@@ -9,9 +7,6 @@ use Rattle.join_order.specs.Region.{PartAt}
 use Rattle.join_order.proofs.Search.{Passed, passed-none, next-inside, arena-inside, found-here, passed-next}
 use Rattle.join_order.proofs.find_row.Statement.{statement}
 use Rattle.join_order.proofs.find_row.Tie as tie
-use Rattle.join_order.proofs.find_row.Reads as reads
-use Rattle.join_order.proofs.find_row.Lts as lts
-use Rattle.row.proofs.read_head.Reads as read-head-reads
 
 abbrev Inv-loop : tie.InvT-loop
 Inv-loop tables arena at base number rows₀ bytes₀ rows bytes = (k : PartAt tables arena at base number) → Passed tables arena at base number k rows bytes

@@ -1,18 +1,13 @@
 -- `join_order::order_parts` meets its contract. The invariant: what is to come of the parts that remain does not change. Assumes nothing.
-use Prim.Native.Nat.{ℕ, _+_, _-_, _≤_}
-use mathlib.Core.Path.{_≡_, refl, _∙_}
-use mathlib.Core.List.{List}
+use Prim.Native.Nat.{_+_, _-_}
+use mathlib.Core.Path.{_≡_, refl}
 use native.Mathlib.Omega.{arith}
 use borrow.Author.Needs.{needs}
 use lib.ListN.{length, drop}
-use Rattle.join_order.specs.Region.{Region, PartAt, ListedAt}
+use Rattle.join_order.specs.Region.{Region, ListedAt}
 use Rattle.join_order.proofs.Ordering.{Turned, turned-none, within, number-inside, turn-part, turn, turned-all}
 use Rattle.join_order.proofs.order_parts.Statement.{statement}
 use Rattle.join_order.proofs.order_parts.Tie as tie
-use Rattle.join_order.proofs.order_parts.Reads as reads
-use Rattle.join_order.proofs.order_parts.Lts as lts
-use Rattle.join_order.proofs.bring.Reads as bring-reads
-use Rattle.number.proofs.get_u16.Reads as get-u16-reads
 
 abbrev Inv-loop : tie.InvT-loop
 Inv-loop tables₀ arena₀ at base list row-at₀ data-at₀ i₀ tables arena row-at data-at i =

@@ -1,0 +1,34 @@
+// The digest of the parts' digests.
+use md5::words::Digest;
+ghost use mathlib.Core.Path.{_≡_};
+ghost use Prim.Native.Nat.{_*_, _≤_};
+ghost use lib.ListN.{take};
+ghost use Rattle.md5.specs.Md5.{md5};
+ghost use Rattle.machine.specs.Steps.{digests};
+ghost use Rattle.join_order.specs.Digests.{OrderedAt};
+
+// The digests in the rows of `count` parts at `at`, set end to end.
+fn gather(tables: &[u8], at: usize, count: usize) -> [u8; 4096]
+    requires { ⌜ OrderedAt (now tables) at count × (count ≤ 256) ⌝ }
+    ensures { λ r. ⌜ ((k : OrderedAt (now (tables .entry)) at count) → take (16 * count) r ≡ digests (k .listed)) ⌝ }
+{
+    let mut all = [0u8; 4096];
+    let mut i: usize = 0;
+    while i < count {
+        let from = at + 36 * i + 20;
+        let to = from + 16;
+        buffer::copy_at(&mut all, 16 * i, &tables[from..to]);
+        i += 1;
+    }
+    all
+}
+
+// The digest of the digests in the rows of `count` parts at `at`.
+pub fn joined_digest(tables: &[u8], at: usize, count: usize) -> Digest
+    requires { ⌜ OrderedAt (now tables) at count × (count ≤ 256) ⌝ }
+    ensures { λ r. ⌜ ((k : OrderedAt (now (tables .entry)) at count) → r ≡ md5 (digests (k .listed))) ⌝ }
+{
+    let all = gather(tables, at, count);
+    let n = 16 * count;
+    md5::digest(&all[..n])
+}

@@ -1,6 +1,5 @@
 pub mod Rules
 pub mod Memory
-pub mod Scan
 pub mod TestLaws
 pub mod ObjectLaws
 pub mod UploadLaws

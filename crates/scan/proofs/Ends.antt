@@ -1,0 +1,102 @@
+-- Where rows that were passed end; what the scans say of the whole. Assumes nothing.
+use Prim.Native.Nat.{ℕ, zero, suc, _+_, _≤_, _<_}
+use mathlib.Core.Path.{_≡_, refl, sym, ap, _∙_}
+use mathlib.Core.Bool.{Bool, true, false, not, _&&_, cond, and-true}
+use mathlib.Core.List.{List, []}
+use native.Mathlib.Nat.{add-assoc, zero-add}
+use native.Mathlib.Omega.{arith}
+use borrow.Author.Tests.{ne-eqb, not-true, not-false}
+use lib.ListN.{length, drop, length-drop}
+use lib.Seq.{drop-drop}
+use Rattle.row.specs.Row.{Row, headAt, spanAt, rowAt, pastRows, pastData, good}
+use Rattle.row.specs.RowLaws.{here-inside, rest-good}
+use Rattle.layout.specs.declared.Header.{Header}
+use Rattle.layout.specs.Rules.{all, objectOk, objectNext, start}
+use Rattle.layout.specs.Memory.{tablesLength, headerAt, headerOk, uploadTables, uploadArena, uploadRowsAt, objectsGood, uploadsGood, whole}
+use Rattle.scan.specs.declared.Offset.{Offset}
+use Rattle.scan.specs.declared.Scan.{Scan}
+use Rattle.scan.specs.declared.Scan.the-variants.{Bad, Good}
+use Rattle.scan.specs.Scan.{past, pastAll, objectScan, entriesOk, first, rowsOk}
+
+rest-tables : (t : List ℕ) (o : Offset) → drop (past o (headAt (drop (o .at) t)) .at) t ≡ drop (spanAt (drop (o .at) t)) (drop (o .at) t)
+unfolding spanAt
+rest-tables t o = rw (add-assoc, drop-drop)
+
+rest-arena : (t a : List ℕ) (o : Offset) → drop (past o (headAt (drop (o .at) t)) .base) a ≡ drop (headAt (drop (o .at) t) .size) (drop (o .base) a)
+rest-arena t a o = rw drop-drop
+
+pub past-tables : (n : ℕ) (o : Offset) (t : List ℕ) → drop (pastAll n o t .at) t ≡ pastRows n (drop (o .at) t)
+unfolding pastAll pastRows
+past-tables zero o t = refl
+past-tables (suc n) o t = past-tables n (past o (headAt (drop (o .at) t))) t ∙ ap (pastRows n) (rest-tables t o)
+
+pub past-arena : (n : ℕ) (o : Offset) (t a : List ℕ) → drop (pastAll n o t .base) a ≡ pastData n (drop (o .at) t) (drop (o .base) a)
+unfolding pastAll pastData
+past-arena zero o t a = refl
+past-arena (suc n) o t a = past-arena n (past o (headAt (drop (o .at) t))) t a ∙ rw (rest-tables t o, rest-arena t a o)
+
+-- good rows end inside
+module _ (S : Type 0) (ok : S → Row → Bool) (next : S → Row → S) where
+  pub past-inside : (n : ℕ) (σ : S) (o : Offset) (t a : List ℕ) → good S ok next n σ (drop (o .at) t) (drop (o .base) a) ≡ true
+      → o .at ≤ length t → o .base ≤ length a → (pastAll n o t .at ≤ length t) × (pastAll n o t .base ≤ length a)
+  unfolding pastAll spanAt
+  past-inside zero σ o t a g l m = (l, m)
+  past-inside (suc n) σ o t a g l m =
+      let s = drop (o .at) t in
+      let b = drop (o .base) a in
+      let i = here-inside S ok next n σ s b g in
+      let q = i .row in
+      let r = i .content in
+      past-inside n (next σ (rowAt s b)) (past o (headAt s)) t a
+      (rw (rest-tables t o, rest-arena t a o) (rest-good S ok next n σ s b g))
+      (omega (arith, length-drop (o .at) t))
+      (omega (arith, length-drop (o .base) a))
+
+-- what the scan of objects says of all rows
+module _ (h : Header) (t a : List ℕ) (r : Scan) (e : r ≡ objectScan (h .objects) [] first t a) where
+  abbrev objects : Bool
+  objects = good (List ℕ) objectOk objectNext (h .objects) [] (drop 18 t) a
+
+  pub rows-bad : r ≡ Bad → rowsOk h t a ≡ false
+  unfolding objectScan rowsOk
+  rows-bad q = rw (pick objects (sym e ∙ q))
+    where
+      pick : (b : Bool) → cond b (Good (pastAll (h .objects) first t)) Bad ≡ Bad → b ≡ false
+      pick true q = cc
+      pick false q = refl
+
+  module _ (p : Offset) (q : r ≡ Good p) where
+    found : (objects ≡ true) × (p ≡ pastAll (h .objects) first t)
+    unfolding objectScan
+    found = pick objects (sym e ∙ q)
+      where
+        pick : (b : Bool) → cond b (Good (pastAll (h .objects) first t)) Bad ≡ Good p → (b ≡ true) × (p ≡ pastAll (h .objects) first t)
+        pick true q = (refl, cc)
+        pick false q = (cc, cc)
+
+    pub rows-end : 18 ≤ length t → (p .at ≤ length t) × (p .base ≤ length a)
+    rows-end l = rw (found .1) (past-inside (List ℕ) objectOk objectNext (h .objects) [] first t a (found .0) l (omega arith))
+
+    pub rows-good : (x : Bool) → x ≡ entriesOk (h .next) (h .uploads) 0 (h .uploads + h .parts) start p t a → x ≡ rowsOk h t a
+    unfolding rowsOk
+    rows-good x y = rw (found .0) (rw (found .1) at y)
+
+-- the test "whole", by the header and the scans
+whole-is : (t a : List ℕ) → whole t a ≡ (headerOk (length t) (length a) (headerAt t) && rowsOk (headerAt t) t a)
+unfolding whole all rowsOk entriesOk objectsGood uploadsGood uploadRowsAt uploadTables uploadArena
+whole-is t a =
+    rw (and-true, zero-add, past-tables (headerAt t .objects) first t, past-arena (headerAt t .objects) first t a)
+
+pub too-short : (t a : List ℕ) → length t < 18 → whole t a ≡ false
+unfolding whole all headerOk
+too-short t a l = rw (ne-eqb (length t) tablesLength (λ e. omega arith))
+
+module _ (t a : List ℕ) (h : Header) (e : h ≡ headerAt t) (b : Bool) (q : b ≡ headerOk (length t) (length a) h) where
+  judged : headerOk (length t) (length a) (headerAt t) ≡ b
+  judged = ap (headerOk (length t) (length a)) (sym e) ∙ sym q
+
+  pub header-bad : not b ≡ true → whole t a ≡ false
+  header-bad n = whole-is t a ∙ rw (judged, not-true b n)
+
+  pub header-good : not b ≡ false → whole t a ≡ rowsOk h t a
+  header-good n = whole-is t a ∙ rw (judged, not-false b n, e)

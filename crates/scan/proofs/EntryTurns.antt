@@ -1,0 +1,78 @@
+-- A turn of the test of uploads and parts. Assumes nothing.
+use Prim.Native.Nat.{ℕ, _+_, _-_, _≤_, _<_}
+use mathlib.Core.Path.{_≡_, sym, ap, ap₂, _∙_}
+use mathlib.Core.Bool.{Bool, true, false, not, cond}
+use mathlib.Core.List.{List}
+use native.Mathlib.Nat.{add-zero, add-assoc}
+use native.Mathlib.Omega.{arith}
+use lib.Dec.{eqb, lit≤}
+use lib.ListN.{drop}
+use Rattle.number.specs.NumberLaws.{Bytes}
+use Rattle.row.specs.declared.Head.{Head}
+use Rattle.row.specs.Row.{Row, rowAt, rowsAt}
+use Rattle.layout.specs.declared.Mark.{Mark}
+use Rattle.scan.specs.declared.Offset.{Offset}
+use Rattle.scan.specs.declared.Reading.the-variants.{Short, Fits}
+use Rattle.layout.specs.Rules.{uploadKind, entryOk, entryNext, markAfter}
+use Rattle.layout.specs.Memory.{opens}
+use Rattle.scan.specs.Scan.{readingOf, past, entryRule, opensOne, entriesOk}
+use borrow.Author.Tests.{not-true, not-false}
+use Rattle.scan.proofs.Turns.{digestPart, pathPart, head-of, digest-of, path-of, rest-tables, rest-arena, more, good-end, good-short, good-wrong, good-next}
+
+pub opens-small : (h : Head) → opensOne h ≤ 1
+unfolding opensOne
+opens-small h = small (eqb (h .kind) uploadKind)
+  where
+    small : (b : Bool) → cond b 1 0 ≤ 1
+    small true = lit≤ tt
+    small false = lit≤ tt
+
+module _ (t a : List ℕ) (N uploads opened n i : ℕ) (m : Mark) (o : Offset) where
+  pub entries-end : n ≤ i → entriesOk N uploads opened (n - i) m o t a ≡ eqb opened uploads
+  unfolding entriesOk rowsAt opens
+  entries-end l =
+      let z : n - i ≡ 0 = omega arith in
+      rw (good-end Mark (entryOk N) entryNext t a n i m o l, z, add-zero)
+
+  module _ (l : i < n) where
+    pub entries-short : readingOf (drop (o .at) t) (drop (o .base) a) ≡ Short → entriesOk N uploads opened (n - i) m o t a ≡ false
+    unfolding entriesOk
+    entries-short e = rw (good-short Mark (entryOk N) entryNext t a n i m o l e)
+
+    module _ (bytes : Bytes t) (h : Head) (f : readingOf (drop (o .at) t) (drop (o .base) a) ≡ Fits h) where
+      -- the row at o
+      abbrev here : Row
+      here = rowAt (drop (o .at) t) (drop (o .base) a)
+
+      opens-next : opens (rowsAt (n - i) (drop (o .at) t) (drop (o .base) a)) ≡ opensOne h + opens (rowsAt (n - (i + 1)) (drop (past o h .at) t) (drop (past o h .base) a))
+      unfolding rowsAt opens opensOne
+      opens-next =
+          rw (
+            more Mark (entryOk N) entryNext t a n i m o l,
+            rest-tables t a o h f,
+            rest-arena t a o h f,
+            ap opensOne (head-of t a o h f bytes),
+          )
+
+      module _ (r : Bool) (e : r ≡ entryRule N m h (digestPart t o) (pathPart t o h)) where
+        judged : entryOk N m here ≡ r
+        unfolding entryOk entryRule
+        judged =
+            ap (λ (x : Head). entryRule N m x (here .digest) (here .path)) (head-of t a o h f bytes)
+            ∙ ap₂ (entryRule N m h) (digest-of t a o h f bytes) (path-of t a o h f bytes)
+            ∙ sym e
+
+        pub entries-wrong : not r ≡ true → entriesOk N uploads opened (n - i) m o t a ≡ false
+        unfolding entriesOk
+        entries-wrong q = rw (good-wrong Mark (entryOk N) entryNext t a n i m o l h f (judged ∙ not-true r q))
+
+        pub entries-next : not r ≡ false
+            → entriesOk N uploads opened (n - i) m o t a ≡ entriesOk N uploads (opened + opensOne h) (n - (i + 1)) (markAfter m h) (past o h) t a
+        unfolding entriesOk
+        entries-next q =
+            rw (
+              good-next Mark (entryOk N) entryNext t a n i m o l h f (judged ∙ not-false r q),
+              opens-next,
+              head-of t a o h f bytes,
+              add-assoc opened,
+            )

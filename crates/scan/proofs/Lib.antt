@@ -1,0 +1,5 @@
+pub mod Readings
+pub mod Turns
+pub mod ObjectTurns
+pub mod EntryTurns
+pub mod Ends

@@ -1,0 +1,13 @@
+-- `scan::objects::most_parts` meets its contract: the tests are the definition's. Assumes nothing.
+use Rattle.names.proofs.Tests.{tests}
+use Rattle.scan.proofs.objects.most_parts.Statement.{statement}
+use Rattle.scan.proofs.objects.most_parts.Tie as tie
+
+returns : tie.Need-returns
+returns c = search tests
+
+returns-2 : tie.Need-returns-2
+returns-2 c = search tests
+
+pub most-parts-spec : {M : Type 1} → statement M
+most-parts-spec = tie.close (tie.spec returns returns-2)

@@ -1,0 +1,57 @@
+-- Rows passed one by one: where they end, and what a scan of them answers. Assumes nothing.
+use Prim.Native.Nat.{ℕ, zero, suc, _+_}
+use mathlib.Core.Bool.{Bool, _&&_, cond}
+use mathlib.Core.List.{List, []}
+use lib.Dec.{eqb}
+use lib.ListN.{drop}
+use Rattle.row.specs.declared.Head.{Head}
+use Rattle.row.specs.Row.{headAt, rowsAt, inside, good}
+use Rattle.layout.specs.declared.Mark.{Mark}
+use Rattle.layout.specs.declared.Header.{Header}
+use Rattle.scan.specs.declared.Offset.{Offset}
+use Rattle.scan.specs.declared.Reading.{Reading}
+use Rattle.scan.specs.declared.Reading.the-variants.{Short, Fits}
+use Rattle.scan.specs.declared.Scan.{Scan}
+use Rattle.scan.specs.declared.Scan.the-variants.{Bad, Good}
+use Rattle.layout.specs.Rules.{uploadKind, uploadRule, partRule, objectOk, objectNext, entryOk, entryNext, start}
+use Rattle.layout.specs.Memory.{opens}
+
+-- the head of the row at the front of t, where the row is all in t and its data all in a
+unfoldable pub readingOf : (t a : List ℕ) → Reading
+readingOf t a = cond (inside t a) (Fits (headAt t)) Short
+
+-- behind a row with this head
+abbrev pub past : Offset → Head → Offset
+past o h = record { at = o .at + 36 + h .pathlen; base = o .base + h .size }
+
+-- behind n rows
+unfoldable pub pastAll : ℕ → Offset → (t : List ℕ) → Offset
+pastAll zero o t = o
+pastAll (suc n) o t = pastAll n (past o (headAt (drop (o .at) t))) t
+
+-- where n rows of objects from o on, behind one whose path is `last`, end, if they stand there by the rule
+unfoldable pub objectScan : ℕ → (last : List ℕ) → Offset → (t a : List ℕ) → Scan
+objectScan n last o t a = cond (good (List ℕ) objectOk objectNext n last (drop (o .at) t) (drop (o .base) a)) (Good (pastAll n o t)) Bad
+
+-- the rule of the rows of uploads and parts, on what is read of a row
+unfoldable pub entryRule : (N : ℕ) → Mark → Head → (digest path : List ℕ) → Bool
+entryRule N m h digest path = cond (eqb (h .kind) uploadKind) (uploadRule N m h digest path) (partRule m h)
+
+-- 1 for the row of an upload
+unfoldable pub opensOne : Head → ℕ
+opensOne h = cond (eqb (h .kind) uploadKind) 1 0
+
+-- n rows of uploads and parts from o on, behind m, stand by the rule and make, with `opened`, `uploads` uploads
+unfoldable pub entriesOk : (N uploads opened n : ℕ) → Mark → Offset → (t a : List ℕ) → Bool
+entriesOk N uploads opened n m o t a =
+    good Mark (entryOk N) entryNext n m (drop (o .at) t) (drop (o .base) a) && eqb (opened + opens (rowsAt n (drop (o .at) t) (drop (o .base) a))) uploads
+
+-- the first row stands behind the header
+abbrev pub first : Offset
+first = record { at = 18; base = 0 }
+
+-- the rows of a store with header h, by what the scans answer
+unfoldable pub rowsOk : Header → (t a : List ℕ) → Bool
+rowsOk h t a =
+    good (List ℕ) objectOk objectNext (h .objects) [] (drop 18 t) a
+    && entriesOk (h .next) (h .uploads) 0 (h .uploads + h .parts) start (pastAll (h .objects) first t) t a

@@ -1,0 +1,140 @@
+// The rows of uploads and parts, in memory that need not be whole.
+ghost use mathlib.Core.Path.{_≡_};
+ghost use Prim.Native.Nat.{_+_, _≤_};
+ghost use lib.ListN.{length};
+ghost use Rattle.order.specs.Order.{same};
+ghost use Rattle.layout.specs.Rules.{zeros, uploadRule, partRule, markAfter, start};
+ghost use Rattle.scan.specs.Scan.{entryRule, opensOne, entriesOk};
+use crate::Offset;
+use crate::Reading;
+use crate::rows;
+use layout::Mark;
+use row::Head;
+
+// Whether 16 bytes are 0.
+fn is_zero(d: &[u8]) -> bool
+    requires { ⌜ length (now d) ≡ 16 ⌝ }
+    ensures { λ r. ⌜ r ≡ same (now (d .entry)) zeros ⌝ }
+{
+    if number::get_u64(d, 0) != 0 {
+        return false;
+    }
+    number::get_u64(d, 8) == 0
+}
+
+// Whether the row of an upload may stand behind m, where `next` is the number of the coming upload.
+fn upload_ok(next: u64, m: Mark, h: Head, digest: &[u8], path: &[u8]) -> bool
+    requires { ⌜ length (now digest) ≡ 16 ⌝ }
+    ensures { λ r. ⌜ r ≡ uploadRule next m h (now (digest .entry)) (now (path .entry)) ⌝ }
+{
+    if h.size != 0 {
+        return false;
+    }
+    if h.count != 0 {
+        return false;
+    }
+    if h.stamp < 1 {
+        return false;
+    }
+    if h.number <= m.upload {
+        return false;
+    }
+    if next <= h.number as u64 {
+        return false;
+    }
+    if !names::stored_path_ok(path) {
+        return false;
+    }
+    is_zero(digest)
+}
+
+// Whether the row of a part may stand behind m.
+fn part_ok(m: Mark, h: Head) -> bool
+    ensures { λ r. ⌜ r ≡ partRule m h ⌝ }
+{
+    if h.kind != 3 {
+        return false;
+    }
+    if h.stamp != 0 {
+        return false;
+    }
+    if h.count != 0 {
+        return false;
+    }
+    if h.pathlen != 0 {
+        return false;
+    }
+    if m.upload < 1 {
+        return false;
+    }
+    if h.number <= m.part {
+        return false;
+    }
+    names::stored_part_ok(h.number)
+}
+
+// Whether the row of an upload or a part may stand behind m.
+fn entry_ok(next: u64, m: Mark, h: Head, digest: &[u8], path: &[u8]) -> bool
+    requires { ⌜ length (now digest) ≡ 16 ⌝ }
+    ensures { λ r. ⌜ r ≡ entryRule next m h (now (digest .entry)) (now (path .entry)) ⌝ }
+{
+    if h.kind == 2 {
+        upload_ok(next, m, h, digest, path)
+    } else {
+        part_ok(m, h)
+    }
+}
+
+// 1 for the row of an upload.
+fn opening(h: Head) -> usize
+    ensures { λ r. ⌜ r ≡ opensOne h ⌝ }
+{
+    if h.kind == 2 { 1 } else { 0 }
+}
+
+// The mark behind a row with head h.
+fn mark_after(m: Mark, h: Head) -> Mark
+    ensures { λ r. ⌜ r ≡ markAfter m h ⌝ }
+{
+    if h.kind == 2 {
+        Mark {
+            upload: h.number,
+            part: 0,
+        }
+    } else {
+        Mark {
+            upload: m.upload,
+            part: h.number,
+        }
+    }
+}
+
+// Whether the rows of uploads and parts stand from `from` on, just so many of each.
+pub fn entries_ok(t: &[u8], arena: &[u8], from: Offset, uploads: u16, parts: u16, next: u64) -> bool
+    requires { ⌜ (from .at ≤ length (now t)) × (from .base ≤ length (now arena)) ⌝ }
+    ensures { λ r. ⌜ r ≡ entriesOk next uploads 0 (uploads + parts) start from (now (t .entry)) (now (arena .entry)) ⌝ }
+{
+    let rows = uploads as usize + parts as usize;
+    let mut at = from.at;
+    let mut base = from.base;
+    let mut m = Mark { upload: 0, part: 0 };
+    let mut opened: usize = 0;
+    let mut i: usize = 0;
+    while i < rows {
+        let Reading::Fits(h) = rows::read_row(t, at, arena, base) else {
+            return false;
+        };
+        let digest = at + 20;
+        let path = at + 36;
+        let end = path + h.pathlen as usize;
+        if !entry_ok(next, m, h, &t[digest..path], &t[path..end]) {
+            return false;
+        }
+        m = mark_after(m, h);
+        opened += opening(h);
+        at = end;
+        base += h.size as usize;
+        i += 1;
+    }
+    opened == uploads as usize
+}

@@ -1,0 +1,57 @@
+// The test "whole", over any bytes.
+pub mod entries;
+pub mod objects;
+pub mod rows;
+
+use layout::Header;
+use layout::headers;
+use row::Head;
+ghost use mathlib.Core.Path.{_≡_};
+ghost use Prim.Native.Nat.{_≤_};
+ghost use lib.ListN.{length};
+ghost use Rattle.scan.specs.Scan.{rowsOk};
+ghost use Rattle.layout.specs.Memory as memory;
+
+// The start of a row in the tables, and of its data in the arena.
+pub struct Offset {
+    pub at: usize,
+    pub base: usize,
+}
+
+// What stands at an offset: the head of a row that fits there with its data.
+pub enum Reading {
+    Short,
+    Fits(Head),
+}
+
+// What a scan of rows finds: that they do not stand, or where they end.
+pub enum Scan {
+    Bad,
+    Good(Offset),
+}
+
+// Whether all rows stand behind a header.
+fn rows_ok(tables: &[u8], arena: &[u8], h: Header) -> bool
+    requires { ⌜ 18 ≤ length (now tables) ⌝ }
+    ensures { λ r. ⌜ r ≡ rowsOk h (now (tables .entry)) (now (arena .entry)) ⌝ }
+{
+    let from = Offset { at: 18, base: 0 };
+    let Scan::Good(end) = objects::scan_objects(tables, arena, from, h.objects) else {
+        return false;
+    };
+    entries::entries_ok(tables, arena, end, h.uploads, h.parts, h.next)
+}
+
+// The test "whole".
+pub fn whole(tables: &[u8], arena: &[u8]) -> bool
+    ensures { λ r. ⌜ r ≡ memory.whole (now (tables .entry)) (now (arena .entry)) ⌝ }
+{
+    if tables.len() < 18 {
+        return false;
+    }
+    let h = headers::read_header(tables);
+    if !headers::header_ok(h, tables.len(), arena.len()) {
+        return false;
+    }
+    rows_ok(tables, arena, h)
+}

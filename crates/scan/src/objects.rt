@@ -1,0 +1,81 @@
+// The rows of objects, in memory that need not be whole.
+ghost use mathlib.Core.Path.{_≡_};
+ghost use mathlib.Core.Bool.{cond};
+ghost use mathlib.Core.List.{[]};
+ghost use Prim.Native.Nat.{_≤_};
+ghost use lib.Dec.{eqb};
+ghost use lib.ListN.{length};
+ghost use Rattle.order.specs.Order.{byBytes};
+ghost use Rattle.layout.specs.Rules.{isLess, objectRule};
+ghost use Rattle.scan.specs.Scan.{objectScan};
+use crate::Offset;
+use crate::Reading;
+use crate::Scan;
+use crate::rows;
+use order::Order;
+use row::Head;
+
+// The most parts that an etag of this kind can count.
+fn most_parts(kind: u8) -> u16
+    ensures { λ r. ⌜ r ≡ cond (eqb kind 0) 0 256 ⌝ }
+{
+    if kind == 0 { 0 } else { 256 }
+}
+
+fn ascend(a: &[u8], b: &[u8]) -> bool
+    ensures { λ r. ⌜ r ≡ isLess (byBytes (now (a .entry)) (now (b .entry))) ⌝ }
+{
+    match order::compare(a, b) {
+        Order::Less => true,
+        Order::Equal => false,
+        Order::Greater => false,
+    }
+}
+
+// Whether the row of an object may stand behind one whose path is `last`.
+fn object_ok(last: &[u8], h: Head, path: &[u8]) -> bool
+    ensures { λ r. ⌜ r ≡ objectRule (now (last .entry)) h (now (path .entry)) ⌝ }
+{
+    if h.number != 0 {
+        return false;
+    }
+    if h.stamp < 1 {
+        return false;
+    }
+    if 1 < h.kind {
+        return false;
+    }
+    if most_parts(h.kind) < h.count {
+        return false;
+    }
+    if !names::stored_path_ok(path) {
+        return false;
+    }
+    ascend(last, path)
+}
+
+// Whether the rows of objects stand from `from` on, and where they end. The path of the row passed stands just before `at`.
+pub fn scan_objects(t: &[u8], arena: &[u8], from: Offset, rows: u16) -> Scan
+    requires { ⌜ (from .at ≤ length (now t)) × (from .base ≤ length (now arena)) ⌝ }
+    ensures { λ r. ⌜ r ≡ objectScan rows [] from (now (t .entry)) (now (arena .entry)) ⌝ }
+{
+    let mut at = from.at;
+    let mut base = from.base;
+    let mut last = at;
+    let mut i: u16 = 0;
+    while i < rows {
+        let Reading::Fits(h) = rows::read_row(t, at, arena, base) else {
+            return Scan::Bad;
+        };
+        let path = at + 36;
+        let end = path + h.pathlen as usize;
+        if !object_ok(&t[last..at], h, &t[path..end]) {
+            return Scan::Bad;
+        }
+        last = path;
+        at = end;
+        base += h.size as usize;
+        i += 1;
+    }
+    Scan::Good(Offset { at, base })
+}

@@ -1,0 +1,25 @@
+// One row of memory that need not be whole.
+ghost use mathlib.Core.Path.{_≡_};
+ghost use Prim.Native.Nat.{_≤_};
+ghost use lib.ListN.{length, drop};
+ghost use Rattle.scan.specs.Scan.{readingOf};
+use crate::Reading;
+
+// The head of the row at `at`, with its data at `base`, where the row is all in t and its data all in the arena.
+pub fn read_row(t: &[u8], at: usize, arena: &[u8], base: usize) -> Reading
+    requires { ⌜ (at ≤ length (now t)) × (base ≤ length (now arena)) ⌝ }
+    ensures { λ r. ⌜ r ≡ readingOf (drop at (now (t .entry))) (drop base (now (arena .entry))) ⌝ }
+{
+    let left = t.len() - at;
+    if left < 36 {
+        return Reading::Short;
+    }
+    let h = row::read_head(t, at);
+    if left < 36 + h.pathlen as usize {
+        return Reading::Short;
+    }
+    if arena.len() - base < h.size as usize {
+        return Reading::Short;
+    }
+    Reading::Fits(h)
+}

@@ -95,7 +95,7 @@ pub fn put_object(
 }
 
 // The object at path taken out, if there is one.
-fn free_path(tables: &mut [u8], arena: &mut [u8], path: &[u8])
+pub fn free_path(tables: &mut [u8], arena: &mut [u8], path: &[u8])
     requires { ⌜ whole (now tables) (now arena) ≡ true ⌝ }
     ensures { λ _. ⌜ Stands (now (tables .exit)) (now (arena .exit)) (withoutObject (stateOf (now (tables .entry)) (now (arena .entry))) (now (path .entry))) ⌝ }
 {

@@ -1,0 +1,2 @@
+pub mod Restamping
+pub mod Copying

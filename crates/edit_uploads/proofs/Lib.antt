@@ -1,1 +1,3 @@
 pub mod UploadEdits
+pub mod PartStates
+pub mod PartEdits

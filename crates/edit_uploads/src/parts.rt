@@ -1,0 +1,69 @@
+// A part put into an open upload, and taken out. What memory then stands for is said of the upload x that has this number.
+use layout::Header;
+use md5::words::Digest;
+use row::Head;
+ghost use mathlib.Core.Path.{_≡_};
+ghost use mathlib.Core.Option.{some};
+ghost use Rattle.machine.specs.Map.{byNumber, lookup};
+ghost use Rattle.machine.specs.State.{Upload, withUpload, withPart};
+ghost use Rattle.layout.specs.Memory.{stateOf, Stands};
+ghost use Rattle.edit_uploads.specs.Parts.{withoutPart, partBehind, PartRemovable, PartAddable};
+
+// A part that is there, taken out.
+pub fn remove_part(tables: &mut [u8], arena: &mut [u8], upload: u32, number: u16)
+    requires { ⌜ PartRemovable (now tables) (now arena) upload number ⌝ }
+    ensures { λ _. ⌜ ((x : Upload) → lookup byNumber upload (stateOf (now (tables .entry)) (now (arena .entry)) .U) ≡ some x → Stands (now (tables .exit)) (now (arena .exit)) (withUpload (stateOf (now (tables .entry)) (now (arena .entry))) upload (withoutPart x number))) ⌝ }
+{
+    let place = find::find_part(tables, arena, upload, number);
+    let end = find::rows_end(tables, arena);
+    let header = layout::headers::read_header(tables);
+    let at = place.at;
+    let base = place.base;
+    let h = row::read_head(tables, at);
+    let m = h.size as usize;
+    let after = Header {
+        arena: header.arena,
+        next: header.next,
+        objects: header.objects,
+        uploads: header.uploads,
+        parts: header.parts - 1,
+    };
+    edit::rows::remove_rows(tables, at, 36, end.at, after);
+    buffer::remove(arena, base, m, end.base);
+}
+
+// A part put in where the upload has none of this number; its data, `size` bytes, stand behind the last byte held.
+pub fn add_part(
+    tables: &mut [u8],
+    arena: &mut [u8],
+    upload: u32,
+    number: u16,
+    digest: Digest,
+    size: usize,
+)
+    requires { ⌜ PartAddable (now tables) (now arena) upload number digest size ⌝ }
+    ensures { λ _. ⌜ ((x : Upload) → lookup byNumber upload (stateOf (now (tables .entry)) (now (arena .entry)) .U) ≡ some x → Stands (now (tables .exit)) (now (arena .exit)) (withUpload (stateOf (now (tables .entry)) (now (arena .entry))) upload (withPart x number (partBehind (now (tables .entry)) (now (arena .entry)) digest size)))) ⌝ }
+{
+    let place = find::find_part(tables, arena, upload, number);
+    let end = find::rows_end(tables, arena);
+    let header = layout::headers::read_header(tables);
+    let base = place.base;
+    let held = end.base;
+    let h = Head {
+        size: size as u32,
+        number: number as u32,
+        stamp: 0,
+        kind: 3,
+        pathlen: 0,
+        count: 0,
+    };
+    let after = Header {
+        arena: header.arena,
+        next: header.next,
+        objects: header.objects,
+        uploads: header.uploads,
+        parts: header.parts + 1,
+    };
+    edit::rows::insert_row(tables, place.at, end.at, h, digest, b"", after);
+    buffer::rotate(arena, base, held - base, size);
+}

@@ -3,3 +3,4 @@ pub mod Search
 pub mod Bringing
 pub mod Ordering
 pub mod Gathering
+pub mod Listed

@@ -34,7 +34,7 @@ first [] h e = absurd (not-suc-le-zero h)
 first (x ∷ []) h e = absurd (omega arith)
 first (x ∷ (y ∷ bs)) h e = record { inside = omega arith; numbers = ap (λ (n : ℕ). n ∷ partList bs) (omega arith); even = omega arith }
 
-encodable-remove : (n : ℕ) (y : Part) (m : Map ℕ Part) → lookup byNumber n m ≡ some y → EncodableAll (partRows m) → EncodableAll (partRows (remove byNumber n m))
+pub encodable-remove : (n : ℕ) (y : Part) (m : Map ℕ Part) → lookup byNumber n m ≡ some y → EncodableAll (partRows m) → EncodableAll (partRows (remove byNumber n m))
 encodable-remove n y m f h =
     let xs = take (place byNumber n m) m in
     let zs = drop (suc (place byNumber n m)) m in

@@ -6,7 +6,9 @@ use mathlib.Core.Option.{some}
 use lib.ListN.{length, take}
 use Rattle.machine.specs.Map.{Map, byNumber, lookup, remove, place}
 use Rattle.machine.specs.State.{Part}
-use Rattle.machine.specs.Steps.{fit, contents}
+use Rattle.machine.specs.Steps.{fit, contents, digests}
+use Rattle.md5.specs.declared.words.Digest.{Digest}
+use Rattle.md5.specs.Md5.{md5}
 use Rattle.row.specs.Row.{Row, encodeRow, encodeRows, contentsOf}
 use Rattle.row.specs.RowLaws.{EncodableAll}
 use Rattle.layout.specs.Memory.{partRow, partRows}
@@ -67,3 +69,9 @@ module _ (t a : List ℕ) (at base : ℕ) (list : List ℕ) (k : ListedAt t a at
 
   unfoldable pub orderedArena : List ℕ
   orderedArena = k .region .arena-before ++ (contents (k .listed) ++ k .region .arena-behind)
+
+-- the parts in listed order, and the digest of their digests
+pub record Arranged (t a : List ℕ) (at base : ℕ) (list : List ℕ) (k : ListedAt t a at base list) (t′ a′ : List ℕ) (digest : Digest) : Type 0 where
+  pub tables : t′ ≡ orderedTables t a at base list k
+  pub arena : a′ ≡ orderedArena t a at base list k
+  pub digest-is : digest ≡ md5 (digests (k .listed))

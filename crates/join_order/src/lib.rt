@@ -1,8 +1,11 @@
-// An upload's parts, brought into listed order where they stand.
+// An upload's parts, brought into listed order where they stand, and the digest of their digests.
 pub mod digests;
 
+use md5::words::Digest;
 ghost use mathlib.Core.Path.{_≡_};
-ghost use Rattle.join_order.specs.Region.{PartAt, foundIn, Brought, ListedAt, orderedTables, orderedArena};
+ghost use Prim.Native.Nat.{_≤_};
+ghost use lib.ListN.{length};
+ghost use Rattle.join_order.specs.Region.{PartAt, foundIn, Brought, ListedAt, orderedTables, orderedArena, Arranged};
 
 // The bytes of rows and of data before a part's, and the size of its data.
 pub struct Found {
@@ -61,4 +64,14 @@ pub fn order_parts(tables: &mut [u8], arena: &mut [u8], at: usize, base: usize, 
         data_at += size;
         i += 2;
     }
+}
+
+// The same, and then the digest of the digests in listed order.
+pub fn arrange(tables: &mut [u8], arena: &mut [u8], at: usize, base: usize, list: &[u8]) -> Digest
+    requires { ⌜ ListedAt (now tables) (now arena) at base (now list) × (length (now list) ≤ 512) ⌝ }
+    ensures { λ r. ⌜ ((k : ListedAt (now (tables .entry)) (now (arena .entry)) at base (now (list .entry)))
+        → Arranged (now (tables .entry)) (now (arena .entry)) at base (now (list .entry)) k (now (tables .exit)) (now (arena .exit)) r) ⌝ }
+{
+    order_parts(tables, arena, at, base, list);
+    digests::joined_digest(tables, at, list.len() / 2)
 }

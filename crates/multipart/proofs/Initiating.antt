@@ -1,0 +1,127 @@
+-- INITIATE: its refusals in checking order, and what it leaves. Assumes nothing.
+use Prim.Native.Nat.{ℕ, _+_, _≤_, _<_}
+use mathlib.Core.Path.{_≡_, refl, sym, ap, _∙_, subst}
+use mathlib.Core.Bool.{Bool, true, false, _&&_}
+use mathlib.Core.List.{List, [], _∷_}
+use mathlib.Core.Option.{none}
+use native.Mathlib.Omega.{arith}
+use borrow.Author.Tests.{le-leb, lt-leb, leb-true}
+use lib.Dec.{leb}
+use lib.ListN.{length}
+use Rattle.number.specs.NumberLaws.{Bytes}
+use Rattle.order.specs.OrderLaws.{numbers}
+use Rattle.machine.specs.Map.{Map, byNumber, lookup, insert, Every}
+use Rattle.machine.specs.Names.{newPathOk, stampOk, lastUploadNumber}
+use Rattle.machine.specs.State.{Upload, State, counted, withUpload, withNext}
+use Rattle.machine.specs.Valid.{UploadOk, Valid}
+use Rattle.machine.specs.Calls.{INITIATE, number, badRequest, tableFull, numbersUsedUp, Outcome, accept, code, _else_then_}
+use Rattle.machine.specs.Steps.{act, newUpload, next}
+use Rattle.machine.proofs.Counts.{initiate-counted}
+use Rattle.machine.proofs.KeepsValid.{next-valid}
+use Rattle.machine.proofs.MapSums.{length-insert}
+use Rattle.order.specs.OrderLaws.{compare-above}
+use Rattle.layout.specs.declared.Header.{Header}
+use Rattle.layout.specs.Memory.{headerAt, whole, stateOf, Stands}
+use Rattle.layout.specs.WholeLaws.{whole-stands}
+use Rattle.layout.specs.StandsLaws.{header-back}
+use Rattle.edit.specs.Header.{headerOf}
+use Rattle.calls.specs.Answers.{accepted}
+use Rattle.calls.specs.Made.{memory, resultOf, outcome, Made}
+use Rattle.calls.proofs.Judging.{pass, stop, passed}
+use Rattle.calls.proofs.MadeLaws.{done}
+
+-- a number above those of all uploads is not among them
+absent : (N : ℕ) (us : Map ℕ Upload) → Every (UploadOk N) us → lookup byNumber N us ≡ none
+absent N [] v = refl
+absent N (e ∷ us) v = rw (compare-above N (e .0) (v .0 .high)) (absent N us (v .1))
+
+module _ (t a p : List ℕ) (b : Bytes t) (w : whole t a ≡ true) (stamp : ℕ) where
+  abbrev s : State
+  s = stateOf t a
+
+  abbrev stands : Stands t a s
+  stands = whole-stands t a b w
+
+  abbrev s′ : State
+  s′ = withNext (withUpload s (s .N) (newUpload stamp p))
+
+  abbrev counts : Outcome
+  counts = leb (s .N) lastUploadNumber else numbersUsedUp then accept (number (s .N)) [] s′
+
+  abbrev checks : Outcome
+  checks = counted s′ else tableFull then counts
+
+  header-is : headerAt t ≡ headerOf (length a) s
+  header-is = header-back t a s stands
+
+  pub header-inside : 18 ≤ length t
+  header-inside = let z = stands .size in omega arith
+
+  pub bad-stamp : stampOk stamp ≡ false → 2 ≡ resultOf (act (length a) s (INITIATE stamp p))
+  unfolding act
+  bad-stamp e = sym (ap resultOf (stop (stampOk stamp && newPathOk p) badRequest checks (rw e)))
+
+  pub bad-path : stampOk stamp ≡ true → newPathOk p ≡ false → 2 ≡ resultOf (act (length a) s (INITIATE stamp p))
+  unfolding act
+  bad-path e f = sym (ap resultOf (stop (stampOk stamp && newPathOk p) badRequest checks (rw (e, f))))
+
+  opens : length (insert byNumber (s .N) (newUpload stamp p) (s .U)) ≡ length (s .U) + 1
+  opens = let l = length-insert numbers (s .N) (newUpload stamp p) (s .U) in omega (arith, rw (absent (s .N) (s .U) (stands .valid .upload)) at l)
+
+  module _ (e : stampOk stamp ≡ true) (f : newPathOk p ≡ true) (header : Header) (read : header ≡ headerAt t) where
+    uploads-is : header .uploads ≡ length (s .U)
+    uploads-is = ap (λ (h : Header). h .uploads) (read ∙ header-is)
+
+    pub next-is : header .next ≡ s .N
+    next-is = ap (λ (h : Header). h .next) (read ∙ header-is)
+
+    request-ok : act (length a) s (INITIATE stamp p) ≡ checks
+    unfolding act
+    request-ok = pass (stampOk stamp && newPathOk p) badRequest checks (rw (e, f))
+
+    counted-is : counted s′ ≡ leb (length (s .U) + 1) 16
+    counted-is = initiate-counted (length a) s (stands .valid) (s .N) stamp p ∙ ap (λ (n : ℕ). leb n 16) opens
+
+    pub full : 16 ≤ header .uploads → 4 ≡ resultOf (act (length a) s (INITIATE stamp p))
+    full l = sym (ap resultOf (request-ok ∙ stop (counted s′) tableFull counts (counted-is ∙ lt-leb (length (s .U) + 1) 16 (omega (arith, uploads-is)))))
+
+    module _ (l : header .uploads < 16) where
+      room-ok : act (length a) s (INITIATE stamp p) ≡ counts
+      room-ok = request-ok ∙ pass (counted s′) tableFull counts (counted-is ∙ le-leb (length (s .U) + 1) 16 (omega (arith, uploads-is)))
+
+      pub used-up : 4294967295 < header .next → 6 ≡ resultOf (act (length a) s (INITIATE stamp p))
+      used-up n = sym (ap resultOf (room-ok ∙ stop (leb (s .N) lastUploadNumber) numbersUsedUp (accept (number (s .N)) [] s′) (lt-leb (s .N) lastUploadNumber (omega (arith, next-is)))))
+
+      pub opened : header .next ≤ 4294967295 → 0 ≡ resultOf (act (length a) s (INITIATE stamp p))
+      opened n = sym (ap resultOf (room-ok ∙ pass (leb (s .N) lastUploadNumber) numbersUsedUp (accept (number (s .N)) [] s′) (le-leb (s .N) lastUploadNumber (omega (arith, next-is)))))
+
+  -- result 0: all checks were passed
+  module _ (zero-result : resultOf (act (length a) s (INITIATE stamp p)) ≡ 0) where
+    first : (stampOk stamp && newPathOk p ≡ true) × (act (length a) s (INITIATE stamp p) ≡ checks)
+    unfolding act
+    first = passed (stampOk stamp && newPathOk p) badRequest checks zero-result
+
+    second : (counted s′ ≡ true) × (checks ≡ counts)
+    second = passed (counted s′) tableFull counts (sym (ap resultOf (first .1)) ∙ zero-result)
+
+    third : (leb (s .N) lastUploadNumber ≡ true) × (counts ≡ accept (number (s .N)) [] s′)
+    third = passed (leb (s .N) lastUploadNumber) numbersUsedUp (accept (number (s .N)) [] s′) (sym (ap resultOf (first .1 ∙ second .1)) ∙ zero-result)
+
+    act-is : act (length a) s (INITIATE stamp p) ≡ accept (number (s .N)) [] s′
+    act-is = first .1 ∙ second .1 ∙ third .1
+
+    pub next-small : headerAt t .next ≤ 4294967295
+    next-small = let n = leb-true (s .N) lastUploadNumber (third .0) in omega (arith, ap (λ (h : Header). h .next) header-is)
+
+    pub target-valid : Valid (length a) s′
+    target-valid = subst (Valid (length a)) (next-accepted (act-is)) (next-valid (length a) s (INITIATE stamp p) (stands .valid))
+      where
+        next-accepted : act (length a) s (INITIATE stamp p) ≡ accept (number (s .N)) [] s′ → next (length a) s (INITIATE stamp p) ≡ s′
+        next-accepted e = rw e
+
+    pub initiate-made : (header : Header) (t′ : List ℕ) → header ≡ headerAt t → Stands t′ a s′ → length t′ ≡ length t
+        → Made (INITIATE stamp p) (memory t a) (accepted (number (header .next)) []) (memory t′ a)
+    unfolding outcome
+    initiate-made header t′ read h l =
+        let n : header .next ≡ s .N = ap (λ (x : Header). x .next) (read ∙ header-is) in
+        done (INITIATE stamp p) (memory t a) (memory t′ a) (accepted (number (header .next)) []) (number (s .N)) [] s′ w act-is (ap (λ (i : ℕ). accepted (number i) []) n) h l refl

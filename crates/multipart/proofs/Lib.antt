@@ -1,0 +1,2 @@
+pub mod Aborting
+pub mod Initiating

@@ -1,0 +1,48 @@
+// INITIATE: an upload is opened, without parts, under a number that was never used.
+use types::InitiateAnswer;
+use types::Stamp;
+use types::UploadNumber;
+ghost use mathlib.Core.Path.{_≡_};
+ghost use mathlib.Core.Bool.{true};
+ghost use lib.ListN.{length};
+ghost use Rattle.machine.specs.Calls.{INITIATE};
+ghost use Rattle.machine.specs.Steps.{act};
+ghost use Rattle.layout.specs.Memory.{whole, stateOf};
+ghost use Rattle.calls.specs.Answers.{initiateReply};
+ghost use Rattle.calls.specs.Made.{memory, resultOf, Made};
+
+// INITIATE's refusal over whole memory, 0 for none.
+fn initiate_judge(tables: &[u8], arena: &[u8], stamp: Stamp, path: &[u8]) -> u8
+    requires { ⌜ whole (now tables) (now arena) ≡ true ⌝ }
+    ensures { λ r. ⌜ r ≡ resultOf (act (length (now (arena .entry))) (stateOf (now (tables .entry)) (now (arena .entry))) (INITIATE (stamp .0) (now (path .entry)))) ⌝ }
+{
+    if !names::stamp_ok(stamp.0) {
+        return 2;
+    }
+    if !names::new_path_ok(path) {
+        return 2;
+    }
+    let header = layout::headers::read_header(tables);
+    if 16 <= header.uploads {
+        return 4;
+    }
+    if 4294967295 < header.next {
+        return 6;
+    }
+    0
+}
+
+pub fn initiate(tables: &mut [u8], arena: &[u8], stamp: Stamp, path: &[u8]) -> InitiateAnswer
+    ensures { λ r. ⌜ Made (INITIATE (stamp .0) (now (path .entry))) (memory (now (tables .entry)) (now (arena .entry))) (initiateReply r) (memory (now (tables .exit)) (now (arena .entry))) ⌝ }
+{
+    if !scan::whole(tables, arena) {
+        return InitiateAnswer::Refused(1);
+    }
+    let n = initiate_judge(tables, arena, stamp, path);
+    if n != 0 {
+        return InitiateAnswer::Refused(n);
+    }
+    let header = layout::headers::read_header(tables);
+    edit_uploads::uploads::open_upload(tables, arena, stamp.0, path);
+    InitiateAnswer::Opened(UploadNumber(header.next as u32))
+}

@@ -1,0 +1,3 @@
+// The calls of a multipart upload.
+pub mod abort;
+pub mod initiate;

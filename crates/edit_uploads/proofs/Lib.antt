@@ -1,3 +1,4 @@
 pub mod UploadEdits
 pub mod PartStates
 pub mod PartEdits
+pub mod PartPuts

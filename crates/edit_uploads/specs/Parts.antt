@@ -38,3 +38,10 @@ pub record PartAddable (t a : List ℕ) (u n : ℕ) (digest : Digest) (size : �
   pub absent : lookup byNumber n (upload .parts) ≡ none
   pub room : held (stateOf t a) + size ≤ length a
   pub valid : Valid (length a) (withUpload (stateOf t a) u (withPart upload n (partBehind t a digest size)))
+
+-- upload u is open, and the state with this part keeps the rules and ceilings
+pub record PartPuttable (t a : List ℕ) (u n : ℕ) (digest : Digest) (content : List ℕ) : Type 0 where
+  pub is-whole : whole t a ≡ true
+  pub upload : Upload
+  pub is-open : lookup byNumber u (stateOf t a .U) ≡ some upload
+  pub valid : Valid (length a) (withUpload (stateOf t a) u (withPart upload n (partWith digest content)))

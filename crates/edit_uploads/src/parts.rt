@@ -3,11 +3,13 @@ use layout::Header;
 use md5::words::Digest;
 use row::Head;
 ghost use mathlib.Core.Path.{_≡_};
+ghost use mathlib.Core.Bool.{true};
 ghost use mathlib.Core.Option.{some};
 ghost use Rattle.machine.specs.Map.{byNumber, lookup};
 ghost use Rattle.machine.specs.State.{Upload, withUpload, withPart};
-ghost use Rattle.layout.specs.Memory.{stateOf, Stands};
-ghost use Rattle.edit_uploads.specs.Parts.{withoutPart, partBehind, PartRemovable, PartAddable};
+ghost use Rattle.layout.specs.Memory.{whole, stateOf, Stands};
+ghost use Rattle.find.specs.Places.{isSome};
+ghost use Rattle.edit_uploads.specs.Parts.{withoutPart, partWith, partBehind, PartRemovable, PartAddable, PartPuttable};
 
 // A part that is there, taken out.
 pub fn remove_part(tables: &mut [u8], arena: &mut [u8], upload: u32, number: u16)
@@ -66,4 +68,34 @@ pub fn add_part(
     };
     edit::rows::insert_row(tables, place.at, end.at, h, digest, b"", after);
     buffer::rotate(arena, base, held - base, size);
+}
+
+// A part of an open upload becomes this one. What stood there goes first, so that its bytes are free.
+pub fn put_part(
+    tables: &mut [u8],
+    arena: &mut [u8],
+    upload: u32,
+    number: u16,
+    digest: Digest,
+    content: &[u8],
+)
+    requires { ⌜ PartPuttable (now tables) (now arena) upload number digest (now content) ⌝ }
+    ensures { λ _. ⌜ ((x : Upload) → lookup byNumber upload (stateOf (now (tables .entry)) (now (arena .entry)) .U) ≡ some x → Stands (now (tables .exit)) (now (arena .exit)) (withUpload (stateOf (now (tables .entry)) (now (arena .entry))) upload (withPart x number (partWith digest (now (content .entry)))))) ⌝ }
+{
+    free_part(tables, arena, upload, number);
+    let end = find::rows_end(tables, arena);
+    let tail = end.base;
+    buffer::copy_at(arena, tail, content);
+    add_part(tables, arena, upload, number, digest, content.len());
+}
+
+// A part of an open upload taken out, if there is one.
+fn free_part(tables: &mut [u8], arena: &mut [u8], upload: u32, number: u16)
+    requires { ⌜ (whole (now tables) (now arena) ≡ true) × (isSome (lookup byNumber upload (stateOf (now tables) (now arena) .U)) ≡ true) ⌝ }
+    ensures { λ _. ⌜ ((x : Upload) → lookup byNumber upload (stateOf (now (tables .entry)) (now (arena .entry)) .U) ≡ some x → Stands (now (tables .exit)) (now (arena .exit)) (withUpload (stateOf (now (tables .entry)) (now (arena .entry))) upload (withoutPart x number))) ⌝ }
+{
+    let place = find::find_part(tables, arena, upload, number);
+    if place.found {
+        remove_part(tables, arena, upload, number);
+    }
 }

@@ -1,8 +1,12 @@
-# `make test` passes everything. `make bench-foundation` measures the bytes under the store.
-.PHONY: test bench-foundation
+# `make test` passes everything. `make run` prints digests. `make bench-foundation` measures the bytes under the store.
+.PHONY: test run bench-foundation
 
 test:
 	@rt ci
+
+run:
+	@mkdir -p target && rt check vectors >target/run.out || { cat target/run.out; exit 1; }
+	@cat crates/vectors/stdout
 
 bench-foundation:
 	@echo '#include <openssl/evp.h>' | $(CC) -E - >/dev/null 2>&1 || { echo "OpenSSL's headers are missing: apt-get install -y libssl-dev" >&2; exit 1; }

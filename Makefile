@@ -6,7 +6,7 @@ test:
 
 run:
 	@mkdir -p target && rt check vectors >target/run.out || { cat target/run.out; exit 1; }
-	@cat crates/vectors/stdout
+	@target/bin/vectors
 
 bench-foundation:
 	@echo '#include <openssl/evp.h>' | $(CC) -E - >/dev/null 2>&1 || { echo "OpenSSL's headers are missing: apt-get install -y libssl-dev" >&2; exit 1; }

@@ -1,0 +1,58 @@
+-- DELETE: what its judge and its step meet. Assumes nothing.
+use Prim.Native.Nat.{ℕ}
+use mathlib.Core.Path.{_≡_, refl, sym, ap, _∙_}
+use mathlib.Core.Bool.{Bool, true, false}
+use mathlib.Core.List.{[]}
+use mathlib.Core.Option.{Option, none, some}
+use Rattle.order.specs.Order.{byBytes}
+use Rattle.machine.specs.Map.{lookup}
+use Rattle.machine.specs.Names.{Bytes, requestPathOk}
+use Rattle.machine.specs.State.{Object, State, withoutObject}
+use Rattle.machine.specs.Calls.{DELETE, nothing, Outcome, accept, badRequest, notFound, given}
+use Rattle.machine.specs.Steps.{act}
+use Rattle.find.specs.declared.Place.{Place}
+use Rattle.find.specs.Places.{isSome, objectPlace}
+use Rattle.edit.proofs.ObjectEdits.{is-some}
+use Rattle.edit.proofs.PutLaws.{place-found}
+use Rattle.calls.specs.Made.{Memory, stateIn, outcome, resultOf}
+use Rattle.calls.proofs.Judging.{result-pass, result-stop, result-found, result-missing, passed, was-found}
+use Rattle.writes.proofs.Room.{is-none}
+
+-- DELETE over the memory m
+module _ (m : Memory) (p : Bytes) where
+  abbrev s : State
+  s = stateIn m
+
+  -- what follows the check of the path
+  abbrev removal : Outcome
+  removal = given (lookup byBytes p (s .O)) notFound (λ x. accept nothing [] (withoutObject s p))
+
+  pub delete-bad : requestPathOk p ≡ false → 2 ≡ resultOf (outcome (DELETE p) m)
+  unfolding outcome act
+  delete-bad e = sym (result-stop (requestPathOk p) badRequest removal e)
+
+  module _ (ok : requestPathOk p ≡ true) (place : Place) (place-is : place ≡ objectPlace s p) where
+    checked : resultOf (outcome (DELETE p) m) ≡ resultOf removal
+    unfolding outcome act
+    checked = result-pass (requestPathOk p) badRequest removal ok
+
+    pub delete-absent : place .found ≡ false → 3 ≡ resultOf (outcome (DELETE p) m)
+    delete-absent e = sym (checked ∙ result-missing _ notFound _ (is-none _ (place-found s p place false place-is e)))
+
+    pub delete-judged : place .found ≡ true → 0 ≡ resultOf (outcome (DELETE p) m)
+    delete-judged e =
+        let k = is-some _ (place-found s p place true place-is e) in
+        sym (checked ∙ result-found (lookup byBytes p (s .O)) notFound (λ x. accept nothing [] (withoutObject s p)) (k .0) (k .1))
+
+  -- result 0
+  pub delete-accepted : resultOf (outcome (DELETE p) m) ≡ 0 → outcome (DELETE p) m ≡ accept nothing [] (withoutObject s p)
+  unfolding outcome act
+  delete-accepted e =
+      let one = passed (requestPathOk p) badRequest removal e in
+      one .1 ∙ was-found (lookup byBytes p (s .O)) notFound (λ x. accept nothing [] (withoutObject s p)) (one .2) .2
+
+  pub delete-there : resultOf (outcome (DELETE p) m) ≡ 0 → isSome (lookup byBytes p (s .O)) ≡ true
+  unfolding outcome act
+  delete-there e =
+      let one = passed (requestPathOk p) badRequest removal e in
+      ap isSome (was-found (lookup byBytes p (s .O)) notFound (λ x. accept nothing [] (withoutObject s p)) (one .2) .1)

@@ -1,0 +1,98 @@
+-- What `room_judge` reads is what the checks of an object put at a path ask. Assumes nothing.
+use Prim.Native.Nat.{ℕ, _+_, _-_, _≤_, _<_}
+use mathlib.Core.Path.{_≡_, refl, sym, ap, _∙_}
+use mathlib.Core.Bool.{Bool, true, false, cond}
+use mathlib.Core.List.{List}
+use mathlib.Core.Option.{Option, none, some}
+use native.Mathlib.Omega.{arith}
+use lib.Dec.{leb}
+use lib.ListN.{length, drop}
+use Rattle.number.specs.NumberLaws.{Bytes}
+use Rattle.order.specs.Order.{byBytes}
+use Rattle.machine.specs.Map.{lookup}
+use Rattle.machine.specs.State.{Object, State, objectLength, held}
+use Rattle.machine.specs.Steps.{putAt}
+use Rattle.row.specs.declared.Head.{Head}
+use Rattle.row.specs.Row.{encodeRows, contentsOf, headAt}
+use Rattle.layout.specs.declared.Header.{Header}
+use Rattle.layout.specs.Memory.{rowsOf, objectRow, headerAt, whole, stateOf, Stands}
+use Rattle.layout.specs.RowCounts.{length-contents}
+use Rattle.layout.specs.WholeLaws.{whole-stands}
+use Rattle.find.specs.declared.Offset.{Offset}
+use Rattle.find.specs.declared.Place.{Place}
+use Rattle.find.specs.Places.{isSome, behind, beforeObject, afterObject, objectPlace}
+use Rattle.find.proofs.Splits.{object-found}
+use Rattle.find.proofs.RowsAt.{row-at}
+use Rattle.edit.proofs.ObjectEdits.{is-some, header-is}
+use Rattle.edit.proofs.PutLaws.{place-found}
+use Rattle.calls.specs.Made.{resultOf}
+use Rattle.writes.proofs.Putting.{object-share, room-old, room-new, room-none}
+
+pub is-none : {X : Type 0} (o : Option X) → isSome o ≡ false → o ≡ none
+is-none none e = refl
+is-none (some x) e = cc
+
+module _ (t a : List ℕ) (b : Bytes t) (w : whole t a ≡ true) (p : List ℕ) (place : Place) (place-is : place ≡ objectPlace (stateOf t a) p)
+    (end : Offset) (end-is : end ≡ behind (rowsOf (stateOf t a))) where
+  abbrev s : State
+  s = stateOf t a
+
+  stands : Stands t a s
+  stands = whole-stands t a b w
+
+  held-is : end .base ≡ held s
+  held-is = ap (λ (x : Offset). x .base) end-is ∙ length-contents s
+
+  pub held-inside : end .base ≤ length a
+  held-inside = let r = stands .valid .room in omega (arith, held-is)
+
+  -- in place of the object that was found
+  module _ (e : place .found ≡ true) where
+    there : isSome (lookup byBytes p (s .O)) ≡ true
+    there = place-found s p place true place-is e
+
+    x : Object
+    x = is-some (lookup byBytes p (s .O)) there .0
+
+    found : lookup byBytes p (s .O) ≡ some x
+    unfolding x
+    found = is-some (lookup byBytes p (s .O)) there .1
+
+    at-is : place .at ≡ 18 + length (encodeRows (beforeObject s p))
+    unfolding objectPlace
+    at-is = ap (λ (y : Place). y .at) place-is
+
+    pub head-inside : place .at + 20 ≤ length t
+    head-inside = let i = row-at t a s stands (beforeObject s p) (objectRow p x) (afterObject s p) (object-found s p x found) .inside in omega (arith, at-is)
+
+    module _ (head : Head) (head-is : head ≡ headAt (drop (place .at) t)) where
+      size-is : head .size ≡ objectLength x
+      size-is =
+          ap (λ (h : Head). h .size)
+          (head-is ∙ ap (λ (n : ℕ). headAt (drop n t)) at-is ∙ row-at t a s stands (beforeObject s p) (objectRow p x) (afterObject s p) (object-found s p x found) .head)
+
+      pub old-inside : head .size ≤ end .base
+      old-inside = omega (arith, size-is, held-is, object-share s p x found)
+
+      pub judged-old : (r n : ℕ) → r ≡ cond (leb (end .base - head .size + n) (length a)) 0 5
+          → (stamp : ℕ) (content : List ℕ) → length content ≡ n → r ≡ resultOf (putAt (length a) s stamp p content)
+      judged-old r n is stamp content l =
+          let q : end .base - head .size + n ≡ held s - objectLength x + length content = omega (arith, size-is, held-is) in
+          rw (is, q) (sym (room-old (length a) s (stands .valid) stamp p content x found))
+
+  -- at a path that has none
+  module _ (e : place .found ≡ false) (header : Header) (read : header ≡ headerAt t) where
+    absent : lookup byBytes p (s .O) ≡ none
+    absent = is-none _ (place-found s p place false place-is e)
+
+    objects-are : header .objects ≡ length (s .O)
+    objects-are = ap (λ (h : Header). h .objects) (read ∙ header-is t a b w)
+
+    pub judged-full : 256 ≤ header .objects → (stamp : ℕ) (content : List ℕ) → 4 ≡ resultOf (putAt (length a) s stamp p content)
+    judged-full l stamp content = sym (room-none (length a) s (stands .valid) stamp p content absent (omega (arith, objects-are)))
+
+    pub judged-new : header .objects < 256 → (r n : ℕ) → r ≡ cond (leb (end .base + n) (length a)) 0 5
+        → (stamp : ℕ) (content : List ℕ) → length content ≡ n → r ≡ resultOf (putAt (length a) s stamp p content)
+    judged-new m r n is stamp content l =
+        let q : end .base + n ≡ held s + length content = omega (arith, held-is) in
+        rw (is, q) (sym (room-new (length a) s (stands .valid) stamp p content absent (omega (arith, objects-are))))

@@ -1,0 +1,2 @@
+// The calls that write objects.
+pub mod judges;

@@ -35,10 +35,10 @@ module _ (b : Bool) (n : Refusal) (o : Outcome) where
   pub result-stop : b ≡ false → resultOf (b else n then o) ≡ code n
   result-stop e = ap resultOf (stop e)
 
--- result 0: the test was passed, and what follows has result 0
-pub passed : (b : Bool) (n : Refusal) (o : Outcome) → resultOf (b else n then o) ≡ 0 → (b ≡ true) × ((b else n then o) ≡ o) × (resultOf o ≡ 0)
+-- result 0: the test was passed
+pub passed : (b : Bool) (n : Refusal) (o : Outcome) → resultOf (b else n then o) ≡ 0 → (b ≡ true) × ((b else n then o) ≡ o)
 unfolding _else_then_
-passed true n o e = (refl, refl, e)
+passed true n o e = (refl, refl)
 passed false n o e = absurd (code-not-zero n e)
 
 -- A search -------------------------------------------------------------------------------------------------------------
@@ -58,11 +58,11 @@ module _ {X : Type 0} (m : Option X) (n : Refusal) (k : X → Outcome) where
   pub result-missing : m ≡ none → resultOf (given m n k) ≡ code n
   result-missing e = ap resultOf (missing e)
 
--- result 0: there was one, and what follows has result 0
-pub was-found : {X : Type 0} (m : Option X) (n : Refusal) (k : X → Outcome) → resultOf (given m n k) ≡ 0 → (x : X) × (m ≡ some x) × (given m n k ≡ k x) × (resultOf (k x) ≡ 0)
+-- result 0: there was one
+pub was-found : {X : Type 0} (m : Option X) (n : Refusal) (k : X → Outcome) → resultOf (given m n k) ≡ 0 → (x : X) × (m ≡ some x) × (given m n k ≡ k x)
 unfolding given
 was-found none n k e = absurd (code-not-zero n e)
-was-found (some x) n k e = (x, refl, refl, e)
+was-found (some x) n k e = (x, refl, refl)
 
 -- Result 0: the outcome is accepted ------------------------------------------------------------------------------------
 

@@ -1,20 +1,25 @@
 -- DELETE: what its judge and its step meet. Assumes nothing.
 use Prim.Native.Nat.{ℕ}
 use mathlib.Core.Path.{_≡_, refl, sym, ap, _∙_}
-use mathlib.Core.Bool.{Bool, true, false}
+use mathlib.Core.Bool.{true, false}
 use mathlib.Core.List.{[]}
-use mathlib.Core.Option.{Option, none, some}
+use mathlib.Core.Option.{some}
+use lib.ListN.{length}
+use Rattle.types.specs.declared.DoneAnswer.{DoneAnswer}
 use Rattle.order.specs.Order.{byBytes}
 use Rattle.machine.specs.Map.{lookup}
 use Rattle.machine.specs.Names.{Bytes, requestPathOk}
 use Rattle.machine.specs.State.{Object, State, withoutObject}
 use Rattle.machine.specs.Calls.{DELETE, nothing, Outcome, accept, badRequest, notFound, given}
 use Rattle.machine.specs.Steps.{act}
+use Rattle.layout.specs.Memory.{Stands}
 use Rattle.find.specs.declared.Place.{Place}
 use Rattle.find.specs.Places.{isSome, objectPlace}
 use Rattle.edit.proofs.ObjectEdits.{is-some}
 use Rattle.edit.proofs.PutLaws.{place-found}
-use Rattle.calls.specs.Made.{Memory, stateIn, outcome, resultOf}
+use Rattle.calls.specs.Answers.{doneReply}
+use Rattle.calls.specs.Made.{Memory, wholeMemory, stateIn, outcome, resultOf, Made}
+use Rattle.calls.proofs.MadeLaws.{done}
 use Rattle.calls.proofs.Judging.{result-pass, result-stop, result-found, result-missing, passed, was-found}
 use Rattle.writes.proofs.Room.{is-none}
 
@@ -45,14 +50,22 @@ module _ (m : Memory) (p : Bytes) where
         sym (checked ∙ result-found (lookup byBytes p (s .O)) notFound (λ x. accept nothing [] (withoutObject s p)) (k .0) (k .1))
 
   -- result 0
-  pub delete-accepted : resultOf (outcome (DELETE p) m) ≡ 0 → outcome (DELETE p) m ≡ accept nothing [] (withoutObject s p)
-  unfolding outcome act
-  delete-accepted e =
-      let one = passed (requestPathOk p) badRequest removal e in
-      one .1 ∙ was-found (lookup byBytes p (s .O)) notFound (λ x. accept nothing [] (withoutObject s p)) (one .2) .2
+  module _ (zero-result : resultOf (outcome (DELETE p) m) ≡ 0) where
+    path-ok : (requestPathOk p ≡ true) × (outcome (DELETE p) m ≡ removal)
+    unfolding outcome act
+    path-ok = passed (requestPathOk p) badRequest removal zero-result
 
-  pub delete-there : resultOf (outcome (DELETE p) m) ≡ 0 → isSome (lookup byBytes p (s .O)) ≡ true
-  unfolding outcome act
-  delete-there e =
-      let one = passed (requestPathOk p) badRequest removal e in
-      ap isSome (was-found (lookup byBytes p (s .O)) notFound (λ x. accept nothing [] (withoutObject s p)) (one .2) .1)
+    there : (x : Object) × (lookup byBytes p (s .O) ≡ some x) × (removal ≡ accept nothing [] (withoutObject s p))
+    there = was-found (lookup byBytes p (s .O)) notFound (λ x. accept nothing [] (withoutObject s p)) (sym (ap resultOf (path-ok .1)) ∙ zero-result)
+
+    pub delete-accepted : outcome (DELETE p) m ≡ accept nothing [] (withoutObject s p)
+    delete-accepted = path-ok .1 ∙ there .2
+
+    pub delete-there : isSome (lookup byBytes p (s .O)) ≡ true
+    delete-there = ap isSome (there .1)
+
+-- DELETE, judged and done
+pub delete-made : (m m′ : Memory) (p : Bytes) (n : ℕ) → wholeMemory m ≡ true → n ≡ resultOf (outcome (DELETE p) m) → n ≡ 0
+    → Stands (m′ .tables) (m′ .arena) (withoutObject (stateIn m) p) → length (m′ .tables) ≡ length (m .tables) → length (m′ .arena) ≡ length (m .arena)
+    → Made (DELETE p) m (doneReply DoneAnswer.Done) m′
+delete-made m m′ p n w e z h l l′ = done (DELETE p) m m′ _ nothing [] _ w (delete-accepted m p (sym e ∙ z)) refl h l l′

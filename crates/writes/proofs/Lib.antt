@@ -1,3 +1,4 @@
 pub mod Putting
 pub mod Room
 pub mod Deleting
+pub mod Freshness

@@ -1,7 +1,7 @@
 -- What `room_judge` reads is what the checks of an object put at a path ask. Assumes nothing.
 use Prim.Native.Nat.{ℕ, _+_, _-_, _≤_, _<_}
 use mathlib.Core.Path.{_≡_, refl, sym, ap, _∙_}
-use mathlib.Core.Bool.{Bool, true, false, cond}
+use mathlib.Core.Bool.{true, false, cond}
 use mathlib.Core.List.{List}
 use mathlib.Core.Option.{Option, none, some}
 use native.Mathlib.Omega.{arith}
@@ -13,7 +13,7 @@ use Rattle.machine.specs.Map.{lookup}
 use Rattle.machine.specs.State.{Object, State, objectLength, held}
 use Rattle.machine.specs.Steps.{putAt}
 use Rattle.row.specs.declared.Head.{Head}
-use Rattle.row.specs.Row.{encodeRows, contentsOf, headAt}
+use Rattle.row.specs.Row.{encodeRows, headAt}
 use Rattle.layout.specs.declared.Header.{Header}
 use Rattle.layout.specs.Memory.{rowsOf, objectRow, headerAt, whole, stateOf, Stands}
 use Rattle.layout.specs.RowCounts.{length-contents}

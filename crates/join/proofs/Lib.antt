@@ -1,0 +1,2 @@
+pub mod UploadBounds
+pub mod Taking

@@ -1,0 +1,112 @@
+-- The bounds of an open upload. Assumes nothing.
+use Prim.Native.Nat.{ℕ, _+_, _-_, _*_, _≤_}
+use mathlib.Core.Path.{_≡_, refl, ap, _∙_, subst}
+use mathlib.Core.List.{List, [], _∷_, _++_}
+use mathlib.Core.Option.{some}
+use native.Mathlib.Omega.{arith}
+use lib.ListN.{length, length-append}
+use Rattle.order.specs.OrderLaws.{numbers}
+use Rattle.machine.specs.Map.{Map, byNumber, lookup}
+use Rattle.machine.specs.State.{Part, Upload, State, partsIn}
+use Rattle.machine.proofs.MapSums.{total-share}
+use Rattle.row.specs.Row.{encodeRow, encodeRows, contentsOf}
+use Rattle.row.specs.RowLaws.{EncodableAll, encode-append, contents-append, encodable-left, encodable-right, length-row}
+use Rattle.layout.specs.Memory.{uploadRow, partRow, partRows, rowsOf, Stands}
+use Rattle.layout.specs.StandsLaws.{rows-encodable}
+use Rattle.find.specs.declared.Offset.{Offset}
+use Rattle.find.specs.declared.Place.{Place}
+use Rattle.find.specs.declared.Parts.{Parts}
+use Rattle.find.specs.Places.{behind, beforeUpload, beforeParts, throughParts, afterUpload, uploadPlace, partsOf}
+use Rattle.find.proofs.Splits.{parts-place}
+use Rattle.join.specs.Bounds.{boundsOf}
+
+append-nil : {A : Type 0} (l : List A) → l ++ [] ≡ l
+append-nil [] = refl
+append-nil {A} (x ∷ l) = ap (λ (m : List A). x ∷ m) (append-nil l)
+
+length-part-bytes : (m : Map ℕ Part) → EncodableAll (partRows m) → length (encodeRows (partRows m)) ≡ 36 * length m
+unfolding partRows encodeRows
+length-part-bytes [] f = refl
+length-part-bytes (e ∷ m) f = omega (arith, length-append (encodeRow (partRow (e .0) (e .1))) (encodeRows (partRows m)), length-row _ (f .0), length-part-bytes m (f .1))
+
+-- no data stand in an upload's own row
+pub parts-data : (s : State) (u : ℕ) (x : Upload) → contentsOf (beforeParts s u x) ≡ contentsOf (beforeUpload s u)
+unfolding beforeParts contentsOf
+parts-data s u x = contents-append (beforeUpload s u) (uploadRow u x ∷ []) ∙ append-nil (contentsOf (beforeUpload s u))
+
+module _ (t a : List ℕ) (s : State) (h : Stands t a s) (u : ℕ) (x : Upload) (f : lookup byNumber u (s .U) ≡ some x) where
+  pub parts-encodable : EncodableAll (partRows (x .parts))
+  parts-encodable =
+      encodable-left (partRows (x .parts)) (afterUpload s u)
+      (encodable-right (beforeParts s u x) (partRows (x .parts) ++ afterUpload s u) (subst EncodableAll (parts-place s u x f) (rows-encodable (length a) s (h .small) (h .valid))))
+
+  pub few-parts : length (x .parts) ≤ 256
+  few-parts = let l = h .valid .parts in omega (arith, total-share numbers partsIn u x (s .U) f)
+
+  pub rows-through : length (encodeRows (throughParts s u x)) ≡ length (encodeRows (beforeParts s u x)) + 36 * length (x .parts)
+  unfolding throughParts
+  rows-through =
+      omega (
+        arith,
+        ap length (encode-append (beforeParts s u x) (partRows (x .parts))),
+        length-append (encodeRows (beforeParts s u x)) (encodeRows (partRows (x .parts))),
+        length-part-bytes (x .parts) parts-encodable,
+      )
+
+  pub data-through : length (contentsOf (throughParts s u x)) ≡ length (contentsOf (beforeUpload s u)) + length (contentsOf (partRows (x .parts)))
+  unfolding throughParts
+  data-through =
+      omega (
+        arith,
+        ap length (contents-append (beforeParts s u x) (partRows (x .parts))),
+        length-append (contentsOf (beforeParts s u x)) (contentsOf (partRows (x .parts))),
+        ap length (parts-data s u x),
+      )
+
+  module _ (place : Place) (place-is : place ≡ uploadPlace s u) (parts : Parts) (parts-are : parts ≡ partsOf s u x) (end : Offset) (end-is : end ≡ behind (rowsOf s)) where
+    at-is : place .at ≡ 18 + length (encodeRows (beforeUpload s u))
+    unfolding uploadPlace
+    at-is = ap (λ (k : Place). k .at) place-is
+
+    base-is : place .base ≡ length (contentsOf (beforeUpload s u))
+    unfolding uploadPlace
+    base-is = ap (λ (k : Place). k .base) place-is
+
+    count-is : parts .count ≡ length (x .parts)
+    unfolding partsOf
+    count-is = ap (λ (k : Parts). k .count) parts-are
+
+    behind-is : parts .at ≡ 18 + length (encodeRows (throughParts s u x))
+    unfolding partsOf
+    behind-is = ap (λ (k : Parts). k .at) parts-are
+
+    data-behind : parts .base ≡ length (contentsOf (throughParts s u x))
+    unfolding partsOf
+    data-behind = ap (λ (k : Parts). k .base) parts-are
+
+    pub count-small : parts .count ≤ 256
+    count-small = omega (arith, count-is, few-parts)
+
+    pub rows-behind : 36 * parts .count ≤ parts .at
+    rows-behind = omega (arith, count-is, behind-is, rows-through)
+
+    pub base-behind : place .base ≤ parts .base
+    base-behind = omega (arith, base-is, data-behind, data-through)
+
+    pub bounds-are : record {
+      at = place .at;
+      first = parts .at - 36 * parts .count;
+      behind = parts .at;
+      used = end .at;
+      base = place .base;
+      size = parts .base - place .base;
+      held = end .base;
+      count = parts .count;
+    } ≡ boundsOf s u x
+    unfolding boundsOf
+    bounds-are =
+        let first : parts .at - 36 * parts .count ≡ 18 + length (encodeRows (beforeParts s u x)) = omega (arith, count-is, behind-is, rows-through) in
+        let size : parts .base - place .base ≡ length (contentsOf (partRows (x .parts))) = omega (arith, base-is, data-behind, data-through) in
+        let used : end .at ≡ 18 + length (encodeRows (rowsOf s)) = ap (λ (k : Offset). k .at) end-is in
+        let held : end .base ≡ length (contentsOf (rowsOf s)) = ap (λ (k : Offset). k .base) end-is in
+        λ i. record { at = at-is i; first = first i; behind = behind-is i; used = used i; base = base-is i; size = size i; held = held i; count = count-is i }

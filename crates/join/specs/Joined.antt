@@ -1,0 +1,42 @@
+-- An upload whose parts a list names, joined into an object. Assumes nothing.
+use Prim.Native.Nat.{ℕ}
+use mathlib.Core.Path.{_≡_}
+use mathlib.Core.Bool.{true}
+use mathlib.Core.List.{List}
+use mathlib.Core.Option.{some}
+use lib.ListN.{length, take, drop}
+use Rattle.md5.specs.Md5.{bytesOf}
+use Rattle.machine.specs.Map.{byNumber, lookup}
+use Rattle.machine.specs.Names.{Bytes}
+use Rattle.machine.specs.Digest.{md5}
+use Rattle.machine.specs.State.{Part, Upload, State, held, withObject, withoutUpload}
+use Rattle.machine.specs.Steps.{fit, contents, digests, joinedObject}
+use Rattle.machine.specs.Valid.{Valid}
+use Rattle.layout.specs.Memory.{whole, stateOf, Stands}
+use Rattle.calls.specs.Answers.{partList}
+use Rattle.join.specs.declared.Taken.{Taken}
+
+-- upload u is open, and the numbers name each of its parts one time
+pub record Listed (s : State) (u : ℕ) (numbers : List ℕ) : Type 0 where
+  pub upload : Upload
+  pub found : lookup byNumber u (s .U) ≡ some upload
+  pub listed : List Part
+  pub fits : fit numbers (upload .parts) ≡ some listed
+
+-- O at the upload's path becomes its parts joined in listed order, and the upload leaves U
+abbrev pub joinedState : (s : State) (u : ℕ) (numbers : List ℕ) → Listed s u numbers → State
+joinedState s u numbers k = withoutUpload (withObject s (k .upload .path) (joinedObject (k .upload) (k .listed))) u
+
+-- what `join` asks
+pub record Joinable (t a : List ℕ) (u : ℕ) (list : Bytes) : Type 0 where
+  pub is-whole : whole t a ≡ true
+  pub listed : Listed (stateOf t a) u (partList list)
+  pub valid : Valid (length a) (joinedState (stateOf t a) u (partList list) listed)
+
+-- the upload is out, and its parts' data stand behind the last byte held, in listed order
+pub record TakenOut (t a : List ℕ) (u : ℕ) (list : Bytes) (k : Listed (stateOf t a) u (partList list)) (t′ a′ : List ℕ) (r : Taken) : Type 0 where
+  pub stands : Stands t′ a′ (withoutUpload (stateOf t a) u)
+  pub behind : take (r .size) (drop (held (withoutUpload (stateOf t a) u)) a′) ≡ contents (k .listed)
+  pub size-is : r .size ≡ length (contents (k .listed))
+  pub count-is : r .count ≡ length (k .listed)
+  pub digest-is : bytesOf (r .digest) ≡ md5 (digests (k .listed))

@@ -1,0 +1,94 @@
+// An upload's parts joined in listed order into an object.
+use layout::Header;
+use md5::words::Digest;
+ghost use mathlib.Core.Path.{_≡_};
+ghost use mathlib.Core.Bool.{true};
+ghost use mathlib.Core.List.{[]};
+ghost use mathlib.Core.Option.{some};
+ghost use Prim.Native.Nat.{_+_, _-_, _≤_};
+ghost use lib.ListN.{length};
+ghost use Rattle.buffer.specs.Buffer.{spliced, rotated};
+ghost use Rattle.machine.specs.Map.{byNumber, lookup};
+ghost use Rattle.machine.specs.State.{Upload};
+ghost use Rattle.layout.specs.Memory.{whole, stateOf};
+ghost use Rattle.find.specs.Places.{isSome};
+ghost use Rattle.edit.specs.Header.{headed};
+ghost use Rattle.calls.specs.Answers.{partList};
+ghost use Rattle.join.specs.Bounds.{boundsOf};
+ghost use Rattle.join.specs.Joined.{Listed, TakenOut};
+
+// Where an upload's row, its first part's row, the rows behind its parts and the free bytes begin in the tables; where its
+// parts' data begin in the arena, their size, and what is held; how many parts it has.
+pub struct Bounds {
+    pub at: usize,
+    pub first: usize,
+    pub behind: usize,
+    pub used: usize,
+    pub base: usize,
+    pub size: usize,
+    pub held: usize,
+    pub count: usize,
+}
+
+// What is known of an upload that was taken out: the digest of its parts' digests, the size of their data, their count.
+pub struct Taken {
+    pub digest: Digest,
+    pub size: usize,
+    pub count: u16,
+}
+
+// The bounds of an open upload.
+fn upload_bounds(tables: &[u8], arena: &[u8], upload: u32) -> Bounds
+    requires { ⌜ (whole (now tables) (now arena) ≡ true) × (isSome (lookup byNumber upload (stateOf (now tables) (now arena) .U)) ≡ true) ⌝ }
+    ensures { λ r. ⌜ ((x : Upload) → lookup byNumber upload (stateOf (now (tables .entry)) (now (arena .entry)) .U) ≡ some x → r ≡ boundsOf (stateOf (now (tables .entry)) (now (arena .entry))) upload x) ⌝ }
+{
+    let place = find::find_upload(tables, arena, upload);
+    let parts = find::parts_end(tables, arena, upload);
+    let end = find::rows_end(tables, arena);
+    Bounds {
+        at: place.at,
+        first: parts.at - 36 * parts.count,
+        behind: parts.at,
+        used: end.at,
+        base: place.base,
+        size: parts.base - place.base,
+        held: end.base,
+        count: parts.count,
+    }
+}
+
+// The upload's rows cut out, and its parts' data brought behind the last byte that is still held.
+fn cut(tables: &mut [u8], arena: &mut [u8], b: Bounds, header: Header)
+    requires { ⌜ (18 ≤ b .at) × (b .at ≤ b .behind) × (b .behind ≤ b .used) × (b .used ≤ length (now tables)) × (b .base + b .size ≤ b .held) × (b .held ≤ length (now arena)) ⌝ }
+    ensures { λ _. ⌜ (now (tables .exit) ≡ headed (spliced (now (tables .entry)) (b .at) (b .behind - b .at) (b .used) []) header)
+        × (now (arena .exit) ≡ rotated (now (arena .entry)) (b .base) (b .size) (b .held - (b .base + b .size))) ⌝ }
+{
+    let end = b.base + b.size;
+    buffer::rotate(arena, b.base, b.size, b.held - end);
+    edit::rows::remove_rows(tables, b.at, b.behind - b.at, b.used, header);
+}
+
+// An open upload taken out, its parts' data left behind the last byte held, in listed order.
+fn take_upload(tables: &mut [u8], arena: &mut [u8], upload: u32, list: &[u8]) -> Taken
+    requires { ⌜ (whole (now tables) (now arena) ≡ true) × Listed (stateOf (now tables) (now arena)) upload (partList (now list)) ⌝ }
+    ensures { λ r. ⌜ ((k : Listed (stateOf (now (tables .entry)) (now (arena .entry))) upload (partList (now (list .entry))))
+        → TakenOut (now (tables .entry)) (now (arena .entry)) upload (now (list .entry)) k (now (tables .exit)) (now (arena .exit)) r) ⌝ }
+{
+    let b = upload_bounds(tables, arena, upload);
+    let count = b.count as u16;
+    let h = layout::headers::read_header(tables);
+    let header = Header {
+        arena: h.arena,
+        next: h.next,
+        objects: h.objects,
+        uploads: h.uploads - 1,
+        parts: h.parts - count,
+    };
+    let digest = join_order::arrange(tables, arena, b.first, b.base, list);
+    cut(tables, arena, b, header);
+    Taken {
+        digest,
+        size: b.size,
+        count,
+    }
+}

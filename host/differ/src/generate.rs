@@ -1,0 +1,621 @@
+//! Random lists of calls. The maker keeps a model, so that calls name what is there, what was there
+//! and what never was, and lengths fall just short of, on and past each limit.
+
+use crate::guard::Side;
+use crate::layout::{self, HEADER_LEN};
+use crate::list::{Bit, Lending, List, Step};
+use crate::random::Random;
+use model::{Answer, Call, Model};
+use model::{LARGEST_ARENA, LAST_PART, LONGEST_PATH, MOST_OBJECTS, MOST_PARTS, NUMBERS_END};
+use rathnodi::TABLES_LEN;
+
+const ARENAS: [usize; 9] = [0, 1, 4, 64, 64, 4096, 4096, 4096, LARGEST_ARENA];
+
+/// Lengths at which MD5's padding or count of blocks changes.
+const DIGEST_EDGES: [usize; 9] = [55, 56, 57, 63, 64, 65, 119, 120, 128];
+
+/// The list with this number in the run with this seed.
+pub fn list(seed: u64, index: u64) -> List {
+    let mut random = Random::new(seed, index);
+    let arena = *random.pick(&ARENAS);
+    let next = match random.one_in(16) {
+        true => NUMBERS_END - random.below(4) as u64,
+        false => 1,
+    };
+    let fill = random.draw();
+    let mut side = || if random.one_in(2) { Side::Front } else { Side::Back };
+    let sides = (side(), side());
+    let pool = pool(&mut random);
+    let weights = std::array::from_fn(|_| 1 + random.below(6));
+    let mut model = Model::fresh(arena);
+    model.next = next;
+    let mut maker = Maker { random, model, pool, weights, arena, steps: Vec::new() };
+    maker.make();
+    List { arena, fill, next, sides, steps: maker.steps }
+}
+
+/// The good paths that a list draws on.
+fn pool(random: &mut Random) -> Vec<Vec<u8>> {
+    let few: [&[u8]; 4] = [b"a", b"b", b"ab", b"a/"];
+    let usual: [&[u8]; 14] = [
+        b"a",
+        b"a/",
+        b"a/b",
+        b"ab",
+        b"abc",
+        b"abbc",
+        b"bc",
+        b"!",
+        b"~",
+        b"a!",
+        b"a~",
+        b"recipe/rye",
+        b"recipe/rye/",
+        b"recipe/roll",
+    ];
+    match random.below(4) {
+        0 => few.map(Vec::from).to_vec(),
+        1 | 2 => {
+            let mut paths = usual.map(Vec::from).to_vec();
+            for length in [LONGEST_PATH, LONGEST_PATH, LONGEST_PATH - 1, 8, 9, 16, 17] {
+                paths.push(good_path(random, length));
+            }
+            paths
+        }
+        _ => many_paths(random),
+    }
+}
+
+fn many_paths(random: &mut Random) -> Vec<Vec<u8>> {
+    (0..300)
+        .map(|i| {
+            let length = *random.pick(&[0, 0, 1, 4, 5, 60, 120]);
+            [format!("p{i:03}/").into_bytes(), good_path(random, length)].concat()
+        })
+        .collect()
+}
+
+/// A path of this length by the rules, "/" never beside "/" nor first.
+fn good_path(random: &mut Random, length: usize) -> Vec<u8> {
+    let mut path: Vec<u8> = Vec::new();
+    while path.len() < length {
+        let byte = *random.pick(b"ab/!~.-0Z9");
+        if byte != b'/' || path.last().is_some_and(|last| *last != b'/') {
+            path.push(byte);
+        }
+    }
+    path
+}
+
+fn bad_path(random: &mut Random) -> Vec<u8> {
+    let bad: [&[u8]; 14] = [
+        b"",
+        b"/",
+        b"/a",
+        b"//",
+        b"a//b",
+        b"a//",
+        b"a b",
+        b"a\x7f",
+        b"\x20",
+        b"\0",
+        b"a\x80",
+        b"\xc3\xa4",
+        b"a/b/c//d",
+        b"\xff",
+    ];
+    match random.below(20) {
+        0 => good_path(random, LONGEST_PATH + 1),
+        1 => good_path(random, LONGEST_PATH + 128),
+        2 => good_path(random, 300),
+        3 => {
+            let length = 1 + random.below(12);
+            random.bytes(length)
+        }
+        4 => {
+            // A good path of any length with one bad byte in it.
+            let length = 1 + random.below(LONGEST_PATH);
+            let mut path = good_path(random, length);
+            let at = random.below(path.len());
+            path[at] = *random.pick(&[0, 31, 32, 127, 128, 255]);
+            path
+        }
+        5 => {
+            // Two slashes at any place.
+            let length = 2 + random.below(LONGEST_PATH - 1);
+            let mut path = good_path(random, length);
+            let at = random.below(path.len() - 1);
+            path[at..at + 2].fill(b'/');
+            path
+        }
+        _ => random.pick(&bad).to_vec(),
+    }
+}
+
+struct Maker {
+    random: Random,
+    model: Model,
+    pool: Vec<Vec<u8>>,
+    weights: [usize; 11],
+    arena: usize,
+    steps: Vec<Step>,
+}
+
+impl Maker {
+    fn make(&mut self) {
+        let mut length = 5 + self.random.below(75);
+        match self.random.below(40) {
+            0 => self.fill_objects(),
+            1 => self.fill_parts(),
+            2 => {
+                self.fill_parts();
+                self.fill_objects();
+            }
+            3 | 4 => self.fill_uploads(),
+            _ => length /= 2,
+        }
+        length *= 2;
+        for _ in 0..length {
+            self.step();
+        }
+        if self.random.one_in(5) {
+            for _ in 0..self.random.below(6) {
+                self.damage_and_repair();
+            }
+            let damage = self.damage();
+            self.steps.push(damage);
+            for _ in 0..self.random.below(20) {
+                self.step();
+            }
+        }
+        self.show_all();
+    }
+
+    fn step(&mut self) {
+        if self.random.one_in(100) {
+            return self.fresh();
+        }
+        let call = self.call();
+        let lending = self.lending();
+        self.push(call, lending);
+    }
+
+    /// Adds the call, and makes it in the model where it is lent all right.
+    fn push(&mut self, call: Call, lending: Lending) {
+        let right = Lending { sides: lending.sides, ..Lending::right(self.arena) };
+        if lending == right {
+            self.model.call(&call);
+        }
+        self.steps.push(Step::Call(call, lending));
+    }
+
+    fn push_right(&mut self, call: Call) {
+        let sides = self.random.draw() as u8;
+        self.push(call, Lending { sides, ..Lending::right(self.arena) });
+    }
+
+    fn lending(&mut self) -> Lending {
+        let mut lending = Lending::right(self.arena);
+        lending.sides = self.random.draw() as u8;
+        match self.random.below(120) {
+            0 | 1 => lending.reply = *self.random.pick(&[0, 1, 24, 47, 49, 96]),
+            2 => lending.tables = self.wrong_tables(),
+            3 => lending.arena = self.wrong_arena(),
+            _ => (),
+        }
+        lending
+    }
+
+    fn wrong_tables(&mut self) -> usize {
+        *self.random.pick(&[0, 1, 18, TABLES_LEN - 1, TABLES_LEN + 1, 2 * TABLES_LEN])
+    }
+
+    fn wrong_arena(&mut self) -> usize {
+        match self.random.below(4) {
+            0 => self.arena.saturating_sub(1),
+            1 => 0,
+            2 => LARGEST_ARENA + 1,
+            _ => self.arena + 1,
+        }
+    }
+
+    fn fresh(&mut self) {
+        let mut lending = Lending::right(self.arena);
+        match self.random.below(4) {
+            0 => lending.tables = self.wrong_tables(),
+            1 => lending.arena = self.wrong_arena(),
+            2 => lending.arena = LARGEST_ARENA + 1,
+            _ => self.model = Model::fresh(self.arena),
+        }
+        self.steps.push(Step::Fresh(lending));
+    }
+
+    fn damage(&mut self) -> Step {
+        match self.random.below(8) {
+            0 => {
+                let from = *self.random.pick(&[0, 0, 4, 12, 18, 64, 1024]);
+                Step::Scribble { from, seed: self.random.draw() }
+            }
+            1..=3 => Step::Flip(self.random_bits()),
+            _ => Step::Flip(self.changed_field()),
+        }
+    }
+
+    /// A few calls over damaged memory; then the same bits are flipped back.
+    fn damage_and_repair(&mut self) {
+        let bits = if self.random.one_in(3) { self.random_bits() } else { self.changed_field() };
+        self.steps.push(Step::Flip(bits.clone()));
+        for _ in 0..1 + self.random.below(3) {
+            let call = self.call();
+            self.steps.push(Step::Call(call, Lending::right(self.arena)));
+        }
+        self.steps.push(Step::Flip(bits));
+    }
+
+    fn random_bits(&mut self) -> Vec<Bit> {
+        let used = layout::bytes_of(&self.model).tables.len();
+        let reach = *self.random.pick(&[HEADER_LEN, used, used, TABLES_LEN]);
+        (0..1 + self.random.below(3))
+            .map(|_| Bit {
+                byte: match self.arena > 0 && self.random.one_in(8) {
+                    true => TABLES_LEN + self.random.below(self.arena),
+                    false => self.random.below(reach),
+                },
+                mask: 1 << self.random.below(8),
+            })
+            .collect()
+    }
+
+    /// A field of the header or of a row gets a value at the edge of what is allowed there, or
+    /// another row's.
+    fn changed_field(&mut self) -> Vec<Bit> {
+        let layout::Bytes { tables, rows, .. } = layout::bytes_of(&self.model);
+        let header: [(usize, usize); 5] = [(0, 4), (4, 8), (12, 2), (14, 2), (16, 2)];
+        let row = [(0, 4), (4, 4), (8, 8), (16, 1), (17, 1), (18, 2), (20, 1), (36, 1), (36, 8)];
+        let (fields, starts) = match rows.is_empty() || self.random.one_in(4) {
+            true => (&header[..], vec![0]),
+            false => (&row[..], rows),
+        };
+        let (offset, width) = *self.random.pick(fields);
+        let (at, other) = (*self.random.pick(&starts), *self.random.pick(&starts));
+        let field = |start: usize| -> Vec<u8> {
+            tables.iter().skip(start + offset).take(width).copied().collect()
+        };
+        let old = field(at);
+        let mut number = [0; 8];
+        number[..old.len()].copy_from_slice(&old);
+        let number = u64::from_le_bytes(number);
+        let edges = [0, 1, 2, 3, 32, 33, 47, 126, 127, 128, 129, 255, 256, 257, 11_000, 11_001];
+        let new = match self.random.below(8) {
+            0 | 1 => number.wrapping_add(1).to_le_bytes().to_vec(),
+            2 | 3 => number.wrapping_sub(1).to_le_bytes().to_vec(),
+            4 | 5 => u64::to_le_bytes(*self.random.pick(&edges)).to_vec(),
+            6 => {
+                let ends = [NUMBERS_END, NUMBERS_END + 1, self.model.next, u64::MAX];
+                self.random.pick(&ends).to_le_bytes().to_vec()
+            }
+            _ => field(other),
+        };
+        let changed = old.iter().zip(new).enumerate();
+        changed.map(|(i, (old, new))| Bit { byte: at + offset + i, mask: old ^ new }).collect()
+    }
+
+    /// PUTs of short data to about as many paths as there can be.
+    fn fill_objects(&mut self) {
+        self.pool = many_paths(&mut self.random);
+        let mut order: Vec<usize> = (0..self.pool.len()).collect();
+        self.random.shuffle(&mut order);
+        for i in order.into_iter().take(MOST_OBJECTS - 1 + self.random.below(4)) {
+            let length = self.short();
+            let (path, data) = (self.pool[i].clone(), self.random.bytes(length));
+            self.push_right(Call::Put { stamp: i as u64 + 1, path, data });
+        }
+    }
+
+    fn fill_uploads(&mut self) {
+        for _ in 0..14 + self.random.below(4) {
+            let (stamp, path) = (1 + self.random.draw() % 1000, self.good_path());
+            self.push_right(Call::Initiate { stamp, path });
+        }
+    }
+
+    /// PARTs of short data, about as many as there can be, over some uploads.
+    fn fill_parts(&mut self) {
+        for _ in 0..1 + self.random.below(4) {
+            let path = self.good_path();
+            self.push_right(Call::Initiate { stamp: 7, path });
+        }
+        let open: Vec<u32> = self.model.uploads.keys().copied().collect();
+        if open.is_empty() {
+            return;
+        }
+        let mut numbers: Vec<u16> = (1..=300).map(|i| i * 36).collect();
+        self.random.shuffle(&mut numbers);
+        for part in numbers.into_iter().take(MOST_PARTS - 1 + self.random.below(4)) {
+            let length = self.short();
+            let (upload, data) = (*self.random.pick(&open), self.random.bytes(length));
+            self.push_right(Call::Part { upload, part, data });
+        }
+    }
+
+    /// A short length that mostly fits.
+    fn short(&mut self) -> usize {
+        let free = self.arena - self.model.held();
+        self.random.below(20).min(free)
+    }
+
+    fn call(&mut self) -> Call {
+        let mut place = self.random.below(self.weights.iter().sum());
+        let mut verb = 0;
+        while place >= self.weights[verb] {
+            place -= self.weights[verb];
+            verb += 1;
+        }
+        // A full store stays full for a while.
+        if verb == 3 && self.model.objects.len() == MOST_OBJECTS && !self.random.one_in(4) {
+            verb = 4;
+        }
+        // Most calls that name an upload have one to name, and most uploads get some parts.
+        if (7..10).contains(&verb) && self.model.uploads.is_empty() && !self.random.one_in(4) {
+            verb = 6;
+        } else if (8..10).contains(&verb) && self.model.parts() < self.random.below(12) {
+            verb = 7;
+        }
+        match verb {
+            0 => {
+                let (stamp, path) = (self.stamp(), self.path());
+                let old = self.model.objects.get(&path).map_or(0, |object| object.data.len());
+                Call::Put { stamp, data: self.data(old), path }
+            }
+            1 => {
+                let path = self.path_or_root();
+                let need = self.model.objects.get(&path).map_or(0, |object| object.data.len());
+                Call::Get { path, buffer: self.buffer(need) }
+            }
+            2 => Call::Head { path: self.path_or_root() },
+            3 => Call::Delete { path: self.path() },
+            4 => {
+                let (stamp, source) = (self.stamp(), self.path());
+                let destination = if self.random.one_in(6) { source.clone() } else { self.path() };
+                Call::Copy { stamp, source, destination }
+            }
+            5 => self.list(),
+            6 => Call::Initiate { stamp: self.stamp(), path: self.path() },
+            7 => self.part(),
+            8 => self.commit(),
+            9 => Call::Abort { upload: self.upload() },
+            _ => self.uploads(),
+        }
+    }
+
+    fn stamp(&mut self) -> u64 {
+        match self.random.below(16) {
+            0 => 0,
+            1 => 1,
+            2 => u64::MAX,
+            3 => self.random.draw(),
+            _ => 1 + self.random.draw() % 1000,
+        }
+    }
+
+    fn good_path(&mut self) -> Vec<u8> {
+        self.random.pick(&self.pool).clone()
+    }
+
+    fn stored_path(&mut self) -> Option<Vec<u8>> {
+        let count = self.model.objects.len();
+        (count > 0).then(|| {
+            let place = self.random.below(count);
+            self.model.objects.keys().nth(place).expect("a path").clone()
+        })
+    }
+
+    fn path(&mut self) -> Vec<u8> {
+        if self.random.one_in(16) {
+            return bad_path(&mut self.random);
+        }
+        if !self.random.one_in(3) {
+            if let Some(path) = self.stored_path() {
+                return path;
+            }
+        }
+        self.good_path()
+    }
+
+    fn path_or_root(&mut self) -> Vec<u8> {
+        if self.random.one_in(16) {
+            Vec::new()
+        } else {
+            self.path()
+        }
+    }
+
+    /// Data for a place that holds so many bytes.
+    fn data(&mut self, old: usize) -> Vec<u8> {
+        let free = self.arena - self.model.held() + old;
+        let mut length = match self.random.below(12) {
+            0 => 0,
+            1 => 1,
+            2 => free,
+            3 => free + 1,
+            4 => *self.random.pick(&DIGEST_EDGES),
+            5 => self.random.below(self.arena + 2),
+            6 => old,
+            7 => self.random.below(free + 1),
+            _ => self.random.below(free.min(100) + 1),
+        };
+        if length > 16_384 && !self.random.one_in(8) {
+            length %= 4096;
+        }
+        self.random.bytes(length)
+    }
+
+    /// A buffer of about this length.
+    fn buffer(&mut self, need: usize) -> Vec<u8> {
+        let length = match self.random.below(8) {
+            0 | 1 => need.saturating_sub(1),
+            2 => self.random.below(need + 1),
+            3 => need + 1 + self.random.below(70),
+            4 => need + 1,
+            _ => need,
+        };
+        self.random.bytes(length)
+    }
+
+    /// The bytes that a listing writes.
+    fn need(&mut self, call: Call) -> usize {
+        match self.model.call(&call).answer {
+            Answer::Written { bytes, .. } => bytes as usize,
+            other => panic!("{other:?}"),
+        }
+    }
+
+    /// Part of a path, or something else.
+    fn piece(&mut self, back: bool) -> Vec<u8> {
+        let path = match self.random.one_in(2) {
+            true => self.stored_path().unwrap_or_default(),
+            false => self.good_path(),
+        };
+        let cut = self.random.below(path.len() + 1);
+        match self.random.below(16) {
+            0 => path,
+            1 => [path, b"/".to_vec()].concat(),
+            2 => {
+                let length = self.random.below(5);
+                self.random.bytes(length)
+            }
+            3 => self.random.bytes(300),
+            4 => vec![b'a'],
+            5..=8 => Vec::new(),
+            _ if back => path[cut..].to_vec(),
+            _ => path[..cut].to_vec(),
+        }
+    }
+
+    fn list(&mut self) -> Call {
+        let (prefix, suffix) = (self.piece(false), self.piece(true));
+        let buffer = vec![0; MOST_OBJECTS * 178];
+        let (p, s) = (prefix.clone(), suffix.clone());
+        let need = self.need(Call::List { prefix: p, suffix: s, buffer });
+        Call::List { prefix, suffix, buffer: self.buffer(need) }
+    }
+
+    fn uploads(&mut self) -> Call {
+        let prefix = self.piece(false);
+        let need = self.need(Call::Uploads { prefix: prefix.clone(), buffer: vec![0; 16 * 143] });
+        Call::Uploads { prefix, buffer: self.buffer(need) }
+    }
+
+    fn upload(&mut self) -> u32 {
+        let open: Vec<u32> = self.model.uploads.keys().copied().collect();
+        match self.random.below(24) {
+            0 => 0,
+            1 => self.model.next as u32,
+            2 => self.random.draw() as u32,
+            3 => 1 + self.random.below(self.model.next as usize) as u32,
+            _ if open.is_empty() => 1,
+            4..=14 => {
+                let most = open.iter().max_by_key(|upload| self.model.uploads[upload].parts.len());
+                *most.expect("an upload")
+            }
+            _ => *self.random.pick(&open),
+        }
+    }
+
+    fn part(&mut self) -> Call {
+        let upload = self.upload();
+        let parts: Vec<(u16, usize)> = match self.model.uploads.get(&upload) {
+            Some(upload) => upload.parts.iter().map(|(i, part)| (*i, part.data.len())).collect(),
+            None => Vec::new(),
+        };
+        let (part, old) = match self.random.below(24) {
+            0 => (0, 0),
+            1 => (LAST_PART + 1, 0),
+            2 => (LAST_PART, 0),
+            3 => (self.random.draw() as u16, 0),
+            4..=10 if !parts.is_empty() => *self.random.pick(&parts),
+            _ => (1 + self.random.below(12) as u16, 0),
+        };
+        Call::Part { upload, part, data: self.data(old) }
+    }
+
+    fn commit(&mut self) -> Call {
+        let upload = self.upload();
+        let mut parts: Vec<u16> = match self.model.uploads.get(&upload) {
+            Some(upload) => upload.parts.keys().copied().collect(),
+            None => vec![1],
+        };
+        match self.random.below(4) {
+            0 => parts.reverse(),
+            1 => (),
+            _ => self.random.shuffle(&mut parts),
+        }
+        let at = self.random.below(parts.len() + 1);
+        match self.random.below(16) {
+            0 => parts.truncate(parts.len().saturating_sub(1)),
+            1 if at < parts.len() => parts.insert(at, parts[at]),
+            2 if !parts.is_empty() => parts.push(parts[0]),
+            3 => parts.insert(at, self.random.below(20) as u16),
+            4 if at < parts.len() => parts[at] = self.random.draw() as u16,
+            5 if at < parts.len() => parts[at] = parts[0],
+            6 => parts.clear(),
+            _ => (),
+        }
+        let mut list: Vec<u8> = parts.iter().flat_map(|part| part.to_le_bytes()).collect();
+        if self.random.one_in(20) {
+            list.push(self.random.draw() as u8);
+        } else if self.random.one_in(40) {
+            list.pop();
+        }
+        Call::Commit { upload, list }
+    }
+
+    /// Calls that together show the whole state: all listings, all data, each upload committed, N.
+    fn show_all(&mut self) {
+        let list = Call::List { prefix: vec![], suffix: vec![], buffer: vec![0; 256 * 178] };
+        let uploads = Call::Uploads { prefix: vec![], buffer: vec![0; 16 * 143] };
+        self.push_right(list.clone());
+        self.push_right(uploads.clone());
+        let lengths: Vec<(Vec<u8>, usize)> = (self.model.objects.iter())
+            .map(|(path, object)| (path.clone(), object.data.len()))
+            .collect();
+        for (path, length) in &lengths {
+            // Of many objects, some: each list costs about the same then.
+            if lengths.len() < 40 || self.random.one_in(8) {
+                self.push_right(Call::Get { path: path.clone(), buffer: vec![0; *length] });
+            }
+        }
+        let open: Vec<u32> = self.model.uploads.keys().copied().collect();
+        for upload in open {
+            let path = self.model.uploads[&upload].path.clone();
+            let mut parts: Vec<u16> = self.model.uploads[&upload].parts.keys().copied().collect();
+            self.random.shuffle(&mut parts);
+            if self.model.objects.len() == MOST_OBJECTS {
+                let first = self.model.objects.keys().next().expect("a path").clone();
+                self.push_right(Call::Delete { path: first });
+            }
+            let list = parts.iter().flat_map(|part| part.to_le_bytes()).collect();
+            self.push_right(Call::Commit { upload, list });
+            let length = self.model.objects.get(&path).map_or(0, |object| object.data.len());
+            self.push_right(Call::Get { path, buffer: vec![0; length] });
+        }
+        self.push_right(Call::Initiate { stamp: 1, path: b"last".to_vec() });
+        self.push_right(uploads);
+        self.push_right(list);
+    }
+}
+
+#[cfg(test)]
+mod tests {
+    use super::*;
+
+    #[test]
+    fn paths_are_what_they_are_called() {
+        let mut random = Random::new(1, 1);
+        for _ in 0..2000 {
+            assert!(pool(&mut random).iter().all(|path| model::path_ok(path)));
+            let path = bad_path(&mut random);
+            assert!(!model::path_ok(&path) || path.len() < 13, "{path:?}");
+        }
+    }
+}

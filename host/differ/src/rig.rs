@@ -1,0 +1,318 @@
+//! One list over the library and over the model, compared after each call.
+
+use crate::guard::Region;
+use crate::layout::{self, state_of, NEXT_AT};
+use crate::library::Library;
+use crate::list::{Lending, List, Step};
+use crate::random::Random;
+use crate::reply::{bytes_of, REPLY_LEN};
+use crate::tally::Tally;
+use model::{Call, Model, Reply, LARGEST_ARENA};
+use rathnodi::TABLES_LEN;
+use std::sync::atomic::Ordering::Relaxed;
+
+/// More than any length that is lent.
+const LARGEST: usize = LARGEST_ARENA + 4096;
+/// What a reply holds beforehand.
+const REPLY_BEFORE: u8 = 0xd3;
+
+/// Where and how the two stores differ; step 0 is FRESH.
+#[derive(Debug)]
+pub struct Difference {
+    pub step: usize,
+    pub what: String,
+}
+
+struct Memory {
+    tables: Region,
+    arena: Region,
+}
+
+pub struct Rig<L> {
+    library: L,
+    tally: &'static Tally,
+    /// The store's memory, and that of a call that is lent other lengths.
+    home: Memory,
+    odd: Memory,
+    /// The home memory as it was.
+    tables_before: Vec<u8>,
+    arena_before: Vec<u8>,
+    first: Region,
+    second: Region,
+    answer: Region,
+    reply: Region,
+}
+
+/// The two argument slices of a call; the second may be unused.
+fn arguments(call: &Call) -> [&[u8]; 2] {
+    match call {
+        Call::Put { path, data, .. } => [path, data],
+        Call::Copy { source, destination, .. } => [source, destination],
+        Call::List { prefix, suffix, .. } => [prefix, suffix],
+        Call::Get { path, .. } | Call::Head { path } => [path, &[]],
+        Call::Delete { path } | Call::Initiate { path, .. } => [path, &[]],
+        Call::Part { data, .. } => [data, &[]],
+        Call::Commit { list, .. } => [list, &[]],
+        Call::Abort { .. } => [&[], &[]],
+        Call::Uploads { prefix, .. } => [prefix, &[]],
+    }
+}
+
+fn has_reply(call: &Call) -> bool {
+    match call {
+        Call::Put { .. } | Call::Delete { .. } | Call::Copy { .. } => false,
+        Call::Commit { .. } | Call::Abort { .. } => false,
+        Call::Get { .. } | Call::Head { .. } | Call::List { .. } => true,
+        Call::Initiate { .. } | Call::Part { .. } | Call::Uploads { .. } => true,
+    }
+}
+
+fn only_reads(call: &Call) -> bool {
+    matches!(call, Call::Get { .. } | Call::Head { .. } | Call::List { .. } | Call::Uploads { .. })
+}
+
+/// The bytes cut or lengthened by zeros.
+fn resized(bytes: &[u8], length: usize) -> Vec<u8> {
+    let mut bytes = bytes.to_vec();
+    bytes.resize(length, 0);
+    bytes
+}
+
+/// Says the first byte that is not as it should be.
+fn same(what: &str, expected: &[u8], found: &[u8]) -> Result<(), String> {
+    if expected == found {
+        return Ok(());
+    }
+    let at = expected.iter().zip(found).position(|(a, b)| a != b).unwrap_or(0);
+    let (wanted, got) = (expected.get(at), found.get(at));
+    Err(format!("{what}, byte {at}: expected {wanted:?}, found {got:?}"))
+}
+
+impl<L: Library> Rig<L> {
+    pub fn new(library: L, tally: &'static Tally) -> Rig<L> {
+        let memory = || Memory { tables: Region::new(2 * TABLES_LEN), arena: Region::new(LARGEST) };
+        Rig {
+            library,
+            tally,
+            home: memory(),
+            odd: memory(),
+            tables_before: Vec::new(),
+            arena_before: Vec::new(),
+            first: Region::new(LARGEST),
+            second: Region::new(LARGEST),
+            answer: Region::new(LARGEST),
+            reply: Region::new(1024),
+        }
+    }
+
+    pub fn run(&mut self, list: &List) -> Result<(), Difference> {
+        self.tally.step.store(0, Relaxed);
+        let at = |step| move |what| Difference { step, what };
+        let mut model = Some(self.start(list).map_err(at(0))?);
+        for (i, step) in list.steps.iter().enumerate() {
+            self.tally.step.store(i as u64 + 1, Relaxed);
+            match step {
+                Step::Call(call, lending) => self.call(call, lending, &mut model),
+                Step::Fresh(lending) => self.fresh(lending, &mut model),
+                Step::Flip(_) | Step::Scribble { .. } => {
+                    self.damage(step);
+                    model = state_of(self.home.tables.bytes(), self.home.arena.bytes());
+                    let count =
+                        if model.is_some() { &self.tally.whole } else { &self.tally.broken };
+                    count.fetch_add(1, Relaxed);
+                    Ok(())
+                }
+            }
+            .map_err(at(i + 1))?;
+        }
+        Ok(())
+    }
+
+    /// FRESH over filled memory, and N as the list wants it.
+    fn start(&mut self, list: &List) -> Result<Model, String> {
+        let mut random = Random::new(list.fill, 0);
+        let (tables_side, arena_side) = list.sides;
+        random.fill(self.home.tables.place(TABLES_LEN, tables_side));
+        random.fill(self.home.arena.place(list.arena, arena_side));
+        let mut model = None;
+        self.keep();
+        self.fresh(&Lending::right(list.arena), &mut model)?;
+        let mut model = model.ok_or("FRESH was refused")?;
+        let next = &mut self.home.tables.bytes_mut()[NEXT_AT..NEXT_AT + 8];
+        next.copy_from_slice(&list.next.to_le_bytes());
+        model.next = list.next;
+        self.keep();
+        Ok(model)
+    }
+
+    /// Takes the home memory as what later refusals must leave.
+    fn keep(&mut self) {
+        self.tables_before.clear();
+        self.tables_before.extend(self.home.tables.bytes());
+        self.arena_before.clear();
+        self.arena_before.extend(self.home.arena.bytes());
+    }
+
+    /// The memory that a call is lent, and whether it is not the home memory.
+    fn lend_memory(&mut self, lending: &Lending) -> bool {
+        let (tables, arena) = (self.home.tables.bytes(), self.home.arena.bytes());
+        let odd = lending.tables != tables.len() || lending.arena != arena.len();
+        if odd {
+            self.odd.tables.lend(&resized(tables, lending.tables), lending.side(4));
+            self.odd.arena.lend(&resized(arena, lending.arena), lending.side(5));
+        }
+        odd
+    }
+
+    /// The lent memory is as before the call.
+    fn memory_kept(&mut self, odd: bool, lending: &Lending) -> Result<(), String> {
+        if odd {
+            let tables = resized(&self.tables_before, lending.tables);
+            let arena = resized(&self.arena_before, lending.arena);
+            same("tables of another length", &tables, self.odd.tables.bytes())?;
+            same("an arena of another length", &arena, self.odd.arena.bytes())?;
+        }
+        same("tables", &self.tables_before, self.home.tables.bytes())?;
+        same("arena", &self.arena_before, self.home.arena.bytes())
+    }
+
+    /// No byte beside a lent slice has changed.
+    fn kept_beside(&mut self) -> Result<(), String> {
+        for (what, region) in [
+            ("tables", &mut self.home.tables),
+            ("arena", &mut self.home.arena),
+            ("tables of another length", &mut self.odd.tables),
+            ("arena of another length", &mut self.odd.arena),
+            ("first argument", &mut self.first),
+            ("second argument", &mut self.second),
+            ("answer", &mut self.answer),
+            ("reply", &mut self.reply),
+        ] {
+            if !region.kept_beside() {
+                return Err(format!("a byte beside the {what} has changed"));
+            }
+        }
+        Ok(())
+    }
+
+    fn fresh(&mut self, lending: &Lending, model: &mut Option<Model>) -> Result<(), String> {
+        let odd = self.lend_memory(lending);
+        let expected = if lending.tables != TABLES_LEN {
+            1
+        } else if lending.arena > LARGEST_ARENA {
+            2
+        } else {
+            0
+        };
+        let memory = if odd { &mut self.odd } else { &mut self.home };
+        let number = self.library.fresh(memory.tables.bytes_mut(), memory.arena.bytes_mut());
+        if number != expected {
+            return Err(format!("FRESH answered {number}, expected {expected}"));
+        }
+        self.tally.count(None, number);
+        self.kept_beside()?;
+        if number != 0 {
+            self.memory_kept(odd, lending)
+        } else {
+            if !odd {
+                let fresh = Model::fresh(lending.arena);
+                self.stands_for(&fresh)?;
+                *model = Some(fresh);
+                self.keep();
+            }
+            Ok(())
+        }
+    }
+
+    fn call(
+        &mut self,
+        call: &Call,
+        lending: &Lending,
+        model: &mut Option<Model>,
+    ) -> Result<(), String> {
+        let [first, second] = arguments(call);
+        self.first.lend(first, lending.side(0));
+        self.second.lend(second, lending.side(1));
+        self.answer.lend(call.buffer(), lending.side(2));
+        self.reply.place(lending.reply, lending.side(3)).fill(REPLY_BEFORE);
+        let odd = self.lend_memory(lending);
+        let wrong_reply = has_reply(call) && lending.reply != REPLY_LEN;
+        let expected = match model {
+            Some(model) if !odd && !wrong_reply => model.call(call),
+            _ => Reply::refused(1, call.buffer()),
+        };
+
+        let number = self.make(call, odd);
+
+        if number != expected.number {
+            return Err(format!("answered {number}, expected {}", expected.number));
+        }
+        self.tally.count(Some(call), number);
+        let reply = if number == 0 && has_reply(call) {
+            bytes_of(&expected.answer).to_vec()
+        } else {
+            vec![REPLY_BEFORE; lending.reply]
+        };
+        same("reply", &reply, self.reply.bytes())?;
+        same("answer", &expected.buffer, self.answer.bytes())?;
+        same("first argument", first, self.first.bytes())?;
+        same("second argument", second, self.second.bytes())?;
+        self.kept_beside()?;
+        if number != 0 || only_reads(call) {
+            self.memory_kept(odd, lending)
+        } else {
+            self.keep();
+            model.as_ref().map_or(Ok(()), |model| self.stands_for(model))
+        }
+    }
+
+    /// The memory begins with the state's bytes.
+    fn stands_for(&self, model: &Model) -> Result<(), String> {
+        let bytes = layout::bytes_of(model);
+        let (tables, arena) = (self.home.tables.bytes(), self.home.arena.bytes());
+        same("the tables' state", &bytes.tables, &tables[..bytes.tables.len()])?;
+        same("the arena's state", &bytes.arena, &arena[..bytes.arena.len()])
+    }
+
+    /// Makes the call over what is placed.
+    fn make(&mut self, call: &Call, odd: bool) -> u32 {
+        let memory = if odd { &mut self.odd } else { &mut self.home };
+        let (tables, arena) = (memory.tables.bytes_mut(), memory.arena.bytes_mut());
+        let (first, second) = (self.first.bytes(), self.second.bytes());
+        let (answer, reply) = (self.answer.bytes_mut(), self.reply.bytes_mut());
+        let library = &mut self.library;
+        match call {
+            Call::Put { stamp, .. } => library.put(tables, arena, *stamp, first, second),
+            Call::Get { .. } => library.get(tables, arena, first, answer, reply),
+            Call::Head { .. } => library.head(tables, arena, first, reply),
+            Call::Delete { .. } => library.delete(tables, arena, first),
+            Call::Copy { stamp, .. } => library.copy(tables, arena, *stamp, first, second),
+            Call::List { .. } => library.list(tables, arena, first, second, answer, reply),
+            Call::Initiate { stamp, .. } => library.initiate(tables, arena, *stamp, first, reply),
+            Call::Part { upload, part, .. } => {
+                library.part(tables, arena, *upload, *part, first, reply)
+            }
+            Call::Commit { upload, .. } => library.commit(tables, arena, *upload, first),
+            Call::Abort { upload } => library.abort(tables, arena, *upload),
+            Call::Uploads { .. } => library.uploads(tables, arena, first, answer, reply),
+        }
+    }
+
+    fn damage(&mut self, step: &Step) {
+        let (tables, arena) = (self.home.tables.bytes_mut(), self.home.arena.bytes_mut());
+        match step {
+            Step::Flip(bits) => {
+                for bit in bits {
+                    if let Some(byte) = tables.get_mut(bit.byte) {
+                        *byte ^= bit.mask;
+                    } else if let Some(byte) = arena.get_mut(bit.byte - TABLES_LEN) {
+                        *byte ^= bit.mask;
+                    }
+                }
+            }
+            Step::Scribble { from, seed } => Random::new(*seed, 0).fill(&mut tables[*from..]),
+            Step::Call(..) | Step::Fresh(..) => (),
+        }
+        self.keep();
+    }
+}

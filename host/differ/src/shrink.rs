@@ -1,0 +1,275 @@
+//! A smaller list that still shows a difference.
+
+use crate::list::{Lending, List, Step};
+use model::{path_ok, Answer, Call, Model};
+use std::collections::BTreeSet;
+use std::time::{Duration, Instant};
+
+/// No new list is tried after this long.
+const LONGEST: Duration = Duration::from_secs(40);
+
+/// Takes steps out and makes arguments plainer as long as the list fails. `fails` gives the step
+/// that does.
+pub fn shrink(list: &List, fails: impl FnMut(&List) -> Option<usize>) -> List {
+    let mut search = Search { best: list.clone(), fails, start: Instant::now() };
+    search.accepts(list.clone());
+    loop {
+        let before = search.best.clone();
+        search.fewer_steps();
+        search.fewer_uploads();
+        search.fewer_parts();
+        search.plainer_steps();
+        search.shorter_paths();
+        if search.best == before {
+            return search.best;
+        }
+    }
+}
+
+struct Search<F> {
+    best: List,
+    fails: F,
+    start: Instant,
+}
+
+impl<F: FnMut(&List) -> Option<usize>> Search<F> {
+    /// Takes the list where it fails, without the steps behind.
+    fn accepts(&mut self, list: List) -> bool {
+        if self.start.elapsed() > LONGEST || self.best.steps.is_empty() {
+            return false;
+        }
+        let step = (self.fails)(&list);
+        if let Some(step) = step {
+            self.best = list;
+            self.best.steps.truncate(step);
+        }
+        step.is_some()
+    }
+
+    /// The best list with a change.
+    fn accepts_with(&mut self, change: impl FnOnce(&mut List)) -> bool {
+        let mut list = self.best.clone();
+        change(&mut list);
+        list != self.best && self.accepts(list)
+    }
+
+    /// Without runs of steps, long ones first.
+    fn fewer_steps(&mut self) {
+        let mut size = self.best.steps.len().div_ceil(2);
+        while size > 0 {
+            let mut end = self.best.steps.len();
+            while end > 0 {
+                end = end.min(self.best.steps.len());
+                let start = end.saturating_sub(size);
+                self.accepts_with(|list| drop(list.steps.drain(start..end)));
+                end = start;
+            }
+            size /= 2;
+        }
+    }
+
+    /// Without an upload and all that names it; the later ones move up.
+    fn fewer_uploads(&mut self) {
+        let mut i = 0;
+        while i < self.best.steps.len() {
+            let gone = opened(&self.best)[i];
+            let without = |list: &mut List| {
+                list.steps.remove(i);
+                let gone = gone.unwrap_or(0);
+                list.steps.retain(|step| upload(step) != Some(gone));
+                for step in &mut list.steps {
+                    match step {
+                        Step::Call(Call::Part { upload, .. }, _)
+                        | Step::Call(Call::Commit { upload, .. }, _)
+                        | Step::Call(Call::Abort { upload }, _)
+                            if *upload > gone =>
+                        {
+                            *upload -= 1
+                        }
+                        _ => (),
+                    }
+                }
+            };
+            if gone.is_none() || !self.accepts_with(without) {
+                i += 1;
+            }
+        }
+    }
+
+    /// Without a part, also in the lists that name it; many parts at once first.
+    fn fewer_parts(&mut self) {
+        let mut parts: Vec<(u32, u16)> = self.best.steps.iter().filter_map(part).collect();
+        parts.dedup();
+        let mut size = parts.len().div_ceil(2);
+        while size > 0 {
+            for gone in parts.chunks(size) {
+                self.accepts_with(|list| {
+                    list.steps.retain(|step| part(step).is_none_or(|part| !gone.contains(&part)));
+                    for step in &mut list.steps {
+                        if let Step::Call(Call::Commit { upload, list }, _) = step {
+                            let stays = |pair: &&[u8]| {
+                                pair.len() < 2
+                                    || !gone.contains(&(
+                                        *upload,
+                                        u16::from_le_bytes([pair[0], pair[1]]),
+                                    ))
+                            };
+                            *list = list.chunks(2).filter(stays).collect::<Vec<_>>().concat();
+                        }
+                    }
+                });
+            }
+            size /= 2;
+        }
+    }
+
+    fn plainer_steps(&mut self) {
+        let mut i = 0;
+        while i < self.best.steps.len() {
+            let forms = plainer(&self.best.steps[i], self.best.arena);
+            let plainer =
+                forms.into_iter().any(|step| self.accepts_with(|list| list.steps[i] = step));
+            if !plainer {
+                i += 1;
+            }
+        }
+    }
+
+    /// With each good path as short as can be, under a name of its own.
+    fn shorter_paths(&mut self) {
+        let mut named = BTreeSet::new();
+        for step in &mut self.best.steps.clone() {
+            named.extend(paths(step).into_iter().map(|path| path.clone()));
+        }
+        let short = (b'a'..=b'z').map(|letter| vec![letter]);
+        for name in short.filter(|name| !named.contains(name)).collect::<Vec<_>>() {
+            let Some(long) = named.iter().find(|path| path.len() > 1 && path_ok(path)).cloned()
+            else {
+                return;
+            };
+            self.accepts_with(|list| {
+                for path in list.steps.iter_mut().flat_map(paths).filter(|path| **path == long) {
+                    *path = name.clone();
+                }
+            });
+            named.remove(&long);
+        }
+    }
+}
+
+/// The number that each step answers, where it opens an upload.
+fn opened(list: &List) -> Vec<Option<u32>> {
+    let mut model = Model::fresh(list.arena);
+    model.next = list.next;
+    let answer = |step: &Step| match step {
+        Step::Call(call, _) => match model.call(call).answer {
+            Answer::Upload(number) => Some(number),
+            _ => None,
+        },
+        _ => None,
+    };
+    list.steps.iter().map(answer).collect()
+}
+
+/// The upload that a step names.
+fn upload(step: &Step) -> Option<u32> {
+    match step {
+        Step::Call(Call::Part { upload, .. }, _)
+        | Step::Call(Call::Commit { upload, .. }, _)
+        | Step::Call(Call::Abort { upload }, _) => Some(*upload),
+        _ => None,
+    }
+}
+
+/// The part that a step sets.
+fn part(step: &Step) -> Option<(u32, u16)> {
+    match step {
+        Step::Call(Call::Part { upload, part, .. }, _) => Some((*upload, *part)),
+        _ => None,
+    }
+}
+
+/// The paths that a step names.
+fn paths(step: &mut Step) -> Vec<&mut Vec<u8>> {
+    let Step::Call(call, _) = step else { return Vec::new() };
+    match call {
+        Call::Put { path, .. } | Call::Get { path, .. } | Call::Head { path } => vec![path],
+        Call::Delete { path } | Call::Initiate { path, .. } => vec![path],
+        Call::Copy { source, destination, .. } => vec![source, destination],
+        _ => Vec::new(),
+    }
+}
+
+/// Plainer forms of a step, each strictly plainer than it.
+fn plainer(step: &Step, arena: usize) -> Vec<Step> {
+    match step {
+        Step::Flip(bits) if bits.len() > 1 => (0..bits.len())
+            .map(|i| {
+                let mut fewer = bits.clone();
+                fewer.remove(i);
+                Step::Flip(fewer)
+            })
+            .collect(),
+        Step::Call(call, lending) => {
+            let right = Lending::right(arena);
+            let mut steps = Vec::new();
+            for plainer in [right, Lending { sides: 0, ..*lending }] {
+                if *lending != plainer {
+                    steps.push(Step::Call(call.clone(), plainer));
+                }
+            }
+            steps.extend(plainer_calls(call).into_iter().map(|call| Step::Call(call, *lending)));
+            steps
+        }
+        _ => Vec::new(),
+    }
+}
+
+/// The call with shorter or zeroed data, answer buffer, prefix or suffix, or a small stamp.
+fn plainer_calls(call: &Call) -> Vec<Call> {
+    let mut calls = Vec::new();
+    for i in 0..3 {
+        let mut probe = call.clone();
+        let Some(bytes) = loose_bytes(&mut probe).into_iter().nth(i) else { break };
+        for form in shorter(bytes) {
+            let mut plainer = call.clone();
+            *loose_bytes(&mut plainer).swap_remove(i) = form;
+            calls.push(plainer);
+        }
+    }
+    let mut plainer = call.clone();
+    match &mut plainer {
+        Call::Put { stamp, .. } | Call::Copy { stamp, .. } | Call::Initiate { stamp, .. }
+            if *stamp > 9 =>
+        {
+            *stamp = *stamp % 9 + 1;
+            calls.push(plainer);
+        }
+        _ => (),
+    }
+    calls
+}
+
+/// The bytes of a call that may be of any length.
+fn loose_bytes(call: &mut Call) -> Vec<&mut Vec<u8>> {
+    match call {
+        Call::Put { data, .. } | Call::Part { data, .. } => vec![data],
+        Call::Get { buffer, .. } => vec![buffer],
+        Call::List { prefix, suffix, buffer } => vec![buffer, prefix, suffix],
+        Call::Uploads { prefix, buffer } => vec![buffer, prefix],
+        _ => Vec::new(),
+    }
+}
+
+fn shorter(bytes: &[u8]) -> Vec<Vec<u8>> {
+    let mut forms = Vec::new();
+    for length in [0, bytes.len() / 2, bytes.len().saturating_sub(1)] {
+        if length < bytes.len() {
+            forms.push(bytes[..length].to_vec());
+        }
+    }
+    if bytes.iter().any(|byte| *byte != 0) {
+        forms.push(vec![0; bytes.len()]);
+    }
+    forms
+}

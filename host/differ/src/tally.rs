@@ -1,0 +1,97 @@
+//! How often each verb gave each number.
+
+use model::Call;
+use std::fmt;
+use std::sync::atomic::{AtomicU64, Ordering::Relaxed};
+
+const VERBS: [&str; 12] = [
+    "fresh", "put", "get", "head", "delete", "copy", "list", "initiate", "part", "commit", "abort",
+    "uploads",
+];
+
+/// The numbers that document 01 allows each verb, in the order of VERBS.
+const ALLOWED: [&[usize]; 12] = [
+    &[0, 1, 2],
+    &[0, 1, 2, 4, 5],
+    &[0, 1, 2, 3, 7],
+    &[0, 1, 2, 3],
+    &[0, 1, 2, 3],
+    &[0, 1, 2, 3, 4, 5],
+    &[0, 1, 7],
+    &[0, 1, 2, 4, 6],
+    &[0, 1, 2, 4, 5],
+    &[0, 1, 2, 4],
+    &[0, 1, 2],
+    &[0, 1, 7],
+];
+
+/// Shared between processes; zeroed memory is an empty one.
+pub struct Tally {
+    pub lists: AtomicU64,
+    /// The step under way in the list under way.
+    pub step: AtomicU64,
+    pub calls: AtomicU64,
+    answers: [[AtomicU64; 8]; 12],
+    /// Damaged memory that was no longer whole, and that still was.
+    pub broken: AtomicU64,
+    pub whole: AtomicU64,
+}
+
+fn verb(call: Option<&Call>) -> usize {
+    match call {
+        None => 0,
+        Some(Call::Put { .. }) => 1,
+        Some(Call::Get { .. }) => 2,
+        Some(Call::Head { .. }) => 3,
+        Some(Call::Delete { .. }) => 4,
+        Some(Call::Copy { .. }) => 5,
+        Some(Call::List { .. }) => 6,
+        Some(Call::Initiate { .. }) => 7,
+        Some(Call::Part { .. }) => 8,
+        Some(Call::Commit { .. }) => 9,
+        Some(Call::Abort { .. }) => 10,
+        Some(Call::Uploads { .. }) => 11,
+    }
+}
+
+impl Tally {
+    /// A call (FRESH is none of the eleven) was answered by this number.
+    pub fn count(&self, call: Option<&Call>, number: u32) {
+        self.calls.fetch_add(1, Relaxed);
+        self.answers[verb(call)][number as usize].fetch_add(1, Relaxed);
+    }
+
+    /// The pairs of verb and number that document 01 allows and that did not occur.
+    pub fn missing(&self) -> Vec<String> {
+        let mut missing = Vec::new();
+        for (verb, numbers) in ALLOWED.iter().enumerate() {
+            for number in numbers.iter() {
+                if self.answers[verb][*number].load(Relaxed) == 0 {
+                    missing.push(format!("{} {number}", VERBS[verb]));
+                }
+            }
+        }
+        missing
+    }
+}
+
+impl fmt::Display for Tally {
+    fn fmt(&self, f: &mut fmt::Formatter) -> fmt::Result {
+        write!(f, "answered ")?;
+        for number in 0..8 {
+            write!(f, "{number:>9}")?;
+        }
+        for (verb, counts) in VERBS.iter().zip(&self.answers) {
+            write!(f, "\n{verb:<9}")?;
+            for count in counts {
+                write!(f, "{:>9}", count.load(Relaxed))?;
+            }
+        }
+        write!(
+            f,
+            "\ndamaged memory: {} times no longer whole, {} times whole",
+            self.broken.load(Relaxed),
+            self.whole.load(Relaxed)
+        )
+    }
+}

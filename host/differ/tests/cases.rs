@@ -1,0 +1,108 @@
+//! Document 01's cases over the proved store.
+
+use differ::reply::{etag, number, REPLY_LEN};
+use model::cases::all;
+use model::{Answer, Call, Etag, Reply};
+use rathnodi::{slices, TABLES_LEN};
+use std::fs;
+use std::process::Command;
+
+struct Memory {
+    tables: Vec<u8>,
+    arena: Vec<u8>,
+}
+
+impl Memory {
+    fn fresh(arena: usize) -> Memory {
+        let mut memory = Memory { tables: vec![0x5a; TABLES_LEN], arena: vec![0x5a; arena] };
+        assert_eq!(slices::fresh(&mut memory.tables, &mut memory.arena), 0);
+        memory
+    }
+
+    /// The call's number, and its reply slice read as an answer.
+    fn call(&mut self, call: &Call) -> Reply {
+        let (t, a) = (&mut self.tables, &mut self.arena);
+        let mut buffer = call.buffer().to_vec();
+        let mut reply = [0xa5; REPLY_LEN];
+        let (b, r) = (&mut buffer, &mut reply);
+        let result = match call {
+            Call::Put { stamp, path, data } => slices::put(t, a, *stamp, path, data),
+            Call::Get { path, .. } => slices::get(t, a, path, b, r),
+            Call::Head { path } => slices::head(t, a, path, r),
+            Call::Delete { path } => slices::delete(t, a, path),
+            Call::Copy { stamp, source, destination } => {
+                slices::copy(t, a, *stamp, source, destination)
+            }
+            Call::List { prefix, suffix, .. } => slices::list(t, a, prefix, suffix, b, r),
+            Call::Initiate { stamp, path } => slices::initiate(t, a, *stamp, path, r),
+            Call::Part { upload, part, data } => slices::part(t, a, *upload, *part, data, r),
+            Call::Commit { upload, list } => slices::commit(t, a, *upload, list),
+            Call::Abort { upload } => slices::abort(t, a, *upload),
+            Call::Uploads { prefix, .. } => slices::uploads(t, a, prefix, b, r),
+        };
+        let answer = match call {
+            _ if result != 0 => Answer::Nothing,
+            Call::Get { .. } | Call::Head { .. } => Answer::Metadata {
+                length: number(&reply, 8, 4) as u32,
+                created: number(&reply, 0, 8),
+                etag: etag(&reply),
+            },
+            Call::Initiate { .. } => Answer::Upload(number(&reply, 12, 4) as u32),
+            Call::Part { .. } => Answer::Etag(etag(&reply)),
+            Call::List { .. } | Call::Uploads { .. } => Answer::Written {
+                records: number(&reply, 16, 4) as u32,
+                bytes: number(&reply, 20, 4) as u32,
+            },
+            _ => Answer::Nothing,
+        };
+        Reply { number: result, answer, buffer }
+    }
+}
+
+#[test]
+fn cases_of_document_01() {
+    for case in all() {
+        let mut memory = Memory::fresh(case.arena);
+        case.check(|call| memory.call(call)).unwrap_or_else(|difference| panic!("{difference}"));
+    }
+}
+
+/// Etags of PUT, PART and COPY against md5sum(1), around the edges of MD5's blocks.
+#[test]
+fn digests_as_md5sum_says() {
+    let lengths = (0..=130).chain([191, 192, 255, 256, 1000, 4096, 65_536, 1_048_576]);
+    let folder = std::env::temp_dir().join(format!("rathnodi-differ-md5-{}", std::process::id()));
+    fs::create_dir(&folder).expect("a new folder");
+    let messages: Vec<Vec<u8>> = lengths
+        .map(|length: usize| (0..length).map(|i| ((i * i + 3 * length) % 253) as u8).collect())
+        .collect();
+    let files: Vec<_> = (0..messages.len()).map(|i| folder.join(format!("{i:04}"))).collect();
+    for (file, message) in files.iter().zip(&messages) {
+        fs::write(file, message).expect("a written file");
+    }
+    let output = Command::new("md5sum").args(&files).output().expect("md5sum runs");
+    fs::remove_dir_all(&folder).expect("the folder is removed");
+    let text = String::from_utf8(output.stdout).expect("text");
+    let sums: Vec<&str> = text.lines().map(|line| &line[..32]).collect();
+    assert_eq!(sums.len(), messages.len());
+
+    let text_of = |answer: Answer| match answer {
+        Answer::Metadata { etag: etag @ Etag::Plain(_), .. } => etag.text(),
+        Answer::Etag(etag @ Etag::Plain(_)) => etag.text(),
+        other => panic!("{other:?}"),
+    };
+    let head = |path: &[u8]| Call::Head { path: path.to_vec() };
+    for (data, sum) in messages.iter().zip(sums) {
+        let mut memory = Memory::fresh(2 * data.len().min(524_288));
+        let put = Call::Put { stamp: 1, path: b"a".to_vec(), data: data.clone() };
+        assert_eq!(memory.call(&put).number, 0);
+        assert_eq!(text_of(memory.call(&head(b"a")).answer), sum, "put of {}", data.len());
+        let copy = Call::Copy { stamp: 1, source: b"a".to_vec(), destination: b"a".to_vec() };
+        assert_eq!(memory.call(&copy).number, 0);
+        assert_eq!(text_of(memory.call(&head(b"a")).answer), sum, "copy of {}", data.len());
+        assert_eq!(memory.call(&Call::Delete { path: b"a".to_vec() }).number, 0);
+        assert_eq!(memory.call(&Call::Initiate { stamp: 1, path: b"a".to_vec() }).number, 0);
+        let part = memory.call(&Call::Part { upload: 1, part: 1, data: data.clone() });
+        assert_eq!(text_of(part.answer), sum, "part of {}", data.len());
+    }
+}

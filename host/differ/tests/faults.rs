@@ -1,0 +1,255 @@
+//! The driver finds faults: each store here is the proved one with one thing wrong.
+
+use differ::guard::shared;
+use differ::library::{Library, Proved};
+use differ::search::search;
+use differ::tally::Tally;
+use rathnodi::slices;
+
+/// Calls in which a fault must show.
+const CALLS: u64 = 60_000;
+
+fn finds<L: Library>(name: &str, library: impl Fn() -> L) {
+    let found = search(library, 5, CALLS, shared::<Tally>());
+    let Err(found) = found else { panic!("{name}: no difference in {CALLS} calls") };
+    println!("{name}: list {}\n{}{}", found.index, found.list, found.end);
+    assert!(found.list.steps.len() <= 12, "{name}: the list is still long\n{}", found.list);
+}
+
+/// A store with some calls replaced.
+macro_rules! faulty {
+    ($name:ident { $($call:item)* }) => {
+        #[test]
+        fn $name() {
+            struct Faulty;
+            impl Library for Faulty { $($call)* }
+            finds(stringify!($name), || Faulty);
+        }
+    };
+}
+
+#[test]
+fn nothing_is_found_in_the_proved_store() {
+    if let Err(found) = search(|| Proved, 5, CALLS / 4, shared::<Tally>()) {
+        panic!("list {}\n{}{}", found.index, found.list, found.end);
+    }
+}
+
+faulty!(joins_by_ascending_number {
+    fn commit(&mut self, t: &mut [u8], a: &mut [u8], upload: u32, list: &[u8]) -> u32 {
+        let mut pairs: Vec<&[u8]> = list.chunks(2).collect();
+        pairs.sort_by_key(|pair| (pair.get(1).copied(), pair[0]));
+        slices::commit(t, a, upload, &pairs.concat())
+    }
+});
+
+faulty!(commit_does_nothing {
+    fn commit(&mut self, t: &mut [u8], a: &mut [u8], upload: u32, list: &[u8]) -> u32 {
+        slices::commit(&mut t.to_vec(), &mut a.to_vec(), upload, list)
+    }
+});
+
+faulty!(commit_takes_an_odd_byte {
+    fn commit(&mut self, t: &mut [u8], a: &mut [u8], upload: u32, list: &[u8]) -> u32 {
+        slices::commit(t, a, upload, &list[..list.len() / 2 * 2])
+    }
+});
+
+faulty!(commit_takes_a_part_twice {
+    fn commit(&mut self, t: &mut [u8], a: &mut [u8], upload: u32, list: &[u8]) -> u32 {
+        let mut pairs: Vec<&[u8]> = list.chunks(2).collect();
+        pairs.dedup();
+        slices::commit(t, a, upload, &pairs.concat())
+    }
+});
+
+faulty!(put_keeps_the_first {
+    fn put(&mut self, t: &mut [u8], a: &mut [u8], stamp: u64, path: &[u8], data: &[u8]) -> u32 {
+        match slices::head(t, a, path, &mut [0; 48]) {
+            0 if !path.is_empty() => slices::put(&mut t.to_vec(), &mut a.to_vec(), stamp, path, data),
+            _ => slices::put(t, a, stamp, path, data),
+        }
+    }
+});
+
+faulty!(put_takes_stamp_0 {
+    fn put(&mut self, t: &mut [u8], a: &mut [u8], stamp: u64, path: &[u8], data: &[u8]) -> u32 {
+        slices::put(t, a, stamp.max(1), path, data)
+    }
+});
+
+faulty!(put_counts_old_bytes {
+    fn put(&mut self, t: &mut [u8], a: &mut [u8], stamp: u64, path: &[u8], data: &[u8]) -> u32 {
+        let there = !path.is_empty() && slices::head(t, a, path, &mut [0; 48]) == 0;
+        match slices::put(&mut t.to_vec(), &mut a.to_vec(), stamp, b"no-such-path", data) {
+            5 if there => 5,
+            _ => slices::put(t, a, stamp, path, data),
+        }
+    }
+});
+
+faulty!(get_gives_zeros {
+    fn get(&mut self, t: &[u8], a: &[u8], path: &[u8], answer: &mut [u8], reply: &mut [u8]) -> u32 {
+        let number = slices::get(t, a, path, answer, reply);
+        if number == 0 {
+            let length = u32::from_le_bytes(reply[8..12].try_into().unwrap()) as usize;
+            answer[..length].fill(0);
+        }
+        number
+    }
+});
+
+faulty!(get_changes_the_rest_of_the_answer {
+    fn get(&mut self, t: &[u8], a: &[u8], path: &[u8], answer: &mut [u8], reply: &mut [u8]) -> u32 {
+        let number = slices::get(t, a, path, answer, reply);
+        if number == 0 {
+            let length = u32::from_le_bytes(reply[8..12].try_into().unwrap()) as usize;
+            answer[length..].fill(0);
+        }
+        number
+    }
+});
+
+faulty!(head_takes_a_longer_reply {
+    fn head(&mut self, t: &[u8], a: &[u8], path: &[u8], reply: &mut [u8]) -> u32 {
+        let length = reply.len().min(48);
+        slices::head(t, a, path, &mut reply[..length])
+    }
+});
+
+faulty!(head_writes_its_reply_when_refused {
+    fn head(&mut self, t: &[u8], a: &[u8], path: &[u8], reply: &mut [u8]) -> u32 {
+        let number = slices::head(t, a, path, reply);
+        if number == 3 {
+            reply[8] = 0;
+        }
+        number
+    }
+});
+
+faulty!(list_counts_a_record_more {
+    fn list(&mut self, t: &[u8], a: &[u8], p: &[u8], s: &[u8], b: &mut [u8], r: &mut [u8]) -> u32 {
+        let number = slices::list(t, a, p, s, b, r);
+        if number == 0 {
+            r[16] = r[16].wrapping_add(1);
+        }
+        number
+    }
+});
+
+faulty!(list_wants_a_byte_too_many {
+    fn list(&mut self, t: &[u8], a: &[u8], p: &[u8], s: &[u8], b: &mut [u8], r: &mut [u8]) -> u32 {
+        match slices::list(t, a, p, s, &mut b.to_vec(), &mut r.to_vec()) {
+            0 => match b.split_last_mut() {
+                Some((_, b)) => slices::list(t, a, p, s, b, r),
+                None => slices::list(t, a, p, s, b, r),
+            },
+            number => number,
+        }
+    }
+});
+
+faulty!(a_refusal_touches_the_tables {
+    fn delete(&mut self, t: &mut [u8], a: &mut [u8], path: &[u8]) -> u32 {
+        let number = slices::delete(t, a, path);
+        if number == 3 {
+            *t.last_mut().unwrap() ^= 1;
+        }
+        number
+    }
+});
+
+faulty!(a_refusal_touches_the_arena {
+    fn part(&mut self, t: &mut [u8], a: &mut [u8], u: u32, p: u16, d: &[u8], r: &mut [u8]) -> u32 {
+        let number = slices::part(t, a, u, p, d, r);
+        if number == 5 && !a.is_empty() {
+            a[0] ^= 1;
+        }
+        number
+    }
+});
+
+faulty!(a_reader_writes {
+    fn uploads(&mut self, t: &[u8], a: &[u8], p: &[u8], b: &mut [u8], r: &mut [u8]) -> u32 {
+        let byte = unsafe { t.as_ptr().add(t.len() / 2).cast_mut() };
+        unsafe { byte.write_volatile(byte.read_volatile() ^ 1) };
+        slices::uploads(t, a, p, b, r)
+    }
+});
+
+faulty!(reads_past_the_path {
+    fn initiate(&mut self, t: &mut [u8], a: &mut [u8], s: u64, p: &[u8], r: &mut [u8]) -> u32 {
+        std::hint::black_box(unsafe { p.as_ptr().add(p.len()).read_volatile() });
+        slices::initiate(t, a, s, p, r)
+    }
+});
+
+faulty!(writes_past_the_arena {
+    fn put(&mut self, t: &mut [u8], a: &mut [u8], stamp: u64, path: &[u8], data: &[u8]) -> u32 {
+        let number = slices::put(t, a, stamp, path, data);
+        if number == 0 {
+            unsafe { a.as_mut_ptr().add(a.len()).write_volatile(0) };
+        }
+        number
+    }
+});
+
+faulty!(writes_before_the_answer {
+    fn get(&mut self, t: &[u8], a: &[u8], path: &[u8], answer: &mut [u8], reply: &mut [u8]) -> u32 {
+        unsafe { answer.as_mut_ptr().sub(1).write_volatile(0) };
+        slices::get(t, a, path, answer, reply)
+    }
+});
+
+faulty!(never_ends_its_numbers {
+    fn initiate(&mut self, t: &mut [u8], a: &mut [u8], s: u64, p: &[u8], r: &mut [u8]) -> u32 {
+        match slices::initiate(t, a, s, p, r) {
+            6 => 4,
+            number => number,
+        }
+    }
+});
+
+faulty!(trusts_damaged_tables {
+    fn head(&mut self, t: &[u8], a: &[u8], path: &[u8], reply: &mut [u8]) -> u32 {
+        match slices::head(t, a, path, reply) {
+            1 if reply.len() == 48 && t.len() == 53_842 && path.is_empty() => {
+                reply.fill(0);
+                0
+            }
+            number => number,
+        }
+    }
+});
+
+faulty!(takes_any_next_number {
+    fn head(&mut self, t: &[u8], a: &[u8], path: &[u8], reply: &mut [u8]) -> u32 {
+        let number = slices::head(t, a, path, reply);
+        if number != 1 || t.len() < 12 {
+            return number;
+        }
+        let mut mended = t.to_vec();
+        mended[4..12].copy_from_slice(&(1u64 << 32).to_le_bytes());
+        slices::head(&mended, a, path, reply)
+    }
+});
+
+faulty!(fresh_takes_a_longer_arena {
+    fn fresh(&mut self, t: &mut [u8], a: &mut [u8]) -> u32 {
+        let length = a.len().min(1_048_576);
+        slices::fresh(t, &mut a[..length])
+    }
+});
+
+faulty!(reuses_an_aborted_number {
+    fn abort(&mut self, t: &mut [u8], a: &mut [u8], upload: u32) -> u32 {
+        // An empty store starts its numbers again.
+        let number = slices::abort(t, a, upload);
+        let no_objects = slices::list(t, a, b"", b"", &mut [], &mut [0; 48]) == 0;
+        let no_uploads = slices::uploads(t, a, b"", &mut [], &mut [0; 48]) == 0;
+        if number == 0 && no_objects && no_uploads {
+            slices::fresh(t, a);
+        }
+        number
+    }
+});

@@ -1,0 +1,216 @@
+//! The calls over slices, each with the number that it returns. A slice is never null, and one that
+//! is lent by `&mut` overlaps no other, which is all that the C interface asks of its caller.
+
+use crate::c;
+
+pub fn tables_len() -> usize {
+    unsafe { c::rathnodi_tables_len() }
+}
+
+pub fn fresh(tables: &mut [u8], arena: &mut [u8]) -> u32 {
+    unsafe { c::rathnodi_fresh(tables.as_mut_ptr(), tables.len(), arena.as_mut_ptr(), arena.len()) }
+}
+
+pub fn put(tables: &mut [u8], arena: &mut [u8], stamp: u64, path: &[u8], data: &[u8]) -> u32 {
+    unsafe {
+        c::rathnodi_put(
+            tables.as_mut_ptr(),
+            tables.len(),
+            arena.as_mut_ptr(),
+            arena.len(),
+            stamp,
+            path.as_ptr(),
+            path.len(),
+            data.as_ptr(),
+            data.len(),
+        )
+    }
+}
+
+pub fn get(tables: &[u8], arena: &[u8], path: &[u8], answer: &mut [u8], reply: &mut [u8]) -> u32 {
+    unsafe {
+        c::rathnodi_get(
+            tables.as_ptr(),
+            tables.len(),
+            arena.as_ptr(),
+            arena.len(),
+            path.as_ptr(),
+            path.len(),
+            answer.as_mut_ptr(),
+            answer.len(),
+            reply.as_mut_ptr(),
+            reply.len(),
+        )
+    }
+}
+
+pub fn head(tables: &[u8], arena: &[u8], path: &[u8], reply: &mut [u8]) -> u32 {
+    unsafe {
+        c::rathnodi_head(
+            tables.as_ptr(),
+            tables.len(),
+            arena.as_ptr(),
+            arena.len(),
+            path.as_ptr(),
+            path.len(),
+            reply.as_mut_ptr(),
+            reply.len(),
+        )
+    }
+}
+
+pub fn delete(tables: &mut [u8], arena: &mut [u8], path: &[u8]) -> u32 {
+    unsafe {
+        c::rathnodi_delete(
+            tables.as_mut_ptr(),
+            tables.len(),
+            arena.as_mut_ptr(),
+            arena.len(),
+            path.as_ptr(),
+            path.len(),
+        )
+    }
+}
+
+pub fn copy(
+    tables: &mut [u8],
+    arena: &mut [u8],
+    stamp: u64,
+    source: &[u8],
+    destination: &[u8],
+) -> u32 {
+    unsafe {
+        c::rathnodi_copy(
+            tables.as_mut_ptr(),
+            tables.len(),
+            arena.as_mut_ptr(),
+            arena.len(),
+            stamp,
+            source.as_ptr(),
+            source.len(),
+            destination.as_ptr(),
+            destination.len(),
+        )
+    }
+}
+
+pub fn list(
+    tables: &[u8],
+    arena: &[u8],
+    prefix: &[u8],
+    suffix: &[u8],
+    answer: &mut [u8],
+    reply: &mut [u8],
+) -> u32 {
+    unsafe {
+        c::rathnodi_list(
+            tables.as_ptr(),
+            tables.len(),
+            arena.as_ptr(),
+            arena.len(),
+            prefix.as_ptr(),
+            prefix.len(),
+            suffix.as_ptr(),
+            suffix.len(),
+            answer.as_mut_ptr(),
+            answer.len(),
+            reply.as_mut_ptr(),
+            reply.len(),
+        )
+    }
+}
+
+pub fn initiate(
+    tables: &mut [u8],
+    arena: &mut [u8],
+    stamp: u64,
+    path: &[u8],
+    reply: &mut [u8],
+) -> u32 {
+    unsafe {
+        c::rathnodi_initiate(
+            tables.as_mut_ptr(),
+            tables.len(),
+            arena.as_mut_ptr(),
+            arena.len(),
+            stamp,
+            path.as_ptr(),
+            path.len(),
+            reply.as_mut_ptr(),
+            reply.len(),
+        )
+    }
+}
+
+pub fn part(
+    tables: &mut [u8],
+    arena: &mut [u8],
+    upload: u32,
+    part: u16,
+    data: &[u8],
+    reply: &mut [u8],
+) -> u32 {
+    unsafe {
+        c::rathnodi_part(
+            tables.as_mut_ptr(),
+            tables.len(),
+            arena.as_mut_ptr(),
+            arena.len(),
+            upload,
+            part,
+            data.as_ptr(),
+            data.len(),
+            reply.as_mut_ptr(),
+            reply.len(),
+        )
+    }
+}
+
+pub fn commit(tables: &mut [u8], arena: &mut [u8], upload: u32, part_list: &[u8]) -> u32 {
+    unsafe {
+        c::rathnodi_commit(
+            tables.as_mut_ptr(),
+            tables.len(),
+            arena.as_mut_ptr(),
+            arena.len(),
+            upload,
+            part_list.as_ptr(),
+            part_list.len(),
+        )
+    }
+}
+
+pub fn abort(tables: &mut [u8], arena: &mut [u8], upload: u32) -> u32 {
+    unsafe {
+        c::rathnodi_abort(
+            tables.as_mut_ptr(),
+            tables.len(),
+            arena.as_mut_ptr(),
+            arena.len(),
+            upload,
+        )
+    }
+}
+
+pub fn uploads(
+    tables: &[u8],
+    arena: &[u8],
+    prefix: &[u8],
+    answer: &mut [u8],
+    reply: &mut [u8],
+) -> u32 {
+    unsafe {
+        c::rathnodi_uploads(
+            tables.as_ptr(),
+            tables.len(),
+            arena.as_ptr(),
+            arena.len(),
+            prefix.as_ptr(),
+            prefix.len(),
+            answer.as_mut_ptr(),
+            answer.len(),
+            reply.as_mut_ptr(),
+            reply.len(),
+        )
+    }
+}

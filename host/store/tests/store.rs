@@ -1,0 +1,51 @@
+//! The wrapper: a walk through each call, and memory that is saved and brought back.
+
+use rathnodi::{slices, Etag, Metadata, Object, Refusal, Store, Upload, TABLES_LEN};
+
+/// d16fb36f0911f878998c136191af705e
+const OF_XYZ: [u8; 16] = 0xd16fb36f_0911f878_998c1361_91af705e_u128.to_be_bytes();
+
+#[test]
+fn a_walk() {
+    assert_eq!(slices::tables_len(), TABLES_LEN);
+    let mut store = Store::fresh(64).unwrap();
+    store.put(5, b"a", b"xyz").unwrap();
+    let metadata = Metadata { length: 3, created: 5, etag: Etag::Plain(OF_XYZ) };
+    assert_eq!(store.head(b"a"), Ok(metadata));
+    assert_eq!(store.get(b"a"), Ok((metadata, b"xyz".to_vec())));
+    assert_eq!(store.get_into(b"a", &mut [0; 2]), Err(Refusal::BufferShort));
+    assert_eq!(store.get(b"b"), Err(Refusal::NotFound));
+    store.copy(9, b"a", b"b").unwrap();
+
+    let upload = store.initiate(7, b"r").unwrap();
+    assert_eq!(store.part(upload, 2, b"xyz"), Ok(Etag::Plain(OF_XYZ)));
+    store.part(upload, 1, b"A").unwrap();
+    let open = Upload { number: 1, path: b"r".to_vec(), started: 7, parts: 2 };
+    assert_eq!(store.uploads(b""), Ok(vec![open]));
+    assert_eq!(store.commit(upload, &[1]), Err(Refusal::BadRequest));
+    store.commit(upload, &[2, 1]).unwrap();
+    let (metadata, data) = store.get(b"r").unwrap();
+    assert_eq!((data.as_slice(), metadata.created), (b"xyzA".as_slice(), 7));
+    assert!(matches!(metadata.etag, Etag::Joined(_, 2)));
+    assert_eq!(store.abort(upload), Err(Refusal::BadRequest));
+
+    store.delete(b"r").unwrap();
+    let etag = "d16fb36f0911f878998c136191af705e".to_string();
+    let object = Object { path: b"b".to_vec(), length: 3, created: 9, etag };
+    assert_eq!(store.list(b"b", b""), Ok(vec![object]));
+    assert_eq!(store.put(1, b"c", &[0; 65]), Err(Refusal::ArenaFull));
+}
+
+#[test]
+fn saved_memory() {
+    let mut store = Store::fresh(8).unwrap();
+    store.put(5, b"a", b"xyz").unwrap();
+    let (tables, arena) = store.memory();
+    let again = Store::from_memory(tables.into(), arena.into()).unwrap();
+    assert_eq!(again.get(b"a").unwrap().1, b"xyz");
+    let longer = [arena, &[0]].concat();
+    assert!(matches!(Store::from_memory(tables.into(), longer.into()), Err(Refusal::NotAStore)));
+    let shorter = &tables[1..];
+    assert!(matches!(Store::from_memory(shorter.into(), arena.into()), Err(Refusal::NotAStore)));
+    assert!(matches!(Store::fresh(1_048_577), Err(Refusal::BadRequest)));
+}

@@ -1,0 +1,4 @@
+pub mod Reading
+pub mod Stored
+pub mod Lookups
+pub mod Replies

@@ -1,2 +1,3 @@
 pub mod UploadBounds
 pub mod Taking
+pub mod Joining

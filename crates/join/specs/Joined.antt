@@ -40,3 +40,9 @@ pub record TakenOut (t a : List ℕ) (u : ℕ) (list : Bytes) (k : Listed (state
   pub size-is : r .size ≡ length (contents (k .listed))
   pub count-is : r .count ≡ length (k .listed)
   pub digest-is : bytesOf (r .digest) ≡ md5 (digests (k .listed))
+
+-- the same, where the upload's path and its start stamp are at hand
+pub record JoinableAt (t a : List ℕ) (u : ℕ) (list path : Bytes) (stamp : ℕ) : Type 0 where
+  pub joinable : Joinable t a u list
+  pub path-is : path ≡ joinable .listed .upload .path
+  pub stamp-is : stamp ≡ joinable .listed .upload .started

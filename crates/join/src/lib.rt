@@ -10,12 +10,12 @@ ghost use lib.ListN.{length};
 ghost use Rattle.buffer.specs.Buffer.{spliced, rotated};
 ghost use Rattle.machine.specs.Map.{byNumber, lookup};
 ghost use Rattle.machine.specs.State.{Upload};
-ghost use Rattle.layout.specs.Memory.{whole, stateOf};
+ghost use Rattle.layout.specs.Memory.{whole, stateOf, Stands};
 ghost use Rattle.find.specs.Places.{isSome};
 ghost use Rattle.edit.specs.Header.{headed};
 ghost use Rattle.calls.specs.Answers.{partList};
 ghost use Rattle.join.specs.Bounds.{boundsOf};
-ghost use Rattle.join.specs.Joined.{Listed, TakenOut};
+ghost use Rattle.join.specs.Joined.{Listed, TakenOut, JoinableAt, joinedState};
 
 // Where an upload's row, its first part's row, the rows behind its parts and the free bytes begin in the tables; where its
 // parts' data begin in the arena, their size, and what is held; how many parts it has.
@@ -91,4 +91,31 @@ fn take_upload(tables: &mut [u8], arena: &mut [u8], upload: u32, list: &[u8]) ->
         size: b.size,
         count,
     }
+}
+
+// An upload's parts joined into an object at the upload's path, with its start stamp.
+pub fn join_at(
+    tables: &mut [u8],
+    arena: &mut [u8],
+    upload: u32,
+    list: &[u8],
+    path: &[u8],
+    stamp: u64,
+)
+    requires { ⌜ JoinableAt (now tables) (now arena) upload (now list) (now path) stamp ⌝ }
+    ensures { λ _. ⌜ ((k : JoinableAt (now (tables .entry)) (now (arena .entry)) upload (now (list .entry)) (now (path .entry)) stamp)
+        → Stands (now (tables .exit)) (now (arena .exit)) (joinedState (stateOf (now (tables .entry)) (now (arena .entry))) upload (partList (now (list .entry))) (k .joinable .listed))) ⌝ }
+{
+    edit::objects::free_path(tables, arena, path);
+    let taken = take_upload(tables, arena, upload, list);
+    edit::objects::add_object(
+        tables,
+        arena,
+        stamp,
+        1,
+        taken.count,
+        taken.digest,
+        path,
+        taken.size,
+    );
 }

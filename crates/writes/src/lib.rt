@@ -71,9 +71,9 @@ pub fn delete(tables: &mut [u8], arena: &mut [u8], path: &[u8]) -> DoneAnswer
     if !scan::whole(tables, arena) {
         return DoneAnswer::Refused(1);
     }
-    let n = judges::delete_judge(tables, arena, path);
-    if n != 0 {
-        return DoneAnswer::Refused(n);
+    let refusal = judges::delete_judge(tables, arena, path);
+    if refusal != 0 {
+        return DoneAnswer::Refused(refusal);
     }
     edit::objects::remove_object(tables, arena, path);
     DoneAnswer::Done

@@ -1,0 +1,27 @@
+-- LIST's test of a path, and what it writes for a row. Assumes nothing.
+use Prim.Native.Nat.{ℕ}
+use mathlib.Core.Bool.{Bool, _&&_, cond}
+use mathlib.Core.List.{List, [], _∷_, _++_}
+use lib.ListN.{length, drop}
+use Rattle.number.specs.Number.{le}
+use Rattle.order.specs.Order.{begins, ends}
+use Rattle.machine.specs.Names.{Bytes}
+use Rattle.machine.specs.Etags.{text}
+use Rattle.row.specs.Row.{headAt, digestAt, pathAt}
+use Rattle.layout.specs.Memory.{etagOf}
+
+-- "begins with the prefix and whose rest after the prefix ends with the suffix"
+unfoldable pub lists : (prefix suffix path : Bytes) → Bool
+lists prefix suffix p = begins prefix p && ends suffix (drop (length prefix) p)
+
+-- the text of the etag in the row at the front of t
+unfoldable pub textAt : List ℕ → Bytes
+textAt t = text (etagOf (headAt t .kind) (digestAt t) (headAt t .count))
+
+-- the record of the object in the row at the front of t
+unfoldable pub recordAt : List ℕ → Bytes
+recordAt t = headAt t .pathlen ∷ pathAt t ++ (le 4 (headAt t .size) ++ (le 8 (headAt t .stamp) ++ length (textAt t) ∷ textAt t))
+
+-- what LIST writes for that row
+unfoldable pub rowBytes : (prefix suffix : Bytes) (t : List ℕ) → Bytes
+rowBytes prefix suffix t = cond (lists prefix suffix (pathAt t)) (recordAt t) []

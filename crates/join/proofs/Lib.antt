@@ -1,3 +1,4 @@
 pub mod UploadBounds
 pub mod Taking
 pub mod Joining
+pub mod PathRead

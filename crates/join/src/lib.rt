@@ -15,7 +15,7 @@ ghost use Rattle.find.specs.Places.{isSome};
 ghost use Rattle.edit.specs.Header.{headed};
 ghost use Rattle.calls.specs.Answers.{partList};
 ghost use Rattle.join.specs.Bounds.{boundsOf};
-ghost use Rattle.join.specs.Joined.{Listed, TakenOut, JoinableAt, joinedState};
+ghost use Rattle.join.specs.Joined.{Listed, TakenOut, Joinable, JoinableAt, joinedState};
 
 // Where an upload's row, its first part's row, the rows behind its parts and the free bytes begin in the tables; where its
 // parts' data begin in the arena, their size, and what is held; how many parts it has.
@@ -94,14 +94,7 @@ fn take_upload(tables: &mut [u8], arena: &mut [u8], upload: u32, list: &[u8]) ->
 }
 
 // An upload's parts joined into an object at the upload's path, with its start stamp.
-pub fn join_at(
-    tables: &mut [u8],
-    arena: &mut [u8],
-    upload: u32,
-    list: &[u8],
-    path: &[u8],
-    stamp: u64,
-)
+fn join_at(tables: &mut [u8], arena: &mut [u8], upload: u32, list: &[u8], path: &[u8], stamp: u64)
     requires { ⌜ JoinableAt (now tables) (now arena) upload (now list) (now path) stamp ⌝ }
     ensures { λ _. ⌜ ((k : JoinableAt (now (tables .entry)) (now (arena .entry)) upload (now (list .entry)) (now (path .entry)) stamp)
         → Stands (now (tables .exit)) (now (arena .exit)) (joinedState (stateOf (now (tables .entry)) (now (arena .entry))) upload (partList (now (list .entry))) (k .joinable .listed))) ⌝ }
@@ -118,4 +111,21 @@ pub fn join_at(
         path,
         taken.size,
     );
+}
+
+// An open upload's parts, joined in listed order into an object at its path; the upload is gone.
+pub fn join(tables: &mut [u8], arena: &mut [u8], upload: u32, list: &[u8])
+    requires { ⌜ Joinable (now tables) (now arena) upload (now list) ⌝ }
+    ensures { λ _. ⌜ ((k : Joinable (now (tables .entry)) (now (arena .entry)) upload (now (list .entry)))
+        → Stands (now (tables .exit)) (now (arena .exit)) (joinedState (stateOf (now (tables .entry)) (now (arena .entry))) upload (partList (now (list .entry))) (k .listed))) ⌝ }
+{
+    let place = find::find_upload(tables, arena, upload);
+    let at = place.at;
+    let h = row::read_head(tables, at);
+    let n = h.pathlen as usize;
+    let from = at + 36;
+    let to = from + n;
+    let mut path = [0u8; 128];
+    buffer::copy_at(&mut path, 0, &tables[from..to]);
+    join_at(tables, arena, upload, list, &path[..n], h.stamp);
 }

@@ -1,0 +1,150 @@
+-- `join::join` meets its contract: the path waits in a local array. Assumes nothing.
+use Prim.Native.Nat.{ℕ, _+_, _-_, _≤_}
+use mathlib.Core.Path.{_≡_, sym}
+use mathlib.Core.List.{List}
+use native.Mathlib.Nat.{add-sub-cancel-left}
+use native.Mathlib.Omega.{arith}
+use borrow.Author.Needs.{needs}
+use lib.ListN.{length, take, drop, length-take}
+use lib.Seq.{length-take-le}
+use Rattle.machine.specs.State.{State}
+use Rattle.layout.specs.Memory.{stateOf, Stands}
+use Rattle.layout.specs.WholeLaws.{whole-stands}
+use Rattle.join.specs.Joined.{Joinable, JoinableAt}
+use Rattle.join.proofs.PathRead.{head-inside, path-inside, path-small, stamp-read, path-copied}
+use Rattle.join.proofs.join.Statement.{statement}
+use Rattle.join.proofs.join.Tie as tie
+
+find-upload-requires : tie.Need-find-upload-requires
+find-upload-requires c κs = search needs
+
+module _ (c : tie.After-find-upload) where
+  abbrev start : tie.Start
+  start = c .before .before .before .before .before .before
+
+  abbrev t : List ℕ
+  t = start .args .tables .now
+
+  abbrev a : List ℕ
+  a = start .args .arena .now
+
+  abbrev s : State
+  s = stateOf t a
+
+  stands : Stands t a s
+  stands = whole-stands t a (λ j. c .before .before .before .before .before .slice-known .given j .fits) (start .pre .is-whole)
+
+  begins : c .find-upload .result .at + 36 ≤ length t
+  begins = let k = start .pre .listed in head-inside t a s stands (start .args .upload) (k .upload) (k .found) (c .find-upload .result) (c .find-upload .ensures)
+
+read-head-requires : tie.Need-read-head-requires
+read-head-requires c κs = omega (arith, begins (c .before))
+
+-- once the head of its row is read
+module _ (c : tie.After-read-head) where
+  abbrev place : tie.After-find-upload
+  place = c .before .before
+
+  abbrev k : Joinable (t place) (a place) (start place .args .upload) (start place .args .list .now)
+  k = start place .pre
+
+  inside : place .find-upload .result .at + 36 + c .read-head .result .pathlen ≤ length (t place)
+  inside = path-inside (t place) (a place) (s place) (stands place) (start place .args .upload) (k .listed .upload) (k .listed .found) (place .find-upload .result) (place .find-upload .ensures) (c .read-head .result) (c .read-head .ensures)
+
+  small : c .read-head .result .pathlen ≤ 128
+  small = path-small (t place) (a place) (s place) (stands place) (start place .args .upload) (k .listed .upload) (k .listed .found) (place .find-upload .result) (place .find-upload .ensures) (c .read-head .result) (c .read-head .ensures)
+
+cast-n : tie.Need-cast-n
+cast-n c = search needs
+
+add-from : tie.Need-add-from
+add-from c = omega (arith, inside (c .before))
+
+add-to : tie.Need-add-to
+add-to c = omega (arith, inside (c .before))
+
+slice-aggregate-copy-at : tie.Need-slice-aggregate-copy-at
+slice-aggregate-copy-at c = search needs
+
+sub-copy-at : tie.Need-sub-copy-at
+sub-copy-at c = search needs
+
+part-copy-at-start : tie.Need-part-copy-at-start
+part-copy-at-start c = search needs
+
+part-copy-at-end : tie.Need-part-copy-at-end
+part-copy-at-end c = omega (arith, inside (c .before .before .before))
+
+copy-at-requires : tie.Need-copy-at-requires
+copy-at-requires c κs =
+    let r = c .before .before .before .before in
+    let p = place r in
+    let from = p .find-upload .result .at + 36 in
+    omega (arith, small r, length-take (from + r .read-head .result .pathlen - from) (drop from (t p)))
+
+-- once the path is copied
+module _ (c : tie.After-copy-at) where
+  abbrev read : tie.After-read-head
+  read = c .before .before .before .before .before
+
+  abbrev here : tie.After-find-upload
+  here = place read
+
+  abbrev n : ℕ
+  n = read .read-head .result .pathlen
+
+  at-path : (j : Joinable (t here) (a here) (start here .args .upload) (start here .args .list .now))
+      → JoinableAt (t here) (a here) (start here .args .upload) (start here .args .list .now) (take n (c .copy-at .last .0)) (read .read-head .result .stamp)
+  at-path j =
+      let from = here .find-upload .result .at + 36 in
+      let part : take (from + n - from) (drop from (t here)) ≡ take n (drop from (t here)) = rw add-sub-cancel-left in
+      record {
+        joinable = j;
+        path-is = path-copied (t here) (a here) (s here) (stands here) (start here .args .upload) (j .listed .upload) (j .listed .found) (here .find-upload .result) (here .find-upload .ensures) (read .read-head .result) (read .read-head .ensures) _ _ _ part (c .copy-at .ensures);
+        stamp-is = stamp-read (t here) (a here) (s here) (stands here) (start here .args .upload) (j .listed .upload) (j .listed .found) (here .find-upload .result) (here .find-upload .ensures) (read .read-head .result) (read .read-head .ensures);
+      }
+
+  short : n ≤ length (c .copy-at .last .0)
+  short = omega (arith, small read, c .copy-at .kept)
+
+array-share-prefix-path : tie.Need-array-share-prefix-path
+array-share-prefix-path c = omega (arith, short (c .before .before .before))
+
+slice-aggregate-join-at : tie.Need-slice-aggregate-join-at
+slice-aggregate-join-at c = let d = c .before .before .before .before in sym (length-take-le (n d) (d .copy-at .last .0) (short d))
+
+join-at-requires : tie.Need-join-at-requires
+join-at-requires c κs = let d = c .before .before .before .before in at-path d (k (read d))
+
+same-length : tie.Need-same-length
+same-length c = search needs
+
+same-length-2 : tie.Need-same-length-2
+same-length-2 c = search needs
+
+returns : tie.Need-returns
+unfolding at-path
+returns c =
+    let d = c .before .before .before .before .before .before .before .before .before in
+    λ j. c .before .before .before .before .join-at .ensures (at-path d j)
+
+pub join-spec : {M : Type 1} → statement M
+join-spec =
+    tie.close
+    (tie.spec
+    find-upload-requires
+    read-head-requires
+    cast-n
+    add-from
+    add-to
+    slice-aggregate-copy-at
+    sub-copy-at
+    part-copy-at-start
+    part-copy-at-end
+    copy-at-requires
+    array-share-prefix-path
+    slice-aggregate-join-at
+    join-at-requires
+    same-length
+    same-length-2
+    returns)

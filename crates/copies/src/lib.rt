@@ -1,0 +1,80 @@
+// COPY: the destination becomes what PUT of the source's data would make.
+use md5::words::Digest;
+use types::DoneAnswer;
+use types::Stamp;
+ghost use mathlib.Core.Path.{_≡_};
+ghost use mathlib.Core.Bool.{true};
+ghost use lib.ListN.{length};
+ghost use Rattle.md5.specs.Md5.{md5};
+ghost use Rattle.order.specs.Order.{byBytes};
+ghost use Rattle.machine.specs.Map.{lookup};
+ghost use Rattle.machine.specs.Calls.{COPY};
+ghost use Rattle.layout.specs.Memory.{whole, stateOf};
+ghost use Rattle.find.specs.Places.{isSome};
+ghost use Rattle.edit_copy.specs.Copy.{contentAt};
+ghost use Rattle.calls.specs.Answers.{doneReply};
+ghost use Rattle.copies.specs.Source.{sourceOutcome};
+ghost use Rattle.calls.specs.Made.{memory, outcome, resultOf, Made};
+
+// The refusal of COPY from a source that is there: 4, 5 or 0.
+fn source_judge(tables: &[u8], arena: &[u8], stamp: Stamp, source: &[u8], destination: &[u8]) -> u8
+    requires { ⌜ whole (now tables) (now arena) ≡ true ⌝ }
+    ensures { λ r. ⌜ r ≡ resultOf (sourceOutcome (length (now (arena .entry))) (stateOf (now (tables .entry)) (now (arena .entry))) (stamp .0) (now (source .entry)) (now (destination .entry))) ⌝ }
+{
+    let place = find::find_object(tables, arena, source);
+    if !place.found {
+        return 3;
+    }
+    let h = row::read_head(tables, place.at);
+    writes::judges::room_judge(tables, arena, destination, h.size as usize)
+}
+
+// COPY's refusal over whole memory, 0 for none.
+fn copy_judge(tables: &[u8], arena: &[u8], stamp: Stamp, source: &[u8], destination: &[u8]) -> u8
+    requires { ⌜ whole (now tables) (now arena) ≡ true ⌝ }
+    ensures { λ r. ⌜ r ≡ resultOf (outcome (COPY (stamp .0) (now (source .entry)) (now (destination .entry))) (memory (now (tables .entry)) (now (arena .entry)))) ⌝ }
+{
+    if !names::stamp_ok(stamp.0) {
+        return 2;
+    }
+    if !names::request_path_ok(source) {
+        return 2;
+    }
+    if !names::new_path_ok(destination) {
+        return 2;
+    }
+    source_judge(tables, arena, stamp, source, destination)
+}
+
+// The digest of the data at source.
+fn source_digest(tables: &[u8], arena: &[u8], source: &[u8]) -> Digest
+    requires { ⌜ (whole (now tables) (now arena) ≡ true) × (isSome (lookup byBytes (now source) (stateOf (now tables) (now arena) .O)) ≡ true) ⌝ }
+    ensures { λ r. ⌜ r ≡ md5 (contentAt (stateOf (now (tables .entry)) (now (arena .entry))) (now (source .entry))) ⌝ }
+{
+    let place = find::find_object(tables, arena, source);
+    let h = row::read_head(tables, place.at);
+    let from = place.base;
+    let to = from + h.size as usize;
+    md5::digest(&arena[from..to])
+}
+
+pub fn copy(
+    tables: &mut [u8],
+    arena: &mut [u8],
+    stamp: Stamp,
+    source: &[u8],
+    destination: &[u8],
+) -> DoneAnswer
+    ensures { λ r. ⌜ Made (COPY (stamp .0) (now (source .entry)) (now (destination .entry))) (memory (now (tables .entry)) (now (arena .entry))) (doneReply r) (memory (now (tables .exit)) (now (arena .exit))) ⌝ }
+{
+    if !scan::whole(tables, arena) {
+        return DoneAnswer::Refused(1);
+    }
+    let n = copy_judge(tables, arena, stamp, source, destination);
+    if n != 0 {
+        return DoneAnswer::Refused(n);
+    }
+    let digest = source_digest(tables, arena, source);
+    edit_copy::copy_object(tables, arena, stamp.0, digest, source, destination);
+    DoneAnswer::Done
+}

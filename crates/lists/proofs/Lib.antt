@@ -1,1 +1,2 @@
 pub mod RowLengths
+pub mod ObjectRows

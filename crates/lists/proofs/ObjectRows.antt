@@ -1,0 +1,159 @@
+-- The row of an object, and what LIST writes for it. Assumes nothing.
+use Prim.Native.Nat.{ℕ, suc, _+_, _*_, _≤_, _<_}
+use mathlib.Core.Path.{_≡_, refl, sym, ap, ap₂, _∙_}
+use mathlib.Core.Bool.{Bool, true, false, cond, _&&_}
+use mathlib.Core.List.{List, [], _∷_, _++_, append-assoc}
+use native.Mathlib.Numerals.{add-one}
+use native.Mathlib.Omega.{arith}
+use lib.ListN.{length, getD, take, drop, length-append}
+use lib.Seq.{take-suc, split-at, take-all}
+use Rattle.number.specs.Number.{le}
+use Rattle.order.specs.Order.{begins, ends}
+use Rattle.order.specs.OrderLaws.{bytes}
+use Rattle.machine.specs.Map.{Map, keep, records}
+use Rattle.machine.specs.Names.{Bytes}
+use Rattle.machine.specs.Etags.{absent, text}
+use Rattle.machine.specs.State.{Object, State}
+use Rattle.machine.specs.Steps.{listed, listRecord}
+use Rattle.machine.specs.Valid.{ObjectOk}
+use Rattle.machine.proofs.MapKeep.{keep-suc, records-append}
+use Rattle.machine.proofs.MapScan.{lookup-key}
+use Rattle.machine.proofs.MapLaws.{every-lookup}
+use Rattle.row.specs.declared.Head.{Head}
+use Rattle.row.specs.Row.{Row, encodeRows, headAt, digestAt, pathAt, headOf}
+use Rattle.row.specs.RowLaws.{path-back, digest-back}
+use Rattle.layout.specs.Memory.{objectRow, objectRows, uploadRows, rowsOf, etagOf, objectOf, Stands}
+use Rattle.layout.specs.ObjectLaws.{object-back}
+use Rattle.find.proofs.RowsAt.{At, row-at}
+use Rattle.find.proofs.Splits.{object-rows-append}
+use Rattle.lists.specs.Rows.{lists, textAt, recordAt, rowBytes}
+
+append-nil : (xs : List ℕ) → xs ++ [] ≡ xs
+append-nil [] = refl
+append-nil (x ∷ xs) = ap (λ (r : List ℕ). x ∷ r) (append-nil xs)
+
+abbrev blank : Bytes × Object
+blank = ([], record { content = []; created = 0; etag = absent })
+
+module _ (t a : List ℕ) (s : State) (h : Stands t a s) (i at : ℕ) (here : at ≡ 18 + length (encodeRows (objectRows (take i (s .O))))) (l : i < length (s .O)) where
+  abbrev entry : Bytes × Object
+  entry = getD (s .O) i blank
+
+  abbrev row : Row
+  row = objectRow (entry .0) (entry .1)
+
+  unfoldable front : List Row
+  front = objectRows (take i (s .O))
+
+  unfoldable rest : List Row
+  rest = objectRows (drop (suc i) (s .O)) ++ uploadRows (s .U)
+
+  split : rowsOf s ≡ front ++ (row ∷ rest)
+  unfolding rowsOf objectRows front rest
+  split =
+      ap (λ (m : Map Bytes Object). objectRows m ++ uploadRows (s .U)) (split-at (s .O) i blank l)
+      ∙ ap (λ (rs : List Row). rs ++ uploadRows (s .U)) (object-rows-append (take i (s .O)) (entry ∷ drop (suc i) (s .O)))
+      ∙ append-assoc (objectRows (take i (s .O))) (row ∷ objectRows (drop (suc i) (s .O))) (uploadRows (s .U))
+
+  next-front : objectRows (take (i + 1) (s .O)) ≡ front ++ (row ∷ [])
+  unfolding objectRows front
+  next-front = ap (λ (n : ℕ). objectRows (take n (s .O))) (add-one i) ∙ ap objectRows (take-suc (s .O) i blank l) ∙ object-rows-append (take i (s .O)) (entry ∷ [])
+
+  row-here : At t a s h front row rest
+  row-here = row-at t a s h front row rest split
+
+  head-here : headAt (drop at t) ≡ headOf row
+  unfolding front
+  head-here = ap (λ (n : ℕ). headAt (drop n t)) here ∙ row-here .head
+
+  pub row-inside : at + 36 + headAt (drop at t) .pathlen ≤ length t
+  unfolding front
+  row-inside = omega (arith, ap (λ (x : Head). x .pathlen) head-here, row-here .inside)
+
+  pub row-next : at + 36 + headAt (drop at t) .pathlen ≡ 18 + length (encodeRows (objectRows (take (i + 1) (s .O))))
+  unfolding front
+  row-next =
+      let q : 18 + length (encodeRows (front ++ (row ∷ []))) ≡ at + 36 + headAt (drop at t) .pathlen = omega (arith, row-here .next, ap (λ (x : Head). x .pathlen) head-here) in
+      sym (ap (λ (rs : List Row). 18 + length (encodeRows rs)) next-front ∙ q)
+
+  path-here : pathAt (drop at t) ≡ entry .0
+  unfolding front
+  path-here = ap (λ (n : ℕ). pathAt (drop n t)) here ∙ ap pathAt (row-here .row) ∙ path-back row (row-here .encodable) _ []
+
+  digest-here : digestAt (drop at t) ≡ row .digest
+  unfolding front
+  digest-here = ap (λ (n : ℕ). digestAt (drop n t)) here ∙ ap digestAt (row-here .row) ∙ digest-back row (row-here .encodable) _ []
+
+  ok : ObjectOk (entry .0) (entry .1)
+  ok = every-lookup bytes ObjectOk (entry .0) (entry .1) (s .O) (h .valid .object) (lookup-key bytes blank i (s .O) (h .valid .objects) l)
+
+  pub record-here : recordAt (drop at t) ≡ listRecord (entry .0) (entry .1)
+  unfolding recordAt textAt listRecord
+  record-here =
+      rw (head-here, path-here, digest-here)
+      (ap (λ (x : Object). length (entry .0) ∷ entry .0 ++ (le 4 (length (entry .1 .content)) ++ (le 8 (entry .1 .created) ++ length (text (x .etag)) ∷ text (x .etag)))) (object-back (entry .1) (ok .etag) (entry .0)))
+
+  module _ (prefix suffix : Bytes) where
+    abbrev m : Map Bytes Object
+    m = listed prefix suffix (take i (s .O))
+
+    abbrev more : Map Bytes Object
+    more = cond (lists prefix suffix (entry .0)) (entry ∷ []) []
+
+    listed-next : listed prefix suffix (take (i + 1) (s .O)) ≡ m ++ more
+    unfolding listed lists
+    listed-next = ap (λ (n : ℕ). listed prefix suffix (take n (s .O))) (add-one i) ∙ keep-suc (λ p x. begins prefix p && ends suffix (drop (length prefix) p)) blank i (s .O) l
+
+    pub bytes-next : records listRecord (listed prefix suffix (take (i + 1) (s .O))) ≡ records listRecord m ++ rowBytes prefix suffix (drop at t)
+    unfolding rowBytes
+    bytes-next =
+        ap (records listRecord) listed-next
+        ∙ records-append listRecord m more
+        ∙ ap (λ (y : List ℕ). records listRecord m ++ y) (rw (path-here, record-here) (go (lists prefix suffix (entry .0))))
+      where
+        go : (b : Bool) → records listRecord (cond b (entry ∷ []) []) ≡ cond b (listRecord (entry .0) (entry .1)) []
+        go true = append-nil (listRecord (entry .0) (entry .1))
+        go false = refl
+
+    pub count-next : length (listed prefix suffix (take (i + 1) (s .O))) ≡ length m + cond (lists prefix suffix (pathAt (drop at t))) 1 0
+    count-next = ap length listed-next ∙ length-append m more ∙ ap (λ (n : ℕ). length m + n) (rw path-here (go (lists prefix suffix (entry .0))))
+      where
+        go : (b : Bool) → length (cond b (entry ∷ []) []) ≡ cond b 1 0
+        go true = refl
+        go false = refl
+
+-- the first i objects measured: the next row begins at `at`, and LIST has so many records and bytes of them
+pub record Walked (s : State) (prefix suffix : Bytes) (i at count size : ℕ) : Type 0 where
+  pub within : i ≤ length (s .O)
+  pub rows : at ≡ 18 + length (encodeRows (objectRows (take i (s .O))))
+  pub counted : count ≡ length (listed prefix suffix (take i (s .O)))
+  pub sized : size ≡ length (records listRecord (listed prefix suffix (take i (s .O))))
+  pub few : count ≤ i
+  pub small : size ≤ 307 * i
+
+pub walked-none : (s : State) (prefix suffix : Bytes) → Walked s prefix suffix 0 18 0 0
+unfolding encodeRows objectRows listed
+walked-none s prefix suffix = record { within = omega arith; rows = refl; counted = refl; sized = refl; few = omega arith; small = omega arith }
+
+pub walked-next : (t a : List ℕ) (s : State) (h : Stands t a s) (prefix suffix : Bytes) (i at count size n c k : ℕ) → Walked s prefix suffix i at count size → i < length (s .O)
+    → n ≡ headAt (drop at t) .pathlen → c ≡ cond (lists prefix suffix (pathAt (drop at t))) 1 0 → k ≡ length (rowBytes prefix suffix (drop at t)) → c ≤ 1 → k ≤ 307
+    → Walked s prefix suffix (i + 1) (at + 36 + n) (count + c) (size + k)
+walked-next t a s h prefix suffix i at count size n c k w l e f g few small =
+    let x = w .counted in
+    let y = w .sized in
+    let p = w .few in
+    let q = w .small in
+    record {
+      within = omega arith;
+      rows = omega (arith, row-next t a s h i at (w .rows) l);
+      counted = omega (arith, count-next t a s h i at (w .rows) l prefix suffix);
+      sized = omega (arith, ap length (bytes-next t a s h i at (w .rows) l prefix suffix), length-append (records listRecord (listed prefix suffix (take i (s .O)))) (rowBytes prefix suffix (drop at t)));
+      few = omega arith;
+      small = omega arith;
+    }
+
+pub walked-all : (s : State) (prefix suffix : Bytes) (i at count size : ℕ) → Walked s prefix suffix i at count size → length (s .O) ≤ i
+    → (count ≡ length (listed prefix suffix (s .O))) × (size ≡ length (records listRecord (listed prefix suffix (s .O))))
+walked-all s prefix suffix i at count size w l =
+    let e : take i (s .O) ≡ s .O = take-all i (s .O) l in
+    (w .counted ∙ ap (λ (o : Map Bytes Object). length (listed prefix suffix o)) e, w .sized ∙ ap (λ (o : Map Bytes Object). length (records listRecord (listed prefix suffix o))) e)

@@ -18,7 +18,7 @@ use Rattle.calls.specs.Made.{Memory, memory, resultOf, outcome, Made}
 use Rattle.calls.proofs.Judging.{result-found, result-missing, was-found}
 use Rattle.calls.proofs.MadeLaws.{done}
 
-is-none : {X : Type 0} (o : Option X) → isSome o ≡ false → o ≡ none
+pub is-none : {X : Type 0} (o : Option X) → isSome o ≡ false → o ≡ none
 is-none none e = refl
 is-none (some x) e = cc
 

@@ -1,2 +1,3 @@
 pub mod Aborting
 pub mod Initiating
+pub mod Parting

@@ -1,0 +1,260 @@
+-- PART: its refusals in checking order, and what it leaves. Assumes nothing.
+use Prim.Native.Nat.{ℕ, _+_, _-_, _≤_, _<_}
+use mathlib.Core.Path.{_≡_, refl, sym, ap, _∙_, subst}
+use mathlib.Core.Bool.{Bool, true, false}
+use mathlib.Core.List.{List, []}
+use mathlib.Core.Option.{Option, none, some}
+use native.Mathlib.Omega.{arith}
+use borrow.Author.Tests.{le-leb, lt-leb}
+use lib.Dec.{leb}
+use lib.ListN.{length, drop}
+use Rattle.number.specs.NumberLaws as byte
+use Rattle.md5.specs.declared.words.Digest.{Digest}
+use Rattle.md5.specs.Md5 as rfc
+use Rattle.md5.specs.Md5.{bytesOf}
+use Rattle.md5.specs.DigestBytes.{digestBytes-is}
+use Rattle.order.specs.OrderLaws.{numbers}
+use Rattle.machine.specs.Map.{byNumber, lookup, insert, total, owed}
+use Rattle.machine.specs.Names.{Bytes, requestPartOk}
+use Rattle.machine.specs.Digest.{md5}
+use Rattle.machine.specs.Etags.{plain}
+use Rattle.machine.specs.State.{Part, Upload, State, partLength, partsIn, held, counted, withUpload, withPart}
+use Rattle.machine.specs.Valid.{Valid}
+use Rattle.machine.specs.Calls.{PART, etag, badRequest, tableFull, arenaFull, accept, Outcome, _else_then_, given}
+use Rattle.machine.specs.Steps.{newPart, act, next}
+use Rattle.machine.proofs.Counts.{part-counted, held-part, parts-part}
+use Rattle.machine.proofs.KeepsValid.{next-valid}
+use Rattle.row.specs.declared.Head.{Head}
+use Rattle.row.specs.Row.{encodeRows, contentsOf, headAt}
+use Rattle.layout.specs.declared.Header.{Header}
+use Rattle.layout.specs.Memory.{rowsOf, partRow, headerAt, whole, stateOf, Stands}
+use Rattle.layout.specs.RowCounts.{length-contents}
+use Rattle.layout.specs.WholeLaws.{whole-stands}
+use Rattle.layout.specs.StandsLaws.{header-back}
+use Rattle.find.specs.declared.Offset.{Offset}
+use Rattle.find.specs.declared.Place.{Place}
+use Rattle.find.specs.Places.{isSome, behind, beforePart, afterPart, partPlace, uploadPlace}
+use Rattle.find.proofs.Splits.{part-found}
+use Rattle.find.proofs.RowsAt.{At, row-at}
+use Rattle.edit.specs.Header.{headerOf}
+use Rattle.edit.proofs.ObjectEdits.{is-some}
+use Rattle.edit_uploads.specs.Parts.{partWith, PartPuttable}
+use Rattle.calls.specs.Answers.{accepted}
+use Rattle.calls.specs.Made.{memory, resultOf, outcome, Made}
+use Rattle.calls.proofs.Judging.{pass, stop, passed, result-found, result-missing, result-stop, result-pass, was-found}
+use Rattle.calls.proofs.MadeLaws.{done}
+use Rattle.multipart.specs.Part.{partIn, partOutcome}
+use Rattle.multipart.proofs.Aborting.{is-none}
+
+-- the last two checks, by the numbers that code has at hand
+module _ (A : ℕ) (s : State) (v : Valid A s) (u n : ℕ) (d : Bytes) (x : Upload) (f : lookup byNumber u (s .U) ≡ some x) where
+  abbrev s′ : State
+  s′ = withUpload s u (withPart x n (newPart d))
+
+  abbrev stored : Outcome
+  stored = accept (etag (plain (md5 d))) [] s′
+
+  full : 256 < total partsIn (s′ .U) → resultOf (partIn A s u n d x) ≡ 4
+  unfolding partIn
+  full l = result-stop (counted s′) tableFull (leb (held s′) A else arenaFull then stored) (part-counted A s v u x (withPart x n (newPart d)) f ∙ lt-leb _ _ l)
+
+  counts-pass : total partsIn (s′ .U) ≤ 256 → partIn A s u n d x ≡ (leb (held s′) A else arenaFull then stored)
+  unfolding partIn
+  counts-pass l = pass (counted s′) tableFull (leb (held s′) A else arenaFull then stored) (part-counted A s v u x (withPart x n (newPart d)) f ∙ le-leb _ _ l)
+
+  over : total partsIn (s′ .U) ≤ 256 → A < held s′ → resultOf (partIn A s u n d x) ≡ 5
+  over l h = ap resultOf (counts-pass l ∙ stop (leb (held s′) A) arenaFull stored (lt-leb _ _ h))
+
+  fits : total partsIn (s′ .U) ≤ 256 → held s′ ≤ A → resultOf (partIn A s u n d x) ≡ 0
+  fits l h = ap resultOf (counts-pass l ∙ pass (leb (held s′) A) arenaFull stored (le-leb _ _ h))
+
+  is-outcome : (r : ℕ) → resultOf (partIn A s u n d x) ≡ r → r ≡ resultOf (partOutcome A s u n d)
+  unfolding partOutcome
+  is-outcome r e = sym (result-found (lookup byNumber u (s .U)) badRequest (partIn A s u n d) x f ∙ e)
+
+  -- in place of a part y
+  module _ (y : Part) (g : lookup byNumber n (x .parts) ≡ some y) where
+    old-parts : total partsIn (s′ .U) ≤ 256
+    old-parts = let p = v .parts in omega (arith, rw g at (parts-part s u n x (newPart d) f))
+
+    pub old-over : A + length (y .content) < held s + length d → 5 ≡ resultOf (partOutcome A s u n d)
+    old-over l = is-outcome 5 (over old-parts (omega (arith, rw g at (held-part s u n x (newPart d) f))))
+
+    pub old-fits : held s + length d ≤ A + length (y .content) → 0 ≡ resultOf (partOutcome A s u n d)
+    old-fits l = is-outcome 0 (fits old-parts (omega (arith, rw g at (held-part s u n x (newPart d) f))))
+
+  -- a part more
+  module _ (g : lookup byNumber n (x .parts) ≡ none) where
+    pub new-full : 256 ≤ total partsIn (s .U) → 4 ≡ resultOf (partOutcome A s u n d)
+    new-full l = is-outcome 4 (full (omega (arith, rw g at (parts-part s u n x (newPart d) f))))
+
+    new-parts : total partsIn (s .U) < 256 → total partsIn (s′ .U) ≤ 256
+    new-parts l = omega (arith, rw g at (parts-part s u n x (newPart d) f))
+
+    pub new-over : total partsIn (s .U) < 256 → A < held s + length d → 5 ≡ resultOf (partOutcome A s u n d)
+    new-over l h = is-outcome 5 (over (new-parts l) (omega (arith, rw g at (held-part s u n x (newPart d) f))))
+
+    pub new-fits : total partsIn (s .U) < 256 → held s + length d ≤ A → 0 ≡ resultOf (partOutcome A s u n d)
+    new-fits l h = is-outcome 0 (fits (new-parts l) (omega (arith, rw g at (held-part s u n x (newPart d) f))))
+
+-- the same over whole memory, by what the readers give
+module _ (t a d : List ℕ) (b : byte.Bytes t) (w : whole t a ≡ true) (u n : ℕ) (is-open : isSome (lookup byNumber u (stateOf t a .U)) ≡ true)
+    (place : Place) (place-is : (x : Upload) → lookup byNumber u (stateOf t a .U) ≡ some x → place ≡ partPlace (stateOf t a) u x n)
+    (end : Offset) (end-is : end ≡ behind (rowsOf (stateOf t a))) where
+  abbrev m : State
+  m = stateOf t a
+
+  abbrev h : Stands t a m
+  h = whole-stands t a b w
+
+  abbrev x₀ : Upload
+  x₀ = is-some (lookup byNumber u (m .U)) is-open .0
+
+  open₀ : lookup byNumber u (m .U) ≡ some x₀
+  open₀ = is-some (lookup byNumber u (m .U)) is-open .1
+
+  held-is : end .base ≡ held m
+  held-is = ap (λ (o : Offset). o .base) end-is ∙ length-contents m
+
+  pub held-inside : end .base ≤ length a
+  held-inside = let r = h .valid .room in omega (arith, held-is)
+
+  pub arena-small : length a ≤ 1048576
+  arena-small = h .small
+
+  place-at : place ≡ partPlace m u x₀ n
+  place-at = place-is x₀ open₀
+
+  found-is : place .found ≡ isSome (lookup byNumber n (x₀ .parts))
+  unfolding partPlace
+  found-is = ap (λ (p : Place). p .found) place-at
+
+  module _ (yes : place .found ≡ true) where
+    abbrev y₀ : Part
+    y₀ = is-some (lookup byNumber n (x₀ .parts)) (sym found-is ∙ yes) .0
+
+    there : lookup byNumber n (x₀ .parts) ≡ some y₀
+    there = is-some (lookup byNumber n (x₀ .parts)) (sym found-is ∙ yes) .1
+
+    here : At t a m h (beforePart m u x₀ n) (partRow n y₀) (afterPart m u x₀ n)
+    here = row-at t a m h (beforePart m u x₀ n) (partRow n y₀) (afterPart m u x₀ n) (part-found m u x₀ open₀ n y₀ there)
+
+    at-is : place .at ≡ 18 + length (encodeRows (beforePart m u x₀ n))
+    unfolding partPlace
+    at-is = ap (λ (p : Place). p .at) place-at
+
+    pub old-inside : place .at + 20 ≤ length t
+    old-inside = omega (arith, at-is, here .inside)
+
+    module _ (head : Head) (head-is : head ≡ headAt (drop (place .at) t)) where
+      size-is : head .size ≡ length (y₀ .content)
+      size-is = ap (λ (z : Head). z .size) (head-is ∙ ap (λ (i : ℕ). headAt (drop i t)) at-is ∙ here .head)
+
+      pub old-small : head .size ≤ 1048576
+      old-small = let l = h .small in omega (arith, size-is, here .arena-inside)
+
+      pub old-five : length a - end .base + head .size < length d → 5 ≡ resultOf (partOutcome (length a) m u n d)
+      old-five l = let k = held-inside in old-over (length a) m (h .valid) u n d x₀ open₀ y₀ there (omega (arith, held-is, size-is))
+
+      pub old-zero : length d ≤ length a - end .base + head .size → 0 ≡ resultOf (partOutcome (length a) m u n d)
+      old-zero l = let k = held-inside in old-fits (length a) m (h .valid) u n d x₀ open₀ y₀ there (omega (arith, held-is, size-is))
+
+  pub header-inside : 18 ≤ length t
+  header-inside = let z = h .size in omega arith
+
+  module _ (no : place .found ≡ false) (header : Header) (read : header ≡ headerAt t) where
+    absent : lookup byNumber n (x₀ .parts) ≡ none
+    absent = is-none _ (sym found-is ∙ no)
+
+    header-of : headerAt t ≡ headerOf (length a) m
+    header-of = header-back t a m h
+
+    parts-is : header .parts ≡ total partsIn (m .U)
+    parts-is = ap (λ (z : Header). z .parts) (read ∙ header-of)
+
+    pub new-four : 256 ≤ header .parts → 4 ≡ resultOf (partOutcome (length a) m u n d)
+    new-four l = new-full (length a) m (h .valid) u n d x₀ open₀ absent (omega (arith, parts-is))
+
+    pub new-five : header .parts < 256 → length a - end .base < length d → 5 ≡ resultOf (partOutcome (length a) m u n d)
+    new-five l k = let i = held-inside in new-over (length a) m (h .valid) u n d x₀ open₀ absent (omega (arith, parts-is)) (omega (arith, held-is))
+
+    pub new-zero : header .parts < 256 → length d ≤ length a - end .base → 0 ≡ resultOf (partOutcome (length a) m u n d)
+    new-zero l k = let i = held-inside in new-fits (length a) m (h .valid) u n d x₀ open₀ absent (omega (arith, parts-is)) (omega (arith, held-is))
+
+-- the first two checks
+module _ (A : ℕ) (s : State) (u n : ℕ) (d : Bytes) where
+  pub bad-number : requestPartOk n ≡ false → 2 ≡ resultOf (act A s (PART u n d))
+  unfolding act partOutcome partIn
+  bad-number e = sym (result-stop (requestPartOk n) badRequest (partOutcome A s u n d) e)
+
+  number-ok : requestPartOk n ≡ true → act A s (PART u n d) ≡ partOutcome A s u n d
+  unfolding act partOutcome partIn
+  number-ok e = pass (requestPartOk n) badRequest (partOutcome A s u n d) e
+
+  pub not-open : requestPartOk n ≡ true → (place : Place) → place ≡ uploadPlace s u → place .found ≡ false → 2 ≡ resultOf (act A s (PART u n d))
+  unfolding partOutcome uploadPlace
+  not-open e place is f =
+      sym (ap resultOf (number-ok e) ∙ result-missing (lookup byNumber u (s .U)) badRequest (partIn A s u n d) (is-none _ (sym (ap (λ (p : Place). p .found) is) ∙ f)))
+
+  pub open-found : (place : Place) → place ≡ uploadPlace s u → place .found ≡ true → isSome (lookup byNumber u (s .U)) ≡ true
+  unfolding uploadPlace
+  open-found place is f = sym (ap (λ (p : Place). p .found) is) ∙ f
+
+  pub part-judged : requestPartOk n ≡ true → (r : ℕ) → r ≡ resultOf (partOutcome A s u n d) → r ≡ resultOf (act A s (PART u n d))
+  part-judged e r is = is ∙ sym (ap resultOf (number-ok e))
+
+  -- result 0: all checks were passed
+  module _ (zero-result : resultOf (act A s (PART u n d)) ≡ 0) where
+    first : (requestPartOk n ≡ true) × (act A s (PART u n d) ≡ partOutcome A s u n d)
+    unfolding act partOutcome partIn
+    first = passed (requestPartOk n) badRequest (partOutcome A s u n d) zero-result
+
+    second : (x : Upload) × (lookup byNumber u (s .U) ≡ some x) × (partOutcome A s u n d ≡ partIn A s u n d x)
+    unfolding partOutcome
+    second = was-found (lookup byNumber u (s .U)) badRequest (partIn A s u n d) (sym (ap resultOf (first .1)) ∙ zero-result)
+
+    abbrev x₁ : Upload
+    x₁ = second .0
+
+    abbrev s₁ : State
+    s₁ = withUpload s u (withPart x₁ n (newPart d))
+
+    act-is : act A s (PART u n d) ≡ accept (etag (plain (md5 d))) [] s₁
+    unfolding partIn
+    act-is =
+        let z : resultOf (partIn A s u n d x₁) ≡ 0 = sym (ap resultOf (first .1 ∙ second .2)) ∙ zero-result in
+        let three = passed (counted s₁) tableFull (leb (held s₁) A else arenaFull then accept (etag (plain (md5 d))) [] s₁) z in
+        let four = passed (leb (held s₁) A) arenaFull (accept (etag (plain (md5 d))) [] s₁) (sym (ap resultOf (three .1)) ∙ z) in
+        first .1 ∙ second .2 ∙ three .1 ∙ four .1
+
+    target-valid : Valid A s → Valid A s₁
+    target-valid v = subst (Valid A) (next-is act-is) (next-valid A s (PART u n d) v)
+      where
+        next-is : act A s (PART u n d) ≡ accept (etag (plain (md5 d))) [] s₁ → next A s (PART u n d) ≡ s₁
+        next-is e = rw e
+
+part-is : (d : Bytes) (digest : Digest) → digest ≡ rfc.md5 d → partWith digest d ≡ newPart d
+part-is d digest e = ap (λ (z : List ℕ). record { content = d; digest = z }) (ap bytesOf e ∙ sym (digestBytes-is d))
+
+module _ (t a d : List ℕ) (u n : ℕ) (digest : Digest) (w : whole t a ≡ true) (zero-result : resultOf (act (length a) (stateOf t a) (PART u n d)) ≡ 0) (e : digest ≡ rfc.md5 d) where
+  pub part-ready : byte.Bytes t → PartPuttable t a u n digest d
+  part-ready b =
+      record {
+        is-whole = w;
+        upload = second (length a) (stateOf t a) u n d zero-result .0;
+        is-open = second (length a) (stateOf t a) u n d zero-result .1;
+        valid =
+            subst (λ (y : Part). Valid (length a) (withUpload (stateOf t a) u (withPart (second (length a) (stateOf t a) u n d zero-result .0) n y))) (sym (part-is d digest e))
+            (target-valid (length a) (stateOf t a) u n d zero-result (whole-stands t a b w .valid));
+      }
+
+  pub part-made : (t′ a′ : List ℕ) → ((x : Upload) → lookup byNumber u (stateOf t a .U) ≡ some x → Stands t′ a′ (withUpload (stateOf t a) u (withPart x n (partWith digest d))))
+      → length t′ ≡ length t → length a′ ≡ length a → Made (PART u n d) (memory t a) (accepted (etag (plain (bytesOf digest))) []) (memory t′ a′)
+  unfolding outcome
+  part-made t′ a′ g l l′ =
+      let two = second (length a) (stateOf t a) u n d zero-result in
+      let tag : bytesOf digest ≡ md5 d = ap bytesOf e ∙ sym (digestBytes-is d) in
+      done (PART u n d) (memory t a) (memory t′ a′) (accepted (etag (plain (bytesOf digest))) []) (etag (plain (md5 d))) [] _ w
+      (act-is (length a) (stateOf t a) u n d zero-result)
+      (ap (λ (z : List ℕ). accepted (etag (plain z)) []) tag)
+      (subst (λ (y : Part). Stands t′ a′ (withUpload (stateOf t a) u (withPart (two .0) n y))) (part-is d digest e) (g (two .0) (two .1))) l l′

@@ -1,0 +1,91 @@
+// PART: a part of an open upload is set.
+use types::Etag;
+use types::PartAnswer;
+use types::PartNumber;
+use types::UploadNumber;
+ghost use mathlib.Core.Path.{_≡_};
+ghost use mathlib.Core.Bool.{true};
+ghost use Prim.Native.Nat.{ℕ};
+ghost use lib.ListN.{length};
+ghost use Rattle.machine.specs.Map.{byNumber, lookup};
+ghost use Rattle.machine.specs.Names.{Bytes};
+ghost use Rattle.machine.specs.Calls.{PART};
+ghost use Rattle.machine.specs.Steps.{act};
+ghost use Rattle.layout.specs.Memory.{whole, stateOf};
+ghost use Rattle.find.specs.Places.{isSome};
+ghost use Rattle.calls.specs.Answers.{partReply};
+ghost use Rattle.calls.specs.Made.{memory, resultOf, Made};
+ghost use Rattle.multipart.specs.Part.{partOutcome};
+
+// The refusal of a part of n bytes for an open upload: 4, 5 or 0. The bytes of the part that stands there are free.
+fn part_room(
+    tables: &[u8],
+    arena: &[u8],
+    upload: UploadNumber,
+    number: PartNumber,
+    content: &[u8],
+) -> u8
+    requires { ⌜ (whole (now tables) (now arena) ≡ true) × (isSome (lookup byNumber (upload .0) (stateOf (now tables) (now arena) .U)) ≡ true) ⌝ }
+    ensures { λ r. ⌜ r ≡ resultOf (partOutcome (length (now (arena .entry))) (stateOf (now (tables .entry)) (now (arena .entry))) (upload .0) (number .0) (now (content .entry))) ⌝ }
+{
+    let old = find::find_part(tables, arena, upload.0, number.0);
+    let end = find::rows_end(tables, arena);
+    let room = arena.len() - end.base;
+    if old.found {
+        let h = row::read_head(tables, old.at);
+        if room + (h.size as usize) < content.len() {
+            return 5;
+        }
+        return 0;
+    }
+    let header = layout::headers::read_header(tables);
+    if 256 <= header.parts {
+        return 4;
+    }
+    if room < content.len() {
+        return 5;
+    }
+    0
+}
+
+// PART's refusal over whole memory, 0 for none.
+fn part_judge(
+    tables: &[u8],
+    arena: &[u8],
+    upload: UploadNumber,
+    number: PartNumber,
+    content: &[u8],
+) -> u8
+    requires { ⌜ whole (now tables) (now arena) ≡ true ⌝ }
+    ensures { λ r. ⌜ r ≡ resultOf (act (length (now (arena .entry))) (stateOf (now (tables .entry)) (now (arena .entry))) (PART (upload .0) (number .0) (now (content .entry)))) ⌝ }
+{
+    if !names::request_part_ok(number.0) {
+        return 2;
+    }
+    let place = find::find_upload(tables, arena, upload.0);
+    if !place.found {
+        return 2;
+    }
+    part_room(tables, arena, upload, number, content)
+}
+
+pub fn part(
+    tables: &mut [u8],
+    arena: &mut [u8],
+    upload: UploadNumber,
+    number: PartNumber,
+    content: &[u8],
+) -> PartAnswer
+    ensures { λ r. ⌜ Made (PART (upload .0) (number .0) (now (content .entry))) (memory (now (tables .entry)) (now (arena .entry))) (partReply r) (memory (now (tables .exit)) (now (arena .exit))) ⌝ }
+{
+    if !scan::whole(tables, arena) {
+        return PartAnswer::Refused(1);
+    }
+    let n = part_judge(tables, arena, upload, number, content);
+    if n != 0 {
+        return PartAnswer::Refused(n);
+    }
+    let digest = md5::digest(content);
+    edit_uploads::parts::put_part(tables, arena, upload.0, number.0, digest, content);
+    PartAnswer::Stored(Etag::Plain(digest))
+}

@@ -1,2 +1,3 @@
 pub mod RowLengths
 pub mod ObjectRows
+pub mod Front

@@ -1,0 +1,62 @@
+-- The food auditor's two questions, in terms of runs. Assumes nothing.
+use Prim.Native.Nat.{ℕ}
+use mathlib.Core.Path.{_≡_}
+use mathlib.Core.Bool.{Bool, true, false}
+use mathlib.Core.List.{List, [], _∷_, _++_}
+use lib.Dec.{eqb}
+use Rattle.machine.specs.Calls.{Call, PUT, GET, HEAD, DELETE, COPY, LIST, INITIATE, PART, COMMIT, ABORT, UPLOADS, Reply}
+use Rattle.machine.specs.Lists.{Trace}
+use Rattle.machine.specs.Demand3.{kind, isLook, accepted}
+use Rattle.calls.specs.Made.{Memory, Made}
+use Rattle.history.specs.Runs.{FromFresh}
+
+-- "Can a batch record be read before its last weighing is committed?" -----------------------------------------------------
+
+-- the calls that set or remove an object; INITIATE, PART and ABORT do not
+abbrev pub changesObjects : Call → Bool
+changesObjects (PUT t p d) = true
+changesObjects (GET p b) = false
+changesObjects (HEAD p) = false
+changesObjects (DELETE p) = true
+changesObjects (COPY t p q) = true
+changesObjects (LIST prefix suffix b) = false
+changesObjects (INITIATE t p) = false
+changesObjects (PART u n d) = false
+changesObjects (COMMIT u ns) = true
+changesObjects (ABORT u) = false
+changesObjects (UPLOADS prefix b) = false
+
+-- no call of the run sets or removes an object
+abbrev pub ChangesNone : Trace → Type 0
+ChangesNone [] = Unit {0}
+ChangesNone (e ∷ t) = (changesObjects (e .0) ≡ false) × ChangesNone t
+
+-- whatever is read by GET, HEAD or LIST is the same, whether it is read over the one memory or over the other
+unfoldable pub SameReads : Memory → Memory → Type 0
+SameReads m m′ = (c : Call) (r r′ : Reply) (n n′ : Memory) → isLook (kind c) ≡ true → Made c m r n → Made c m′ r′ n′ → r′ ≡ r
+
+-- "Can weighings of an aborted upload turn up in a later record?" ----------------------------------------------------------
+
+-- the call names the upload
+abbrev pub names : (upload : ℕ) → Call → Bool
+names u (PUT t p d) = false
+names u (GET p b) = false
+names u (HEAD p) = false
+names u (DELETE p) = false
+names u (COPY t p q) = false
+names u (LIST prefix suffix b) = false
+names u (INITIATE t p) = false
+names u (PART v n d) = eqb u v
+names u (COMMIT v ns) = eqb u v
+names u (ABORT v) = eqb u v
+names u (UPLOADS prefix b) = false
+
+-- every call that names the upload is refused, by 2
+abbrev pub Shut : (upload : ℕ) → Trace → Type 0
+Shut u [] = Unit {0}
+Shut u (e ∷ t) = (names u (e .0) ≡ true → e .1 .result ≡ 2) × Shut u t
+
+-- what an accepted ABORT leaves for the rest of the run: the upload is shut, and every COMMIT that is accepted later is another upload's
+pub record StaysOut (u : ℕ) (behind : Trace) : Type 0 where
+  pub shut : Shut u behind
+  pub other : (between after : Trace) (v : ℕ) (ns : List ℕ) (r : Reply) → behind ≡ between ++ (COMMIT v ns, r) ∷ after → accepted r ≡ true → v ≡ u → ⊥

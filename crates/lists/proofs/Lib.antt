@@ -1,3 +1,4 @@
 pub mod RowLengths
 pub mod ObjectRows
 pub mod Front
+pub mod RecordBytes

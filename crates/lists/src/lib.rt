@@ -1,12 +1,16 @@
-// LIST: what it makes of one row.
+// LIST.
+mod record;
+
 ghost use mathlib.Core.Path.{_≡_};
-ghost use mathlib.Core.Bool.{cond};
+ghost use mathlib.Core.Bool.{true, cond};
 ghost use Prim.Native.Nat.{ℕ, _+_, _≤_};
-ghost use mathlib.Core.List.{List};
-ghost use lib.ListN.{length, drop};
+ghost use mathlib.Core.List.{List, _++_};
+ghost use lib.ListN.{length, take, drop};
+ghost use Rattle.machine.specs.Map.{records};
 ghost use Rattle.machine.specs.Etags.{text};
+ghost use Rattle.machine.specs.Steps.{listed, listRecord};
 ghost use Rattle.row.specs.Row.{headAt, pathAt};
-ghost use Rattle.layout.specs.Memory.{etagOf};
+ghost use Rattle.layout.specs.Memory.{whole, stateOf, etagOf};
 ghost use Rattle.lists.specs.Rows.{lists, rowBytes};
 
 // Whether LIST has the path.
@@ -54,4 +58,27 @@ pub fn measure_row(tables: &[u8], at: usize, prefix: &[u8], suffix: &[u8]) -> Me
         records: 1,
         bytes: 14 + number::wide(h.pathlen) as u32 + text_length(h.kind, h.count),
     }
+}
+
+// How many records and bytes LIST writes.
+fn measure(tables: &[u8], arena: &[u8], prefix: &[u8], suffix: &[u8]) -> Measured
+    requires { ⌜ whole (now tables) (now arena) ≡ true ⌝ }
+    ensures { λ r. ⌜ (r .records ≡ length (listed (now (prefix .entry)) (now (suffix .entry)) (stateOf (now (tables .entry)) (now (arena .entry)) .O)))
+        × (r .bytes ≡ length (records listRecord (listed (now (prefix .entry)) (now (suffix .entry)) (stateOf (now (tables .entry)) (now (arena .entry)) .O)))) ⌝ }
+{
+    let header = layout::headers::read_header(tables);
+    let objects = header.objects as usize;
+    let mut at: usize = 18;
+    let mut records: u32 = 0;
+    let mut bytes: u32 = 0;
+    let mut i: usize = 0;
+    while i < objects {
+        let h = row::read_head(tables, at);
+        let m = measure_row(tables, at, prefix, suffix);
+        at = at + 36 + h.pathlen as usize;
+        records += m.records;
+        bytes += m.bytes;
+        i += 1;
+    }
+    Measured { records, bytes }
 }

@@ -1,6 +1,6 @@
 -- The row of an object, and what LIST writes for it. Assumes nothing.
 use Prim.Native.Nat.{ℕ, suc, _+_, _*_, _≤_, _<_}
-use mathlib.Core.Path.{_≡_, refl, sym, ap, ap₂, _∙_}
+use mathlib.Core.Path.{_≡_, refl, sym, ap, _∙_}
 use mathlib.Core.Bool.{Bool, true, false, cond, _&&_}
 use mathlib.Core.List.{List, [], _∷_, _++_, append-assoc}
 use native.Mathlib.Numerals.{add-one}
@@ -10,7 +10,7 @@ use lib.Seq.{take-suc, split-at, take-all}
 use Rattle.number.specs.Number.{le}
 use Rattle.order.specs.Order.{begins, ends}
 use Rattle.order.specs.OrderLaws.{bytes}
-use Rattle.machine.specs.Map.{Map, keep, records}
+use Rattle.machine.specs.Map.{Map, records}
 use Rattle.machine.specs.Names.{Bytes}
 use Rattle.machine.specs.Etags.{absent, text}
 use Rattle.machine.specs.State.{Object, State}
@@ -22,7 +22,7 @@ use Rattle.machine.proofs.MapLaws.{every-lookup}
 use Rattle.row.specs.declared.Head.{Head}
 use Rattle.row.specs.Row.{Row, encodeRows, headAt, digestAt, pathAt, headOf}
 use Rattle.row.specs.RowLaws.{path-back, digest-back}
-use Rattle.layout.specs.Memory.{objectRow, objectRows, uploadRows, rowsOf, etagOf, objectOf, Stands}
+use Rattle.layout.specs.Memory.{objectRow, objectRows, uploadRows, rowsOf, Stands}
 use Rattle.layout.specs.ObjectLaws.{object-back}
 use Rattle.find.proofs.RowsAt.{At, row-at}
 use Rattle.find.proofs.Splits.{object-rows-append}

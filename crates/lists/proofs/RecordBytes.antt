@@ -19,7 +19,7 @@ use Rattle.row.specs.declared.Head.{Head}
 use Rattle.row.specs.Row.{headAt, digestAt, pathAt}
 use Rattle.layout.specs.Memory.{etagOf}
 use Rattle.lists.specs.Rows.{textAt, recordAt}
-use Rattle.lists.proofs.RowLengths.{digest-length, record-length, text-plain, text-joined}
+use Rattle.lists.proofs.RowLengths.{record-length, text-plain, text-joined}
 use Rattle.lists.proofs.Front.{byte-over, over-next}
 
 -- a byte, then the bytes y

@@ -1,8 +1,8 @@
 -- The lengths of an etag's text and of LIST's record of a row. Assumes nothing.
-use Prim.Native.Nat.{ℕ, _+_, _-_, _*_, _≤_}
-use mathlib.Core.Path.{_≡_, refl, sym, ap, ap₂, _∙_}
+use Prim.Native.Nat.{ℕ, _+_, _-_, _≤_}
+use mathlib.Core.Path.{_≡_, sym, ap, ap₂, _∙_}
 use mathlib.Core.Bool.{Bool, true, false, cond}
-use mathlib.Core.List.{List, [], _∷_, _++_}
+use mathlib.Core.List.{List, _∷_}
 use native.Mathlib.Nat.{add-sub-cancel-left}
 use native.Mathlib.Omega.{arith}
 use borrow.Author.Tests.{eq-eqb, ne-eqb}
@@ -14,7 +14,6 @@ use Rattle.number.specs.NumberLaws.{length-le}
 use Rattle.text.specs.Text.{hex, decimal}
 use Rattle.text.specs.TextLaws.{length-hex}
 use Rattle.machine.specs.Etags.{text}
-use Rattle.row.specs.declared.Head.{Head}
 use Rattle.row.specs.Row.{headAt, digestAt, pathAt}
 use Rattle.layout.specs.Memory.{etagOf}
 use Rattle.lists.specs.Rows.{lists, textAt, recordAt, rowBytes}

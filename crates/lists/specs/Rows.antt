@@ -1,12 +1,15 @@
--- LIST's test of a path, and what it writes for a row. Assumes nothing.
+-- LIST's test of a path, and what it writes: for a row, and for a state. Assumes nothing.
 use Prim.Native.Nat.{ℕ}
 use mathlib.Core.Bool.{Bool, _&&_, cond}
 use mathlib.Core.List.{List, [], _∷_, _++_}
 use lib.ListN.{length, drop}
 use Rattle.number.specs.Number.{le}
 use Rattle.order.specs.Order.{begins, ends}
+use Rattle.machine.specs.Map.{records}
 use Rattle.machine.specs.Names.{Bytes}
 use Rattle.machine.specs.Etags.{text}
+use Rattle.machine.specs.State.{State}
+use Rattle.machine.specs.Steps.{listed, listRecord}
 use Rattle.row.specs.Row.{headAt, digestAt, pathAt}
 use Rattle.layout.specs.Memory.{etagOf}
 
@@ -25,3 +28,7 @@ recordAt t = headAt t .pathlen ∷ pathAt t ++ (le 4 (headAt t .size) ++ (le 8 (
 -- what LIST writes for that row
 unfoldable pub rowBytes : (prefix suffix : Bytes) (t : List ℕ) → Bytes
 rowBytes prefix suffix t = cond (lists prefix suffix (pathAt t)) (recordAt t) []
+
+-- all that LIST writes
+abbrev pub listing : (prefix suffix : Bytes) → State → Bytes
+listing prefix suffix s = records listRecord (listed prefix suffix (s .O))

@@ -2,9 +2,7 @@
 use Prim.Native.Nat.{_+_}
 use mathlib.Core.Path.{_∙_}
 use lib.ListN.{length-set}
-use lib.ListN.{length, length-set}
 use Rattle.lists.proofs.RecordBytes.{numbers-written}
-use native.Mathlib.Omega.{arith}
 use borrow.Author.Needs.{needs}
 use Rattle.lists.proofs.record.write_numbers.Statement.{statement}
 use Rattle.lists.proofs.record.write_numbers.Tie as tie

@@ -1,10 +1,7 @@
 -- `lists::record::write_path` meets its contract: a byte, and the path behind it. Assumes nothing.
 use mathlib.Core.Path.{_∙_}
 use lib.ListN.{length-set}
-use mathlib.Core.Path.{ap, _∙_}
-use lib.ListN.{length, length-set}
 use Rattle.lists.proofs.RecordBytes.{path-fits, path-written}
-use native.Mathlib.Omega.{arith}
 use borrow.Author.Needs.{needs}
 use Rattle.lists.proofs.record.write_path.Statement.{statement}
 use Rattle.lists.proofs.record.write_path.Tie as tie

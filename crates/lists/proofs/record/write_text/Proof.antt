@@ -1,6 +1,5 @@
 -- `lists::record::write_text` meets its contract: the digits, and a joined etag's count behind them. Assumes nothing.
 use Rattle.lists.proofs.RecordBytes.{text-room, count-room, plain-written, joined-written}
-use native.Mathlib.Omega.{arith}
 use borrow.Author.Needs.{needs}
 use Rattle.lists.proofs.record.write_text.Statement.{statement}
 use Rattle.lists.proofs.record.write_text.Tie as tie

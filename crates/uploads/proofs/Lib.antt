@@ -1,0 +1,6 @@
+pub mod UploadRows
+pub mod RecordBytes
+pub mod Fronts
+pub mod Measured
+pub mod Written
+pub mod Replies

@@ -1,0 +1,128 @@
+-- `uploads::measuring::measure` meets its contract. The invariant: the uploads passed are measured. Assumes nothing.
+use Prim.Native.Nat.{ℕ, _-_, _<_}
+use mathlib.Core.Path.{_≡_}
+use mathlib.Core.List.{List}
+use native.Mathlib.Omega.{arith}
+use borrow.Author.Needs.{needs}
+use lib.ListN.{length}
+use Rattle.machine.specs.State.{State}
+use Rattle.layout.specs.Memory.{stateOf, Stands}
+use Rattle.layout.specs.WholeLaws.{whole-stands}
+use Rattle.uploads.proofs.UploadRows.{Entry, row-inside, row-open, entry}
+use Rattle.uploads.proofs.Measured.{Measured, measured-none, measured-next, measured-all}
+use Rattle.uploads.proofs.measuring.measure.Statement.{statement}
+use Rattle.uploads.proofs.measuring.measure.Tie as tie
+
+abbrev Inv-loop : tie.InvT-loop
+Inv-loop tables arena prefix uploads at₀ records₀ bytes₀ i₀ at records bytes i = Measured (stateOf tables arena) prefix i at records bytes
+
+abbrev μ-loop : tie.MeasureT-loop
+μ-loop tables arena prefix uploads at₀ records₀ bytes₀ i₀ at records bytes i = uploads - i
+
+open-count-requires : tie.Need-open-count-requires Inv-loop μ-loop
+open-count-requires c κs = search needs
+
+first-row-requires : tie.Need-first-row-requires Inv-loop μ-loop
+first-row-requires c κs = search needs
+
+loop-holds : tie.Need-loop-holds Inv-loop μ-loop
+loop-holds c = let k = c .before .before .before .before .before in measured-none (stateOf (k .args .tables .now) (k .args .arena .now)) (k .args .prefix .now) (c .first-row .result) (c .first-row .ensures)
+
+-- in the loop: memory stands for its state, and the count is that of its uploads
+module _ (c : tie.At-loop Inv-loop μ-loop) where
+  abbrev start : tie.Start Inv-loop μ-loop
+  start = c .before .before .before .before .before .before
+
+  abbrev t : List ℕ
+  t = start .args .tables .now
+
+  abbrev a : List ℕ
+  a = start .args .arena .now
+
+  abbrev s : State
+  s = stateOf t a
+
+  stands : Stands t a s
+  stands = whole-stands t a (λ j. c .before .before .before .before .before .shared-slice-known .given j .fits) (start .pre)
+
+  counted : c .before .before .open-count .result ≡ length (s .U)
+  counted = c .before .before .open-count .ensures
+
+more : (c : tie.In-loop Inv-loop μ-loop) → c .before .loop .i < length (s (c .before) .U)
+more c = let n = c .loop-test .taken in omega (arith, counted (c .before))
+
+-- i is at most 16
+few : (c : tie.In-loop Inv-loop μ-loop) → c .before .loop .i < 16
+few c = let n = stands (c .before) .valid .opens in omega (arith, more c)
+
+read-upload-requires : tie.Need-read-upload-requires Inv-loop μ-loop
+read-upload-requires c κs =
+    let k = c .before in (
+      start k .pre,
+      row-inside (t k) (a k) (s k) (stands k) (k .loop .i) (k .loop .at) (k .loop .inv .rows) (more c),
+      row-open (t k) (a k) (s k) (stands k) (k .loop .i) (k .loop .at) (k .loop .inv .rows) (more c),
+    )
+
+-- the upload whose row was read
+read : (c : tie.After-read-upload Inv-loop μ-loop) → let k = c .before .before in Entry (t k) (s k) (k .loop .i) (c .read-upload .result)
+read c =
+    let k = c .before .before in
+    entry (t k) (a k) (s k) (stands k) (k .loop .i) (k .loop .at) (k .loop .inv .rows) (more (c .before)) (c .read-upload .result) (c .read-upload .ensures)
+
+sub-measure-one : tie.Need-sub-measure-one Inv-loop μ-loop
+sub-measure-one c = let e = read c in omega arith
+
+part-measure-one-start : tie.Need-part-measure-one-start Inv-loop μ-loop
+part-measure-one-start c = let e = read c in omega arith
+
+part-measure-one-end : tie.Need-part-measure-one-end Inv-loop μ-loop
+part-measure-one-end c = let e = read c in omega arith
+
+measure-one-requires : tie.Need-measure-one-requires Inv-loop μ-loop
+measure-one-requires c κs = let e = read (c .before) in rw (e .path) (e .short)
+
+add-records : tie.Need-add-records Inv-loop μ-loop
+add-records c = let i = c .before .before .before .before in let w = i .before .loop .inv in omega (arith, few i)
+
+add-bytes : tie.Need-add-bytes Inv-loop μ-loop
+add-bytes c = let i = c .before .before .before .before .before in let w = i .before .loop .inv in omega (arith, few i)
+
+add-i : tie.Need-add-i Inv-loop μ-loop
+add-i c = omega arith
+
+loop-less : tie.Need-loop-less Inv-loop μ-loop
+loop-less c = omega arith
+
+loop-again : tie.Need-loop-again Inv-loop μ-loop
+loop-again c =
+    let m = c .before .before in
+    let r = m .before .before in
+    let k = r .before .before in
+    let o = m .measure-one .ensures in
+    measured-next (t k) (s k) (start k .args .prefix .now) (k .loop .i) (k .loop .at) (k .loop .records) (k .loop .bytes) (r .read-upload .result) _ _ (k .loop .inv) (more (r .before)) (read r) (o .0) (o .1) (o .2) (o .3)
+
+returns : tie.Need-returns Inv-loop μ-loop
+returns c =
+    let k = c .before in
+    measured-all (s k) (start k .args .prefix .now) (k .loop .i) (k .loop .at) (k .loop .records) (k .loop .bytes) (k .loop .inv) (let n = c .loop-test .left in omega (arith, counted k))
+
+pub measure-spec : {M : Type 1} → statement M
+measure-spec =
+    tie.close
+    (tie.spec
+    Inv-loop
+    μ-loop
+    open-count-requires
+    first-row-requires
+    loop-holds
+    read-upload-requires
+    sub-measure-one
+    part-measure-one-start
+    part-measure-one-end
+    measure-one-requires
+    add-records
+    add-bytes
+    add-i
+    loop-less
+    loop-again
+    returns)

@@ -1,0 +1,50 @@
+// UPLOADS' records, counted and measured.
+use types::Counts;
+ghost use mathlib.Core.Path.{_≡_};
+ghost use mathlib.Core.Bool.{true, cond};
+ghost use Prim.Native.Nat.{_+_, _≤_};
+ghost use lib.ListN.{length};
+ghost use Rattle.order.specs.Order.{begins};
+ghost use Rattle.machine.specs.Map.{records};
+ghost use Rattle.machine.specs.Steps.{openUnder, uploadRecord};
+ghost use Rattle.layout.specs.Memory.{whole, stateOf};
+
+// How many records, 0 or 1, and bytes UPLOADS has of an upload at `path`.
+fn measure_one(path: &[u8], prefix: &[u8]) -> Counts
+    requires { ⌜ length (now path) ≤ 128 ⌝ }
+    ensures { λ r. ⌜ (r .records ≡ cond (begins (now (prefix .entry)) (now (path .entry))) 1 0) × (r .bytes ≡ cond (begins (now (prefix .entry)) (now (path .entry))) (15 + length (now (path .entry))) 0) × (r .records ≤ 1) × (r .bytes ≤ 143) ⌝ }
+{
+    if !order::begins_with(path, prefix) {
+        return Counts {
+            records: 0,
+            bytes: 0,
+        };
+    }
+    Counts {
+        records: 1,
+        bytes: 15 + path.len() as u32,
+    }
+}
+
+// How many records and bytes UPLOADS has.
+pub fn measure(tables: &[u8], arena: &[u8], prefix: &[u8]) -> Counts
+    requires { ⌜ whole (now tables) (now arena) ≡ true ⌝ }
+    ensures { λ r. ⌜ (r .records ≡ length (openUnder (now (prefix .entry)) (stateOf (now (tables .entry)) (now (arena .entry)) .U))) × (r .bytes ≡ length (records uploadRecord (openUnder (now (prefix .entry)) (stateOf (now (tables .entry)) (now (arena .entry)) .U)))) ⌝ }
+{
+    let uploads = crate::rows::open_count(tables, arena);
+    let mut at = crate::rows::first_row(tables, arena);
+    let mut records: u32 = 0;
+    let mut bytes: u32 = 0;
+    let mut i: usize = 0;
+    while i < uploads {
+        let u = crate::rows::read_upload(tables, arena, at);
+        let from = u.from;
+        let to = u.to;
+        let one = measure_one(&tables[from..to], prefix);
+        records += one.records;
+        bytes += one.bytes;
+        at = u.next;
+        i += 1;
+    }
+    Counts { records, bytes }
+}

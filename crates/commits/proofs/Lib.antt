@@ -1,0 +1,4 @@
+pub mod Listing
+pub mod Fitting
+pub mod PathRoom
+pub mod Committing

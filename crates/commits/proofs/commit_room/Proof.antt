@@ -1,0 +1,74 @@
+-- `commits::commit_room` meets its contract: PUT of no bytes at the path in the upload's row. Assumes nothing.
+use Prim.Native.Nat.{_+_, _≤_}
+use lib.ListN.{length}
+use Rattle.number.specs.NumberLaws.{Bytes}
+use Rattle.commits.proofs.PathRoom.{row-inside, path-ends, path-room}
+use native.Mathlib.Omega.{arith}
+use borrow.Author.Needs.{needs}
+use Rattle.commits.proofs.commit_room.Statement.{statement}
+use Rattle.commits.proofs.commit_room.Tie as tie
+
+find-upload-requires : tie.Need-find-upload-requires
+find-upload-requires c κs = search needs
+
+read-head-requires : tie.Need-read-head-requires
+read-head-requires c κs =
+    let a = c .before .before .before .args in
+    let b : Bytes (a .tables .now) = λ j. c .before .before .shared-slice-known .given j .fits in
+    let p = c .before .before .before .pre in
+    let f = c .find-upload in
+    omega (arith, row-inside (a .tables .now) (a .arena .now) b (p .0) (a .upload .0) (f .result) (f .ensures) (p .1))
+
+-- once the head of the upload's row is read
+module _ (c : tie.After-read-head) where
+  abbrev start : tie.Start
+  start = c .before .before .before .before
+
+  bytes : Bytes (start .args .tables .now)
+  bytes = λ j. c .before .before .before .shared-slice-known .given j .fits
+
+  ends : c .before .find-upload .result .at + 36 + c .read-head .result .pathlen ≤ length (start .args .tables .now)
+  ends = let f = c .before .find-upload in path-ends (start .args .tables .now) (start .args .arena .now) bytes (start .pre .0) (start .args .upload .0) (f .result) (f .ensures) (start .pre .1) (c .read-head .result) (c .read-head .ensures)
+
+add-from : tie.Need-add-from
+add-from c = omega (arith, ends c)
+
+cast-to : tie.Need-cast-to
+cast-to c = search needs
+
+add-to : tie.Need-add-to
+add-to c = omega (arith, ends (c .before))
+
+sub-room-judge : tie.Need-sub-room-judge
+sub-room-judge c = search needs
+
+part-room-judge-start : tie.Need-part-room-judge-start
+part-room-judge-start c = search needs
+
+part-room-judge-end : tie.Need-part-room-judge-end
+part-room-judge-end c = omega (arith, ends (c .before))
+
+room-judge-requires : tie.Need-room-judge-requires
+room-judge-requires c κs = search needs
+
+returns : tie.Need-returns
+returns c =
+    let d = c .before .before .before in
+    let a = start d .args in
+    let f = d .before .find-upload in
+    λ x is. path-room (a .tables .now) (a .arena .now) (bytes d) (start d .pre .0) (a .upload .0) (f .result) (f .ensures) (d .read-head .result) (d .read-head .ensures) x is (c .room-judge .result) (c .room-judge .ensures)
+
+pub commit-room-spec : {M : Type 1} → statement M
+commit-room-spec =
+    tie.close
+    (tie.spec
+    find-upload-requires
+    read-head-requires
+    add-from
+    cast-to
+    add-to
+    sub-room-judge
+    part-room-judge-start
+    part-room-judge-end
+    room-judge-requires
+    returns)

@@ -1,0 +1,96 @@
+-- `commits::list_fits` meets its contract. The invariant: the first i numbers fit. Assumes nothing.
+use Prim.Native.Nat.{_+_, _-_, _*_, _≤_}
+use mathlib.Core.Path.{_≡_, sym, _∙_, subst}
+use mathlib.Core.Option.{some}
+use borrow.Author.Needs.{needs}
+use borrow.Author.Tests.{not-true, not-false}
+use lib.ListN.{length}
+use Rattle.number.specs.NumberLaws.{Bytes}
+use Rattle.machine.specs.Map.{byNumber, lookup}
+use Rattle.machine.specs.State.{Upload}
+use Rattle.layout.specs.Memory.{stateOf}
+use Rattle.commits.proofs.Fitting.{unfit-number, Passed, passed-none, passed-next, unfit-list, fit-list, count-few}
+use native.Mathlib.Omega.{arith}
+use Rattle.commits.proofs.list_fits.Statement.{statement}
+use Rattle.commits.proofs.list_fits.Tie as tie
+
+abbrev Inv-loop : tie.InvT-loop
+Inv-loop tables arena upload list count i₀ i =
+    (i ≤ count) × ((x : Upload) → lookup byNumber (upload .0) (stateOf tables arena .U) ≡ some x → Passed (x .parts) list i)
+
+abbrev μ-loop : tie.MeasureT-loop
+μ-loop tables arena upload list count i₀ i = count - i
+
+parts-end-requires : tie.Need-parts-end-requires Inv-loop μ-loop
+parts-end-requires c κs = search needs
+
+mul-if1 : tie.Need-mul-if1 Inv-loop μ-loop
+mul-if1 c =
+    let a = c .before .before .before .before .args in
+    let b : Bytes (a .tables .now) = λ j. c .before .before .before .shared-slice-known .given j .fits in
+    let p = c .before .before .before .before .pre in
+    let f = c .parts-end in
+    omega (arith, count-few (a .tables .now) (a .arena .now) b (p .0) (a .upload .0) (f .result) (p .1) (f .ensures))
+
+returns : tie.Need-returns Inv-loop μ-loop
+returns c =
+    let a = c .before .before .before .before .before .args in
+    let b : Bytes (a .tables .now) = λ j. c .before .before .before .before .shared-slice-known .given j .fits in
+    let p = c .before .before .before .before .before .pre in
+    let f = c .before .parts-end in
+    λ x e. unfit-list (a .tables .now) (a .arena .now) b (p .0) (a .upload .0) (f .result) x e (f .ensures x e) (a .list .now) (omega (arith, c .if1 .taken))
+
+loop-holds : tie.Need-loop-holds Inv-loop μ-loop
+loop-holds c = (omega arith, λ x e. passed-none (x .parts) (c .before .before .before .before .before .args .list .now))
+
+number-fits-requires : tie.Need-number-fits-requires Inv-loop μ-loop
+number-fits-requires c κs =
+    let p = c .before .before .before .before .before .before .before .pre in
+    (p .0, p .1, omega arith)
+
+returns-2 : tie.Need-returns-2 Inv-loop μ-loop
+returns-2 c =
+    let a = c .before .before .before .before .before .before .before .before .before .args in
+    let l = c .before .before .before .loop in
+    let inside : 2 * l .i + 2 ≤ length (a .list .now) = omega arith in
+    λ x e. unfit-number (x .parts) (a .list .now) (l .i) inside (sym (c .before .number-fits .ensures x e) ∙ not-true _ (c .if2 .taken))
+
+add-i : tie.Need-add-i Inv-loop μ-loop
+add-i c = omega arith
+
+loop-less : tie.Need-loop-less Inv-loop μ-loop
+loop-less c = omega arith
+
+loop-again : tie.Need-loop-again Inv-loop μ-loop
+loop-again c =
+    let a = c .before .before .before .before .before .before .before .before .before .args in
+    let l = c .before .before .before .loop in
+    let inside : 2 * l .i + 2 ≤ length (a .list .now) = omega arith in
+    (omega arith, λ x e. passed-next (x .parts) (a .list .now) (l .i) inside (l .inv .1 x e) (sym (c .before .number-fits .ensures x e) ∙ not-false _ (c .if2 .left)))
+
+returns-3 : tie.Need-returns-3 Inv-loop μ-loop
+returns-3 c =
+    let a = c .before .before .before .before .before .before .before .args in
+    let b : Bytes (a .tables .now) = λ j. c .before .before .before .before .before .before .shared-slice-known .given j .fits in
+    let p = c .before .before .before .before .before .before .before .pre in
+    let f = c .before .before .before .parts-end in
+    let l = c .before .loop in
+    let end : l .i ≡ f .result .count = omega arith in
+    λ x e. fit-list (a .tables .now) (a .arena .now) b (p .0) (a .upload .0) (f .result) x e (f .ensures x e) (a .list .now) (omega (arith, c .before .before .if1 .left)) (subst (Passed (x .parts) (a .list .now)) end (l .inv .1 x e))
+
+pub list-fits-spec : {M : Type 1} → statement M
+list-fits-spec =
+    tie.close
+    (tie.spec
+    Inv-loop
+    μ-loop
+    parts-end-requires
+    mul-if1
+    returns
+    loop-holds
+    number-fits-requires
+    returns-2
+    add-i
+    loop-less
+    loop-again
+    returns-3)

@@ -1,0 +1,110 @@
+// COMMIT: an open upload's parts become an object, in listed order.
+use types::DoneAnswer;
+use types::UploadNumber;
+ghost use mathlib.Core.Path.{_≡_};
+ghost use mathlib.Core.Bool.{true, cond};
+ghost use mathlib.Core.Option.{some};
+ghost use Prim.Native.Nat.{_+_, _*_, _≤_};
+ghost use lib.ListN.{length};
+ghost use Rattle.machine.specs.Map.{byNumber, lookup};
+ghost use Rattle.machine.specs.State.{Object, Upload, withObject, withoutUpload, counted};
+ghost use Rattle.machine.specs.Calls.{COMMIT};
+ghost use Rattle.machine.specs.Fits.{member, fits};
+ghost use Rattle.layout.specs.Memory.{whole, stateOf};
+ghost use Rattle.find.specs.Places.{isSome};
+ghost use Rattle.calls.specs.Answers.{doneReply, partList};
+ghost use Rattle.calls.specs.Made.{memory, outcome, resultOf, Made};
+ghost use Rattle.commits.specs.Numbers.{firstNumbers, numberFits};
+
+// Whether a number is one of the list's first i.
+fn is_listed_before(list: &[u8], i: usize, number: u16) -> bool
+    requires { ⌜ 2 * i ≤ length (now list) ⌝ }
+    ensures { λ r. ⌜ r ≡ member number (firstNumbers (now (list .entry)) i) ⌝ }
+{
+    let mut listed = false;
+    let mut k: usize = 0;
+    while k < i {
+        if number::get_u16(list, 2 * k) == number {
+            listed = true;
+        }
+        k += 1;
+    }
+    listed
+}
+
+// Whether the list's number at i is a part's of an open upload, and none of those before it.
+fn number_fits(tables: &[u8], arena: &[u8], upload: UploadNumber, list: &[u8], i: usize) -> bool
+    requires { ⌜ (whole (now tables) (now arena) ≡ true) × (isSome (lookup byNumber (upload .0) (stateOf (now tables) (now arena) .U)) ≡ true) × (2 * i + 2 ≤ length (now list)) ⌝ }
+    ensures { λ r. ⌜ ((x : Upload) → lookup byNumber (upload .0) (stateOf (now (tables .entry)) (now (arena .entry)) .U) ≡ some x → r ≡ numberFits (x .parts) (now (list .entry)) i) ⌝ }
+{
+    let number = number::get_u16(list, 2 * i);
+    let place = find::find_part(tables, arena, upload.0, number);
+    if !place.found {
+        return false;
+    }
+    !is_listed_before(list, i, number)
+}
+
+// Whether the list names each part of an open upload one time.
+fn list_fits(tables: &[u8], arena: &[u8], upload: UploadNumber, list: &[u8]) -> bool
+    requires { ⌜ (whole (now tables) (now arena) ≡ true) × (isSome (lookup byNumber (upload .0) (stateOf (now tables) (now arena) .U)) ≡ true) ⌝ }
+    ensures { λ r. ⌜ ((x : Upload) → lookup byNumber (upload .0) (stateOf (now (tables .entry)) (now (arena .entry)) .U) ≡ some x → r ≡ fits (partList (now (list .entry))) (x .parts)) ⌝ }
+{
+    let parts = find::parts_end(tables, arena, upload.0);
+    let count = parts.count;
+    if list.len() != 2 * count {
+        return false;
+    }
+    let mut i: usize = 0;
+    while i < count {
+        if !number_fits(tables, arena, upload, list, i) {
+            return false;
+        }
+        i += 1;
+    }
+    true
+}
+
+// 4 where the object at an open upload's path would be the 257th, 0 for none. The upload's data are held already, so the
+// object asks the room of one without data.
+fn commit_room(tables: &[u8], arena: &[u8], upload: UploadNumber) -> u8
+    requires { ⌜ (whole (now tables) (now arena) ≡ true) × (isSome (lookup byNumber (upload .0) (stateOf (now tables) (now arena) .U)) ≡ true) ⌝ }
+    ensures { λ r. ⌜ ((x : Upload) → lookup byNumber (upload .0) (stateOf (now (tables .entry)) (now (arena .entry)) .U) ≡ some x
+        → (y : Object) → r ≡ cond (counted (withoutUpload (withObject (stateOf (now (tables .entry)) (now (arena .entry))) (x .path) y) (upload .0))) 0 4) ⌝ }
+{
+    let place = find::find_upload(tables, arena, upload.0);
+    let at = place.at;
+    let h = row::read_head(tables, at);
+    let from = at + 36;
+    let to = from + h.pathlen as usize;
+    writes::judges::room_judge(tables, arena, &tables[from..to], 0)
+}
+
+// COMMIT's refusal over whole memory, 0 for none.
+fn commit_judge(tables: &[u8], arena: &[u8], upload: UploadNumber, list: &[u8]) -> u8
+    requires { ⌜ whole (now tables) (now arena) ≡ true ⌝ }
+    ensures { λ r. ⌜ r ≡ resultOf (outcome (COMMIT (upload .0) (partList (now (list .entry)))) (memory (now (tables .entry)) (now (arena .entry)))) ⌝ }
+{
+    let place = find::find_upload(tables, arena, upload.0);
+    if !place.found {
+        return 2;
+    }
+    if !list_fits(tables, arena, upload, list) {
+        return 2;
+    }
+    commit_room(tables, arena, upload)
+}
+
+pub fn commit(tables: &mut [u8], arena: &mut [u8], upload: UploadNumber, list: &[u8]) -> DoneAnswer
+    ensures { λ r. ⌜ Made (COMMIT (upload .0) (partList (now (list .entry)))) (memory (now (tables .entry)) (now (arena .entry))) (doneReply r) (memory (now (tables .exit)) (now (arena .exit))) ⌝ }
+{
+    if !scan::whole(tables, arena) {
+        return DoneAnswer::Refused(1);
+    }
+    let n = commit_judge(tables, arena, upload, list);
+    if n != 0 {
+        return DoneAnswer::Refused(n);
+    }
+    join::join(tables, arena, upload.0, list);
+    DoneAnswer::Done
+}

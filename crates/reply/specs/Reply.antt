@@ -1,0 +1,62 @@
+-- The reply: 48 bytes in which C gets metadata, numbers and counts. Assumes nothing.
+use Prim.Native.Nat.{ℕ}
+use mathlib.Core.List.{[], _∷_, _++_}
+use Rattle.number.specs.Number.{le}
+use Rattle.machine.specs.Names.{Bytes}
+use Rattle.machine.specs.Etags.{Etag, absent, plain, joined}
+use Rattle.machine.specs.Calls.{Answer, nothing, metadata, etag, number, counts}
+
+-- "one more lent slice of a fixed length"
+abbrev pub replyLength : ℕ
+replyLength = 48
+
+-- an etag's kind: 0 absent, 1 plain, 2 joined
+abbrev pub kindOf : Etag → ℕ
+kindOf absent = 0
+kindOf (plain digest) = 1
+kindOf (joined digest count) = 2
+
+-- a joined etag's count
+abbrev pub countOf : Etag → ℕ
+countOf absent = 0
+countOf (plain digest) = 0
+countOf (joined digest count) = count
+
+-- the sixteen bytes of an etag's digest
+abbrev pub digestOf : Etag → Bytes
+digestOf absent = le 16 0
+digestOf (plain digest) = digest
+digestOf (joined digest count) = digest
+
+-- the fields end to end, each with its offset; numbers are low byte first
+unfoldable pub fieldBytes : (created length upload records bytes kind count : ℕ) (digest : Bytes) → Bytes
+fieldBytes created length upload records bytes kind count digest =
+    le 8 created  -- 0
+    ++ le 4 length  -- 8
+    ++ le 4 upload  -- 12
+    ++ le 4 records  -- 16
+    ++ le 4 bytes  -- 20
+    ++ le 1 kind  -- 24
+    ++ le 1 0  -- 25
+    ++ le 2 count  -- 26
+    ++ digest  -- 28
+    ++ le 4 0  -- 44
+
+abbrev pub fieldsWith : (created length upload records bytes : ℕ) → Etag → Bytes
+fieldsWith created length upload records bytes e = fieldBytes created length upload records bytes (kindOf e) (countOf e) (digestOf e)
+
+-- the reply of an answer: "fields that are not the call's own are 0"
+unfoldable pub replyBytes : Answer → Bytes
+replyBytes nothing = fieldsWith 0 0 0 0 0 absent
+replyBytes (metadata length created e) = fieldsWith created length 0 0 0 e
+replyBytes (etag e) = fieldsWith 0 0 0 0 0 e
+replyBytes (number n) = fieldsWith 0 0 n 0 0 absent
+replyBytes (counts records bytes) = fieldsWith 0 0 0 records bytes absent
+
+-- what a reply slice that held o holds after an answer: a refusal answers nothing and leaves it
+abbrev pub replyOver : Answer → Bytes → Bytes
+replyOver nothing o = o
+replyOver (metadata length created e) o = replyBytes (metadata length created e)
+replyOver (etag e) o = replyBytes (etag e)
+replyOver (number n) o = replyBytes (number n)
+replyOver (counts records bytes) o = replyBytes (counts records bytes)

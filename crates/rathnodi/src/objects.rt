@@ -1,0 +1,98 @@
+// The calls on objects.
+use crate::REPLY_LEN;
+use types::Stamp;
+ghost use mathlib.Core.Path.{_≡_};
+ghost use mathlib.Core.List.{[]};
+ghost use Rattle.machine.specs.Calls.{PUT, GET, HEAD, DELETE, COPY};
+ghost use Rattle.calls.specs.Made.{memory, Made};
+ghost use Rattle.rathnodi.specs.Exported.{numbered, Exported};
+
+// PUT: the object at path becomes the content, with this stamp.
+#[no_mangle]
+pub extern "C" fn rathnodi_put(
+    tables: &mut [u8],
+    arena: &mut [u8],
+    stamp: u64,
+    path: &[u8],
+    content: &[u8],
+) -> u32
+    ensures { λ r. ⌜ Made (PUT stamp (now (path .entry)) (now (content .entry)))
+        (memory (now (tables .entry)) (now (arena .entry)))
+        (numbered r)
+        (memory (now (tables .exit)) (now (arena .exit))) ⌝ }
+{
+    let put = writes::put(tables, arena, Stamp(stamp), path, content);
+    reply::done(put)
+}
+
+// GET: the object's data to the front of the answer buffer, and its metadata to the reply.
+#[no_mangle]
+pub extern "C" fn rathnodi_get(
+    tables: &[u8],
+    arena: &[u8],
+    path: &[u8],
+    answer: &mut [u8],
+    reply: &mut [u8],
+) -> u32
+    ensures { λ r. ⌜ Exported (GET (now (path .entry)) (now (answer .entry)))
+        (memory (now (tables .entry)) (now (arena .entry)))
+        (now (reply .entry))
+        r
+        (now (answer .exit))
+        (now (reply .exit))
+        (memory (now (tables .entry)) (now (arena .entry))) ⌝ }
+{
+    if reply.len() != REPLY_LEN {
+        return 1;
+    }
+    let got = reads::get(tables, arena, path, answer);
+    reply::found(got, reply)
+}
+
+// HEAD: the object's metadata to the reply.
+#[no_mangle]
+pub extern "C" fn rathnodi_head(tables: &[u8], arena: &[u8], path: &[u8], reply: &mut [u8]) -> u32
+    ensures { λ r. ⌜ Exported (HEAD (now (path .entry)))
+        (memory (now (tables .entry)) (now (arena .entry)))
+        (now (reply .entry))
+        r
+        []
+        (now (reply .exit))
+        (memory (now (tables .entry)) (now (arena .entry))) ⌝ }
+{
+    if reply.len() != REPLY_LEN {
+        return 1;
+    }
+    let head = reads::head(tables, arena, path);
+    reply::found(head, reply)
+}
+
+// DELETE: the object at path is taken out.
+#[no_mangle]
+pub extern "C" fn rathnodi_delete(tables: &mut [u8], arena: &mut [u8], path: &[u8]) -> u32
+    ensures { λ r. ⌜ Made (DELETE (now (path .entry)))
+        (memory (now (tables .entry)) (now (arena .entry)))
+        (numbered r)
+        (memory (now (tables .exit)) (now (arena .exit))) ⌝ }
+{
+    let deleted = writes::delete(tables, arena, path);
+    reply::done(deleted)
+}
+
+// COPY: as a PUT of the source's data at the destination.
+#[no_mangle]
+pub extern "C" fn rathnodi_copy(
+    tables: &mut [u8],
+    arena: &mut [u8],
+    stamp: u64,
+    source: &[u8],
+    destination: &[u8],
+) -> u32
+    ensures { λ r. ⌜ Made (COPY stamp (now (source .entry)) (now (destination .entry)))
+        (memory (now (tables .entry)) (now (arena .entry)))
+        (numbered r)
+        (memory (now (tables .exit)) (now (arena .exit))) ⌝ }
+{
+    let copied = copies::copy(tables, arena, Stamp(stamp), source, destination);
+    reply::done(copied)
+}

@@ -1,0 +1,77 @@
+// The calls on uploads.
+use crate::REPLY_LEN;
+use types::PartNumber;
+use types::Stamp;
+use types::UploadNumber;
+ghost use mathlib.Core.Path.{_≡_};
+ghost use mathlib.Core.List.{[]};
+ghost use Rattle.machine.specs.Calls.{INITIATE, PART, ABORT};
+ghost use Rattle.calls.specs.Made.{memory, Made};
+ghost use Rattle.rathnodi.specs.Exported.{numbered, Exported};
+
+// INITIATE: an upload to path is opened, its number to the reply.
+#[no_mangle]
+pub extern "C" fn rathnodi_initiate(
+    tables: &mut [u8],
+    arena: &mut [u8],
+    stamp: u64,
+    path: &[u8],
+    reply: &mut [u8],
+) -> u32
+    ensures { λ r. ⌜ Exported (INITIATE stamp (now (path .entry)))
+        (memory (now (tables .entry)) (now (arena .entry)))
+        (now (reply .entry))
+        r
+        []
+        (now (reply .exit))
+        (memory (now (tables .exit)) (now (arena .exit))) ⌝ }
+{
+    if reply.len() != REPLY_LEN {
+        return 1;
+    }
+    let opened = multipart::initiate::initiate(tables, arena, Stamp(stamp), path);
+    reply::opened(opened, reply)
+}
+
+// PART: a part of an open upload is set, its etag to the reply.
+#[no_mangle]
+pub extern "C" fn rathnodi_part(
+    tables: &mut [u8],
+    arena: &mut [u8],
+    upload: u32,
+    part: u16,
+    content: &[u8],
+    reply: &mut [u8],
+) -> u32
+    ensures { λ r. ⌜ Exported (PART upload part (now (content .entry)))
+        (memory (now (tables .entry)) (now (arena .entry)))
+        (now (reply .entry))
+        r
+        []
+        (now (reply .exit))
+        (memory (now (tables .exit)) (now (arena .exit))) ⌝ }
+{
+    if reply.len() != REPLY_LEN {
+        return 1;
+    }
+    let set = multipart::part::part(
+        tables,
+        arena,
+        UploadNumber(upload),
+        PartNumber(part),
+        content,
+    );
+    reply::stored(set, reply)
+}
+
+// ABORT: an open upload leaves the store with its parts.
+#[no_mangle]
+pub extern "C" fn rathnodi_abort(tables: &mut [u8], arena: &mut [u8], upload: u32) -> u32
+    ensures { λ r. ⌜ Made (ABORT upload)
+        (memory (now (tables .entry)) (now (arena .entry)))
+        (numbered r)
+        (memory (now (tables .exit)) (now (arena .exit))) ⌝ }
+{
+    let aborted = multipart::abort::abort(tables, arena, UploadNumber(upload));
+    reply::done(aborted)
+}

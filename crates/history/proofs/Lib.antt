@@ -1,4 +1,5 @@
 pub mod Running
 pub mod Demand3
+pub mod Concluding
 pub mod Reading
 pub mod Aborted

@@ -1,0 +1,30 @@
+-- A caller's list of calls, with what they answered, and what demand 3 says of it. Assumes nothing.
+use Prim.Native.Nat.{ℕ}
+use mathlib.Core.Path.{_≡_}
+use mathlib.Core.List.{[], _∷_}
+use lib.ListN.{length}
+use Rattle.machine.specs.Names.{Bytes}
+use Rattle.machine.specs.Calls.{GET, INITIATE, PART, COMMIT}
+use Rattle.machine.specs.Lists.{Trace}
+use Rattle.calls.specs.Answers.{doneReply, getReply, partReply, initiateReply}
+use Rattle.calls.specs.Made.{Memory, freshResult}
+use Rattle.history.specs.declared.batch.Batch.{Batch}
+use Rattle.history.specs.declared.batch.Outcome.{Outcome}
+use Rattle.history.specs.declared.batch.Outcome.the-variants as outcome
+use Rattle.history.specs.Demand3.{Demand3}
+
+-- INITIATE, two PARTs, GET, COMMIT of part 2 before part 1, GET; each answer buffer before and after its call
+unfoldable pub batchTrace : (stamp : ℕ) (path one two early late : Bytes) → Batch → (early′ late′ : Bytes) → Trace
+batchTrace stamp path one two early late b early′ late′ =
+    (INITIATE stamp path, initiateReply (b .opened))
+    ∷ (PART 1 1 one, partReply (b .first))
+    ∷ (PART 1 2 two, partReply (b .second))
+    ∷ (GET path early, getReply (b .early) early′)
+    ∷ (COMMIT 1 (2 ∷ 1 ∷ []), doneReply (b .committed))
+    ∷ (GET path late, getReply (b .late) late′)
+    ∷ []
+
+-- FRESH refused, and nothing changed; or the list ran as demand 3 says
+abbrev pub Concluded : (m : Memory) (stamp : ℕ) (path one two early late : Bytes) → Outcome → (early′ late′ : Bytes) → (m′ : Memory) → Type 0
+Concluded m stamp path one two early late (outcome.Refused n) early′ late′ m′ = (n ≡ freshResult m) × (m′ ≡ m) × (early′ ≡ early) × (late′ ≡ late)
+Concluded m stamp path one two early late (outcome.Ran b) early′ late′ m′ = Demand3 (length (m .arena)) (batchTrace stamp path one two early late b early′ late′) m′

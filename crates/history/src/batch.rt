@@ -1,0 +1,78 @@
+// A batch record from its first weighing to its commit, over a fresh store.
+use types::DoneAnswer;
+use types::GetAnswer;
+use types::InitiateAnswer;
+use types::PartAnswer;
+use types::PartNumber;
+use types::Stamp;
+use types::UploadNumber;
+ghost use Rattle.calls.specs.Made.{memory};
+ghost use Rattle.history.specs.Runs.{Run};
+ghost use Rattle.history.specs.Batch.{batchTrace, Concluded};
+
+// What the calls answered.
+pub struct Batch {
+    pub opened: InitiateAnswer,
+    pub first: PartAnswer,
+    pub second: PartAnswer,
+    pub early: GetAnswer,
+    pub committed: DoneAnswer,
+    pub late: GetAnswer,
+}
+
+// Two weighings as parts 1 and 2, with a look at the record before and after the commit, which lists part 2 first.
+fn weigh(
+    tables: &mut [u8],
+    arena: &mut [u8],
+    stamp: Stamp,
+    path: &[u8],
+    one: &[u8],
+    two: &[u8],
+    early: &mut [u8],
+    late: &mut [u8],
+) -> Batch
+    ensures { λ r. ⌜ Run (batchTrace (stamp .0) (now (path .entry)) (now (one .entry)) (now (two .entry)) (now (early .entry)) (now (late .entry)) r (now (early .exit)) (now (late .exit))) (memory (now (tables .entry)) (now (arena .entry))) (memory (now (tables .exit)) (now (arena .exit))) ⌝ }
+{
+    let opened = multipart::initiate::initiate(tables, arena, stamp, path);
+    let first = multipart::part::part(tables, arena, UploadNumber(1), PartNumber(1), one);
+    let second = multipart::part::part(tables, arena, UploadNumber(1), PartNumber(2), two);
+    let before = reads::get(tables, arena, path, early);
+    let list = [2u8, 0, 1, 0];
+    let committed = commits::commit(tables, arena, UploadNumber(1), &list);
+    let after = reads::get(tables, arena, path, late);
+    Batch {
+        opened,
+        first,
+        second,
+        early: before,
+        committed,
+        late: after,
+    }
+}
+
+// What came of a batch: FRESH's refusal, or the answers.
+pub enum Outcome {
+    Refused(u8),
+    Ran(Batch),
+}
+
+// FRESH, then the batch.
+pub fn fresh_batch(
+    tables: &mut [u8],
+    arena: &mut [u8],
+    stamp: Stamp,
+    path: &[u8],
+    one: &[u8],
+    two: &[u8],
+    early: &mut [u8],
+    late: &mut [u8],
+) -> Outcome
+    ensures { λ r. ⌜ Concluded (memory (now (tables .entry)) (now (arena .entry))) (stamp .0) (now (path .entry)) (now (one .entry)) (now (two .entry)) (now (early .entry)) (now (late .entry)) r (now (early .exit)) (now (late .exit)) (memory (now (tables .exit)) (now (arena .exit))) ⌝ }
+{
+    let n = writes::fresh(tables, arena);
+    if n != 0 {
+        return Outcome::Refused(n);
+    }
+    let batch = weigh(tables, arena, stamp, path, one, two, early, late);
+    Outcome::Ran(batch)
+}

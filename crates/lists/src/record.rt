@@ -59,7 +59,7 @@ pub fn write_record(tables: &[u8], at: usize, answer: &mut [u8], to: usize) -> u
         × (now (answer .exit) ≡ take to (now (answer .entry)) ++ recordAt (drop at (now (tables .entry))) ++ drop (to + length (recordAt (drop at (now (tables .entry))))) (now (answer .entry))) ⌝ }
 {
     let h = row::read_head(tables, at);
-    let k = crate::text_length(h.kind, h.count);
+    let k = crate::measuring::text_length(h.kind, h.count);
     let numbers = to + 1 + h.pathlen as usize;
     let text = numbers + 13;
     write_path(tables, at, h.pathlen, answer, to);

@@ -1,4 +1,4 @@
--- `lists::measure_row` meets its contract: nothing, or the length of the record. Assumes nothing.
+-- `lists::measuring::measure_row` meets its contract: nothing, or the length of the record. Assumes nothing.
 use native.Mathlib.Omega.{arith}
 use borrow.Author.Needs.{needs}
 use mathlib.Core.Path.{ap, _∙_}
@@ -9,8 +9,8 @@ use Rattle.row.specs.declared.Head.{Head}
 use Rattle.row.specs.Row.{digestAt}
 use Rattle.layout.specs.Memory.{etagOf}
 use Rattle.lists.proofs.RowLengths.{digest-length, measured-length, none-measured, one-measured}
-use Rattle.lists.proofs.measure_row.Statement.{statement}
-use Rattle.lists.proofs.measure_row.Tie as tie
+use Rattle.lists.proofs.measuring.measure_row.Statement.{statement}
+use Rattle.lists.proofs.measuring.measure_row.Tie as tie
 
 has-row-requires : tie.Need-has-row-requires
 has-row-requires c κs = search needs

@@ -1,10 +1,10 @@
--- `lists::write_row` meets its contract: nothing, or the record. Assumes nothing.
+-- `lists::writing::write_row` meets its contract: nothing, or the record. Assumes nothing.
 use borrow.Author.Needs.{needs}
 use lib.ListN.{drop}
 use Rattle.names.proofs.Tests.{said-no, said-yes}
 use Rattle.lists.proofs.RowsWritten.{none-written, one-room, one-written}
-use Rattle.lists.proofs.write_row.Statement.{statement}
-use Rattle.lists.proofs.write_row.Tie as tie
+use Rattle.lists.proofs.writing.write_row.Statement.{statement}
+use Rattle.lists.proofs.writing.write_row.Tie as tie
 
 has-row-requires : tie.Need-has-row-requires
 has-row-requires c κs = search needs

@@ -1,9 +1,9 @@
--- `lists::text_length` meets its contract: 32 digits, and "-" with the count. Assumes nothing.
+-- `lists::measuring::text_length` meets its contract: 32 digits, and "-" with the count. Assumes nothing.
 use borrow.Author.Needs.{needs}
 use native.Mathlib.Omega.{arith}
 use Rattle.lists.proofs.RowLengths.{text-plain, text-joined}
-use Rattle.lists.proofs.text_length.Statement.{statement}
-use Rattle.lists.proofs.text_length.Tie as tie
+use Rattle.lists.proofs.measuring.text_length.Statement.{statement}
+use Rattle.lists.proofs.measuring.text_length.Tie as tie
 
 returns : tie.Need-returns
 returns c = (omega arith, λ d l. text-plain (c .before .args .kind) (c .before .args .count) d (c .if1 .taken) l)

@@ -1,4 +1,4 @@
--- `lists::write_rows` meets its contract. The invariant: the records of the objects passed stand at the front. Assumes nothing.
+-- `lists::writing::write_rows` meets its contract. The invariant: the records of the objects passed stand at the front. Assumes nothing.
 use Prim.Native.Nat.{ℕ, _+_, _-_, _≤_, _<_}
 use mathlib.Core.Path.{_≡_, ap, _∙_}
 use mathlib.Core.List.{List}
@@ -14,8 +14,8 @@ use Rattle.layout.specs.StandsLaws.{header-back}
 use Rattle.layout.specs.WholeLaws.{whole-stands}
 use Rattle.lists.proofs.ObjectRows.{row-inside}
 use Rattle.lists.proofs.RowsWritten.{Written, written-none, written-room, written-next, written-all}
-use Rattle.lists.proofs.write_rows.Statement.{statement}
-use Rattle.lists.proofs.write_rows.Tie as tie
+use Rattle.lists.proofs.writing.write_rows.Statement.{statement}
+use Rattle.lists.proofs.writing.write_rows.Tie as tie
 
 abbrev Inv-loop : tie.InvT-loop
 Inv-loop tables arena prefix suffix answer₀ objects at₀ to₀ i₀ answer at to i = Written (stateOf tables arena) prefix suffix answer₀ answer i at to

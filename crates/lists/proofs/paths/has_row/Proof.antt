@@ -1,12 +1,12 @@
--- `lists::has_row` meets its contract: the path of the row is tested. Assumes nothing.
+-- `lists::paths::has_row` meets its contract: the path of the row is tested. Assumes nothing.
 use mathlib.Core.Path.{ap, _∙_}
 use native.Mathlib.Omega.{arith}
 use borrow.Author.Needs.{needs}
 use Rattle.row.specs.declared.Head.{Head}
 use Rattle.lists.specs.Rows.{lists}
 use Rattle.lists.proofs.RowLengths.{path-read}
-use Rattle.lists.proofs.has_row.Statement.{statement}
-use Rattle.lists.proofs.has_row.Tie as tie
+use Rattle.lists.proofs.paths.has_row.Statement.{statement}
+use Rattle.lists.proofs.paths.has_row.Tie as tie
 
 read-head-requires : tie.Need-read-head-requires
 read-head-requires c κs = search needs

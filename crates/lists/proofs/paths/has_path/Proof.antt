@@ -1,10 +1,10 @@
--- `lists::has_path` meets its contract: the prefix first, then the suffix of the rest. Assumes nothing.
+-- `lists::paths::has_path` meets its contract: the prefix first, then the suffix of the rest. Assumes nothing.
 use native.Mathlib.Omega.{arith}
 use borrow.Author.Needs.{needs}
 use Rattle.names.proofs.Tests.{said-no, said-yes}
 use Rattle.lists.proofs.RowLengths.{long-enough, has-not, has-rest}
-use Rattle.lists.proofs.has_path.Statement.{statement}
-use Rattle.lists.proofs.has_path.Tie as tie
+use Rattle.lists.proofs.paths.has_path.Statement.{statement}
+use Rattle.lists.proofs.paths.has_path.Tie as tie
 
 begins-with-requires : tie.Need-begins-with-requires
 begins-with-requires c κs = search needs

@@ -1,4 +1,4 @@
--- `lists::measure` meets its contract. The invariant: the records and bytes of the objects passed. Assumes nothing.
+-- `lists::measuring::measure_rows` meets its contract. The invariant: the records and bytes of the objects passed. Assumes nothing.
 use Prim.Native.Nat.{ℕ, _+_, _-_, _≤_, _<_}
 use mathlib.Core.Path.{_≡_, ap, _∙_}
 use mathlib.Core.List.{List}
@@ -13,8 +13,8 @@ use Rattle.layout.specs.Memory.{stateOf, Stands}
 use Rattle.layout.specs.StandsLaws.{header-back}
 use Rattle.layout.specs.WholeLaws.{whole-stands}
 use Rattle.lists.proofs.ObjectRows.{Walked, row-inside, walked-none, walked-next, walked-all}
-use Rattle.lists.proofs.measure.Statement.{statement}
-use Rattle.lists.proofs.measure.Tie as tie
+use Rattle.lists.proofs.measuring.measure_rows.Statement.{statement}
+use Rattle.lists.proofs.measuring.measure_rows.Tie as tie
 
 abbrev Inv-loop : tie.InvT-loop
 Inv-loop tables arena prefix suffix objects at₀ records₀ bytes₀ i₀ at records bytes i = Walked (stateOf tables arena) prefix suffix i at records bytes
@@ -105,8 +105,8 @@ loop-again c =
 returns : tie.Need-returns Inv-loop μ-loop
 returns c = let k = c .before in let n = c .loop-test .left in walked-all (s k) (start k .args .prefix .now) (start k .args .suffix .now) (k .loop .i) (k .loop .at) (k .loop .records) (k .loop .bytes) (k .loop .inv) (omega (arith, counted k))
 
-pub measure-spec : {M : Type 1} → statement M
-measure-spec =
+pub measure-rows-spec : {M : Type 1} → statement M
+measure-rows-spec =
     tie.close
     (tie.spec
     Inv-loop

@@ -1,0 +1,46 @@
+// What LIST writes, written to the answer buffer.
+ghost use mathlib.Core.Path.{_≡_};
+ghost use mathlib.Core.Bool.{true};
+ghost use Prim.Native.Nat.{_+_, _≤_};
+ghost use mathlib.Core.List.{_++_};
+ghost use lib.ListN.{length, take, drop};
+ghost use Rattle.row.specs.Row.{headAt};
+ghost use Rattle.layout.specs.Memory.{whole, stateOf};
+ghost use Rattle.lists.specs.Rows.{rowBytes, listing};
+
+// What it writes for the row at `at`, over the answer buffer from `to` on; the answer is where it ends.
+fn write_row(
+    tables: &[u8],
+    at: usize,
+    prefix: &[u8],
+    suffix: &[u8],
+    answer: &mut [u8],
+    to: usize,
+) -> usize
+    requires { ⌜ (at + 36 + headAt (drop at (now tables)) .pathlen ≤ length (now tables)) × (to + length (rowBytes (now prefix) (now suffix) (drop at (now tables))) ≤ length (now answer)) ⌝ }
+    ensures { λ r. ⌜ (r ≡ to + length (rowBytes (now (prefix .entry)) (now (suffix .entry)) (drop at (now (tables .entry)))))
+        × (now (answer .exit) ≡ take to (now (answer .entry)) ++ rowBytes (now (prefix .entry)) (now (suffix .entry)) (drop at (now (tables .entry))) ++ drop (to + length (rowBytes (now (prefix .entry)) (now (suffix .entry)) (drop at (now (tables .entry))))) (now (answer .entry))) ⌝ }
+{
+    if !crate::paths::has_row(tables, at, prefix, suffix) {
+        return to;
+    }
+    crate::record::write_record(tables, at, answer, to)
+}
+
+// All that it writes, over the front of the answer buffer.
+pub fn write_rows(tables: &[u8], arena: &[u8], prefix: &[u8], suffix: &[u8], answer: &mut [u8])
+    requires { ⌜ (whole (now tables) (now arena) ≡ true) × (length (listing (now prefix) (now suffix) (stateOf (now tables) (now arena))) ≤ length (now answer)) ⌝ }
+    ensures { λ _. ⌜ now (answer .exit) ≡ listing (now (prefix .entry)) (now (suffix .entry)) (stateOf (now (tables .entry)) (now (arena .entry))) ++ drop (length (listing (now (prefix .entry)) (now (suffix .entry)) (stateOf (now (tables .entry)) (now (arena .entry))))) (now (answer .entry)) ⌝ }
+{
+    let header = layout::headers::read_header(tables);
+    let objects = header.objects as usize;
+    let mut at: usize = 18;
+    let mut to: usize = 0;
+    let mut i: usize = 0;
+    while i < objects {
+        let h = row::read_head(tables, at);
+        to = write_row(tables, at, prefix, suffix, answer, to);
+        at = at + 36 + h.pathlen as usize;
+        i += 1;
+    }
+}

@@ -37,8 +37,8 @@ module _ (t b : List ℕ) (at n to : ℕ) (inside : at + 36 + n ≤ length t) (r
   part-length : length part ≡ n
   part-length = ap length part-is ∙ length-take-le n (drop (at + 36) t) (simp length-drop (omega arith))
 
-  pub path-fits : to + 1 + length part ≤ length (set b to n)
-  path-fits = omega (arith, part-length, length-set b to n)
+  pub path-fits : (v : ℕ) → to + 1 + length part ≤ length (set b to v)
+  path-fits v = omega (arith, part-length, length-set b to v)
 
   pub path-written : (b₁ : List ℕ) → b₁ ≡ over (set b to n) (to + 1) part (length part) → b₁ ≡ over b to (n ∷ take n (drop (at + 36) t)) (1 + n)
   path-written b₁ e = byte-next b b₁ (take n (drop (at + 36) t)) to n n room (e ∙ ap₂ (λ (x : List ℕ) (k : ℕ). over (set b to n) (to + 1) x k) part-is part-length)

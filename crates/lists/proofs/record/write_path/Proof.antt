@@ -28,10 +28,10 @@ part-copy-at-end : tie.Need-part-copy-at-end
 part-copy-at-end c = search needs
 
 copy-at-requires : tie.Need-copy-at-requires
-copy-at-requires c κs = let k = c .before .before .before .before in path-fits (k .args .tables .now) (k .args .answer .now) (k .args .at) (k .args .n) (k .args .to) (k .pre .0) (k .pre .1)
+copy-at-requires c κs = let k = c .before .before .before .before in path-fits (k .args .tables .now) (k .args .answer .now) (k .args .at) (k .args .n) (k .args .to) (k .pre .0) (k .pre .1) _
 
 same-length : tie.Need-same-length
-same-length c = c .before .before .copy-at .kept .0 ∙ length-set (c .before .before .before .before .before .before .before .args .answer .now) (c .before .before .before .before .before .before .before .args .to) (c .before .before .before .before .before .before .before .args .n)
+same-length c = c .before .before .copy-at .kept .0 ∙ length-set (c .before .before .before .before .before .before .before .args .answer .now) (c .before .before .before .before .before .before .before .args .to) _
 
 returns : tie.Need-returns
 returns c = let k = c .before .before .before .before .before .before .before in path-written (k .args .tables .now) (k .args .answer .now) (k .args .at) (k .args .n) (k .args .to) (k .pre .0) (k .pre .1) _ (c .before .before .copy-at .ensures)

@@ -3,7 +3,7 @@ use crate::REPLY_LEN;
 use types::Stamp;
 ghost use mathlib.Core.Path.{_≡_};
 ghost use mathlib.Core.List.{[]};
-ghost use Rattle.machine.specs.Calls.{PUT, GET, HEAD, DELETE, COPY};
+ghost use Rattle.machine.specs.Calls.{PUT, GET, HEAD, DELETE, COPY, LIST};
 ghost use Rattle.calls.specs.Made.{memory, Made};
 ghost use Rattle.rathnodi.specs.Exported.{numbered, Exported};
 
@@ -95,4 +95,29 @@ pub extern "C" fn rathnodi_copy(
 {
     let copied = copies::copy(tables, arena, Stamp(stamp), source, destination);
     reply::done(copied)
+}
+
+// LIST: a record of each path with the prefix and the suffix to the front of the answer buffer, their counts to the reply.
+#[no_mangle]
+pub extern "C" fn rathnodi_list(
+    tables: &[u8],
+    arena: &[u8],
+    prefix: &[u8],
+    suffix: &[u8],
+    answer: &mut [u8],
+    reply: &mut [u8],
+) -> u32
+    ensures { λ r. ⌜ Exported (LIST (now (prefix .entry)) (now (suffix .entry)) (now (answer .entry)))
+        (memory (now (tables .entry)) (now (arena .entry)))
+        (now (reply .entry))
+        r
+        (now (answer .exit))
+        (now (reply .exit))
+        (memory (now (tables .entry)) (now (arena .entry))) ⌝ }
+{
+    if reply.len() != REPLY_LEN {
+        return 1;
+    }
+    let listed = lists::list(tables, arena, prefix, suffix, answer);
+    reply::written(listed, reply)
 }

@@ -1,9 +1,9 @@
--- `rathnodi::uploads::rathnodi_initiate` meets its contract. Assumes nothing.
+-- `rathnodi::parts::rathnodi_initiate` meets its contract. Assumes nothing.
 use Rattle.rathnodi.proofs.Telling.{initiate-tells}
 use Rattle.rathnodi.proofs.Exporting.{another-length, initiated}
 use borrow.Author.Needs.{needs}
-use Rattle.rathnodi.proofs.uploads.rathnodi_initiate.Statement.{statement}
-use Rattle.rathnodi.proofs.uploads.rathnodi_initiate.Tie as tie
+use Rattle.rathnodi.proofs.parts.rathnodi_initiate.Statement.{statement}
+use Rattle.rathnodi.proofs.parts.rathnodi_initiate.Tie as tie
 
 returns : tie.Need-returns
 returns c = another-length _ _ _ (c .if1 .taken)

@@ -1,11 +1,12 @@
-// The calls on uploads.
+// The calls on uploads and their parts.
 use crate::REPLY_LEN;
 use types::PartNumber;
 use types::Stamp;
 use types::UploadNumber;
 ghost use mathlib.Core.Path.{_≡_};
 ghost use mathlib.Core.List.{[]};
-ghost use Rattle.machine.specs.Calls.{INITIATE, PART, ABORT};
+ghost use Rattle.machine.specs.Calls.{INITIATE, PART, COMMIT, ABORT, UPLOADS};
+ghost use Rattle.calls.specs.Answers.{partList};
 ghost use Rattle.calls.specs.Made.{memory, Made};
 ghost use Rattle.rathnodi.specs.Exported.{numbered, Exported};
 
@@ -64,6 +65,23 @@ pub extern "C" fn rathnodi_part(
     reply::stored(set, reply)
 }
 
+// COMMIT: the parts, joined in listed order, become the object at the upload's path.
+#[no_mangle]
+pub extern "C" fn rathnodi_commit(
+    tables: &mut [u8],
+    arena: &mut [u8],
+    upload: u32,
+    list: &[u8],
+) -> u32
+    ensures { λ r. ⌜ Made (COMMIT upload (partList (now (list .entry))))
+        (memory (now (tables .entry)) (now (arena .entry)))
+        (numbered r)
+        (memory (now (tables .exit)) (now (arena .exit))) ⌝ }
+{
+    let committed = commits::commit(tables, arena, UploadNumber(upload), list);
+    reply::done(committed)
+}
+
 // ABORT: an open upload leaves the store with its parts.
 #[no_mangle]
 pub extern "C" fn rathnodi_abort(tables: &mut [u8], arena: &mut [u8], upload: u32) -> u32
@@ -74,4 +92,28 @@ pub extern "C" fn rathnodi_abort(tables: &mut [u8], arena: &mut [u8], upload: u3
 {
     let aborted = multipart::abort::abort(tables, arena, UploadNumber(upload));
     reply::done(aborted)
+}
+
+// UPLOADS: a record of each open upload under the prefix to the front of the answer buffer, their counts to the reply.
+#[no_mangle]
+pub extern "C" fn rathnodi_uploads(
+    tables: &[u8],
+    arena: &[u8],
+    prefix: &[u8],
+    answer: &mut [u8],
+    reply: &mut [u8],
+) -> u32
+    ensures { λ r. ⌜ Exported (UPLOADS (now (prefix .entry)) (now (answer .entry)))
+        (memory (now (tables .entry)) (now (arena .entry)))
+        (now (reply .entry))
+        r
+        (now (answer .exit))
+        (now (reply .exit))
+        (memory (now (tables .entry)) (now (arena .entry))) ⌝ }
+{
+    if reply.len() != REPLY_LEN {
+        return 1;
+    }
+    let listed = uploads::uploads(tables, arena, prefix, answer);
+    reply::written(listed, reply)
 }

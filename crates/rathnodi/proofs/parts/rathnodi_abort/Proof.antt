@@ -1,8 +1,8 @@
--- `rathnodi::uploads::rathnodi_abort` meets its contract. Assumes nothing.
+-- `rathnodi::parts::rathnodi_abort` meets its contract. Assumes nothing.
 use Rattle.rathnodi.proofs.Exporting.{numbered-made}
 use borrow.Author.Needs.{needs}
-use Rattle.rathnodi.proofs.uploads.rathnodi_abort.Statement.{statement}
-use Rattle.rathnodi.proofs.uploads.rathnodi_abort.Tie as tie
+use Rattle.rathnodi.proofs.parts.rathnodi_abort.Statement.{statement}
+use Rattle.rathnodi.proofs.parts.rathnodi_abort.Tie as tie
 
 abort-requires : tie.Need-abort-requires
 abort-requires c κs = search needs

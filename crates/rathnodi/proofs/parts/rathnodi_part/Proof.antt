@@ -1,9 +1,9 @@
--- `rathnodi::uploads::rathnodi_part` meets its contract. Assumes nothing.
+-- `rathnodi::parts::rathnodi_part` meets its contract. Assumes nothing.
 use Rattle.rathnodi.proofs.Telling.{part-tells}
 use Rattle.rathnodi.proofs.Exporting.{another-length, part-stored}
 use borrow.Author.Needs.{needs}
-use Rattle.rathnodi.proofs.uploads.rathnodi_part.Statement.{statement}
-use Rattle.rathnodi.proofs.uploads.rathnodi_part.Tie as tie
+use Rattle.rathnodi.proofs.parts.rathnodi_part.Statement.{statement}
+use Rattle.rathnodi.proofs.parts.rathnodi_part.Tie as tie
 
 returns : tie.Need-returns
 returns c = another-length _ _ _ (c .if1 .taken)

@@ -1,12 +1,12 @@
-# `make test` passes everything. `make run` prints digests. `make bench-foundation` measures the bytes under the store.
-.PHONY: test run bench-foundation
+# `make run` builds the proved library and runs the panel's short shift. `make test` passes everything. `make install` puts header,
+# library and pkg-config file in place. `make bench` and `make bench-foundation` measure.
+.PHONY: test bench-foundation
+.DEFAULT_GOAL = run
+
+include host/host.mk
 
 test:
-	@rt ci
-
-run:
-	@mkdir -p target && rt check vectors >target/run.out || { cat target/run.out; exit 1; }
-	@target/bin/vectors
+	@tools/test
 
 bench-foundation:
 	@echo '#include <openssl/evp.h>' | $(CC) -E - >/dev/null 2>&1 || { echo "OpenSSL's headers are missing: apt-get install -y libssl-dev" >&2; exit 1; }

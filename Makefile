@@ -8,6 +8,9 @@ include host/host.mk
 test:
 	@tools/test
 
+# The bytes under the store first, then the calls.
+bench: bench-foundation
+
 bench-foundation:
 	@echo '#include <openssl/evp.h>' | $(CC) -E - >/dev/null 2>&1 || { echo "OpenSSL's headers are missing: apt-get install -y libssl-dev" >&2; exit 1; }
 	@mkdir -p target && rt staticlib probe >target/probe.out || { cat target/probe.out; exit 1; }

@@ -6,6 +6,7 @@
 mod chart;
 mod contestant;
 mod sqlite;
+mod whole;
 
 use chart::{svg, Curve};
 use contestant::{Contestant, Proved};
@@ -208,6 +209,8 @@ fn main() {
     table("An empty store", &state(0), rounds);
     table("A half-full store: 128 objects of 3,840 bytes", &state(128), rounds);
     table("A full store: 255 objects of 3,840 bytes", &state(255), rounds);
+
+    whole::table();
 
     let calls = ["PUT, new", "GET", "HEAD", "LIST, all", "DELETE", "COMMIT, ascending"];
     let small = |objects| (objects, State { size: 64, ..state(objects) });

@@ -19,7 +19,7 @@
  * - Each call returns one of the numbers below: the first that applies, in that order. A refusal leaves every lent byte
  *   as it was, the answer and the reply too.
  * - Bytes of an answer past those written do not change.
- * - A call uses some kilobytes of stack, and always ends.
+ * - A call uses about 10 kilobytes of stack (measured; the tests fail above 16), and always ends.
  *
  * Paths are 1 to 128 bytes, each from 33 to 126, with no '/' first and no two adjacent; the empty path is the root,
  * which only get and head take. They are no C strings: no byte closes them. A stamp is a count of seconds since the

@@ -1,6 +1,6 @@
 /*
  * How much stack the calls use: they run on a stack of their own, painted beforehand, over a store with many objects and
- * parts. The header speaks of some kilobytes; more than LIMIT fails.
+ * parts. The header has the figure; more than LIMIT fails.
  */
 #define _XOPEN_SOURCE 600
 #include <stdio.h>

@@ -88,6 +88,14 @@ fn same(what: &str, expected: &[u8], found: &[u8]) -> Result<(), String> {
     Err(format!("{what}, byte {at}: expected {wanted:?}, found {got:?}"))
 }
 
+/// The memory begins with the state's bytes.
+fn stands_for(memory: &Memory, state: &Model) -> Result<(), String> {
+    let bytes = layout::bytes_of(state);
+    let (tables, arena) = (memory.tables.bytes(), memory.arena.bytes());
+    same("the tables' state", &bytes.tables, &tables[..bytes.tables.len()])?;
+    same("the arena's state", &bytes.arena, &arena[..bytes.arena.len()])
+}
+
 impl<L: Library> Rig<L> {
     pub fn new(library: L, tally: &'static Tally) -> Rig<L> {
         let memory = || Memory { tables: Region::new(2 * TABLES_LEN), arena: Region::new(LARGEST) };
@@ -172,6 +180,11 @@ impl<L: Library> Rig<L> {
             same("tables of another length", &tables, self.odd.tables.bytes())?;
             same("an arena of another length", &arena, self.odd.arena.bytes())?;
         }
+        self.home_kept()
+    }
+
+    /// The home memory is as before the call.
+    fn home_kept(&self) -> Result<(), String> {
         same("tables", &self.tables_before, self.home.tables.bytes())?;
         same("arena", &self.arena_before, self.home.arena.bytes())
     }
@@ -216,7 +229,7 @@ impl<L: Library> Rig<L> {
         } else {
             if !odd {
                 let fresh = Model::fresh(lending.arena);
-                self.stands_for(&fresh)?;
+                stands_for(&self.home, &fresh)?;
                 *model = Some(fresh);
                 self.keep();
             }
@@ -236,9 +249,15 @@ impl<L: Library> Rig<L> {
         self.answer.lend(call.buffer(), lending.side(2));
         self.reply.place(lending.reply, lending.side(3)).fill(REPLY_BEFORE);
         let odd = self.lend_memory(lending);
+        // Where other hands changed the arena's length in the tables, an arena of that length is the right one.
+        let mut other = None;
+        if odd {
+            other = state_of(self.odd.tables.bytes(), self.odd.arena.bytes());
+        }
+        let state = if odd { &mut other } else { model };
         let wrong_reply = has_reply(call) && lending.reply != REPLY_LEN;
-        let expected = match model {
-            Some(model) if !odd && !wrong_reply => model.call(call),
+        let expected = match state {
+            Some(state) if !wrong_reply => state.call(call),
             _ => Reply::refused(1, call.buffer()),
         };
 
@@ -259,19 +278,15 @@ impl<L: Library> Rig<L> {
         same("second argument", second, self.second.bytes())?;
         self.kept_beside()?;
         if number != 0 || only_reads(call) {
-            self.memory_kept(odd, lending)
+            return self.memory_kept(odd, lending);
+        }
+        if odd {
+            self.home_kept()?;
         } else {
             self.keep();
-            model.as_ref().map_or(Ok(()), |model| self.stands_for(model))
         }
-    }
-
-    /// The memory begins with the state's bytes.
-    fn stands_for(&self, model: &Model) -> Result<(), String> {
-        let bytes = layout::bytes_of(model);
-        let (tables, arena) = (self.home.tables.bytes(), self.home.arena.bytes());
-        same("the tables' state", &bytes.tables, &tables[..bytes.tables.len()])?;
-        same("the arena's state", &bytes.arena, &arena[..bytes.arena.len()])
+        let memory = if odd { &self.odd } else { &self.home };
+        state.as_ref().map_or(Ok(()), |state| stands_for(memory, state))
     }
 
     /// Makes the call over what is placed.

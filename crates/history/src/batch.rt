@@ -33,13 +33,13 @@ fn weigh(
 ) -> Batch
     ensures { λ r. ⌜ Run (batchTrace (stamp .0) (now (path .entry)) (now (one .entry)) (now (two .entry)) (now (early .entry)) (now (late .entry)) r (now (early .exit)) (now (late .exit))) (memory (now (tables .entry)) (now (arena .entry))) (memory (now (tables .exit)) (now (arena .exit))) ⌝ }
 {
-    let opened = multipart::initiate::initiate(tables, arena, stamp, path);
-    let first = multipart::part::part(tables, arena, UploadNumber(1), PartNumber(1), one);
-    let second = multipart::part::part(tables, arena, UploadNumber(1), PartNumber(2), two);
-    let before = reads::get(tables, arena, path, early);
+    let opened = store::initiate(tables, arena, stamp, path);
+    let first = store::part(tables, arena, UploadNumber(1), PartNumber(1), one);
+    let second = store::part(tables, arena, UploadNumber(1), PartNumber(2), two);
+    let before = store::get(tables, arena, path, early);
     let list = [2u8, 0, 1, 0];
-    let committed = commits::commit(tables, arena, UploadNumber(1), &list);
-    let after = reads::get(tables, arena, path, late);
+    let committed = store::commit(tables, arena, UploadNumber(1), &list);
+    let after = store::get(tables, arena, path, late);
     Batch {
         opened,
         first,
@@ -69,7 +69,7 @@ pub fn fresh_batch(
 ) -> Outcome
     ensures { λ r. ⌜ Concluded (memory (now (tables .entry)) (now (arena .entry))) (stamp .0) (now (path .entry)) (now (one .entry)) (now (two .entry)) (now (early .entry)) (now (late .entry)) r (now (early .exit)) (now (late .exit)) (memory (now (tables .exit)) (now (arena .exit))) ⌝ }
 {
-    let n = writes::fresh(tables, arena);
+    let n = store::fresh(tables, arena);
     if n != 0 {
         return Outcome::Refused(n);
     }

@@ -21,7 +21,7 @@ pub extern "C" fn rathnodi_put(
         (numbered r)
         (memory (now (tables .exit)) (now (arena .exit))) ⌝ }
 {
-    let put = writes::put(tables, arena, Stamp(stamp), path, content);
+    let put = store::put(tables, arena, Stamp(stamp), path, content);
     reply::done(put)
 }
 
@@ -45,7 +45,7 @@ pub extern "C" fn rathnodi_get(
     if reply.len() != REPLY_LEN {
         return 1;
     }
-    let got = reads::get(tables, arena, path, answer);
+    let got = store::get(tables, arena, path, answer);
     reply::found(got, reply)
 }
 
@@ -63,7 +63,7 @@ pub extern "C" fn rathnodi_head(tables: &[u8], arena: &[u8], path: &[u8], reply:
     if reply.len() != REPLY_LEN {
         return 1;
     }
-    let head = reads::head(tables, arena, path);
+    let head = store::head(tables, arena, path);
     reply::found(head, reply)
 }
 
@@ -75,7 +75,7 @@ pub extern "C" fn rathnodi_delete(tables: &mut [u8], arena: &mut [u8], path: &[u
         (numbered r)
         (memory (now (tables .exit)) (now (arena .exit))) ⌝ }
 {
-    let deleted = writes::delete(tables, arena, path);
+    let deleted = store::delete(tables, arena, path);
     reply::done(deleted)
 }
 
@@ -93,7 +93,7 @@ pub extern "C" fn rathnodi_copy(
         (numbered r)
         (memory (now (tables .exit)) (now (arena .exit))) ⌝ }
 {
-    let copied = copies::copy(tables, arena, Stamp(stamp), source, destination);
+    let copied = store::copy(tables, arena, Stamp(stamp), source, destination);
     reply::done(copied)
 }
 
@@ -118,6 +118,6 @@ pub extern "C" fn rathnodi_list(
     if reply.len() != REPLY_LEN {
         return 1;
     }
-    let listed = lists::list(tables, arena, prefix, suffix, answer);
+    let listed = store::list(tables, arena, prefix, suffix, answer);
     reply::written(listed, reply)
 }

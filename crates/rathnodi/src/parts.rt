@@ -30,7 +30,7 @@ pub extern "C" fn rathnodi_initiate(
     if reply.len() != REPLY_LEN {
         return 1;
     }
-    let opened = multipart::initiate::initiate(tables, arena, Stamp(stamp), path);
+    let opened = store::initiate(tables, arena, Stamp(stamp), path);
     reply::opened(opened, reply)
 }
 
@@ -55,7 +55,7 @@ pub extern "C" fn rathnodi_part(
     if reply.len() != REPLY_LEN {
         return 1;
     }
-    let set = multipart::part::part(
+    let set = store::part(
         tables,
         arena,
         UploadNumber(upload),
@@ -78,7 +78,7 @@ pub extern "C" fn rathnodi_commit(
         (numbered r)
         (memory (now (tables .exit)) (now (arena .exit))) ⌝ }
 {
-    let committed = commits::commit(tables, arena, UploadNumber(upload), list);
+    let committed = store::commit(tables, arena, UploadNumber(upload), list);
     reply::done(committed)
 }
 
@@ -90,7 +90,7 @@ pub extern "C" fn rathnodi_abort(tables: &mut [u8], arena: &mut [u8], upload: u3
         (numbered r)
         (memory (now (tables .exit)) (now (arena .exit))) ⌝ }
 {
-    let aborted = multipart::abort::abort(tables, arena, UploadNumber(upload));
+    let aborted = store::abort(tables, arena, UploadNumber(upload));
     reply::done(aborted)
 }
 
@@ -114,6 +114,6 @@ pub extern "C" fn rathnodi_uploads(
     if reply.len() != REPLY_LEN {
         return 1;
     }
-    let listed = uploads::uploads(tables, arena, prefix, answer);
+    let listed = store::uploads(tables, arena, prefix, answer);
     reply::written(listed, reply)
 }

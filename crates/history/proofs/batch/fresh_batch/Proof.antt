@@ -2,10 +2,6 @@
 use borrow.Author.Needs.{needs}
 use Rattle.history.proofs.batch.fresh_batch.Statement.{statement}
 use Rattle.history.proofs.batch.fresh_batch.Tie as tie
-use Rattle.history.proofs.batch.fresh_batch.Reads as reads
-use Rattle.history.proofs.batch.fresh_batch.Lts as lts
-use Rattle.history.proofs.batch.weigh.Reads as weigh-reads
-use Rattle.writes.proofs.fresh.Reads as fresh-reads
 use mathlib.Core.Path.{refl}
 use Rattle.history.proofs.Concluding.{conclude}
 

@@ -3,12 +3,6 @@ use native.Mathlib.Omega.{arith}
 use borrow.Author.Needs.{needs}
 use Rattle.history.proofs.batch.weigh.Statement.{statement}
 use Rattle.history.proofs.batch.weigh.Tie as tie
-use Rattle.history.proofs.batch.weigh.Reads as reads
-use Rattle.history.proofs.batch.weigh.Lts as lts
-use Rattle.commits.proofs.commit.Reads as commit-reads
-use Rattle.multipart.proofs.initiate.initiate.Reads as initiate-reads
-use Rattle.multipart.proofs.part.part.Reads as part-reads
-use Rattle.reads.proofs.get.Reads as get-reads
 use Rattle.history.specs.Runs.{stop, call}
 use Rattle.history.specs.Batch.{batchTrace}
 use Rattle.calls.specs.Answers.{partList}

@@ -16,5 +16,5 @@ pub extern "C" fn rathnodi_tables_len() -> usize
 pub extern "C" fn rathnodi_fresh(tables: &mut [u8], arena: &mut [u8]) -> u32
     ensures { λ r. ⌜ MadeFresh (memory (now (tables .entry)) (now (arena .entry))) r (memory (now (tables .exit)) (now (arena .exit))) ⌝ }
 {
-    writes::fresh(tables, arena) as u32
+    store::fresh(tables, arena) as u32
 }

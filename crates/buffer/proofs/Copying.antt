@@ -4,7 +4,7 @@ use mathlib.Core.List.{List, _++_}
 use Prim.Native.Nat.{ℕ, _+_, _≤_, _<_}
 use native.Mathlib.Numerals.{add-one}
 use native.Mathlib.Omega.{arith}
-use lib.ListN.{length, take, drop, getD, set, replicate, length-replicate, getD-replicate}
+use lib.ListN.{length, take, drop, getD, set}
 use lib.Seq.{paste, paste-suc, take-length}
 
 module _ (d₀ d s : List ℕ) (at i : ℕ) (is : d ≡ paste d₀ at s i) where
@@ -20,17 +20,3 @@ module _ (d₀ d s : List ℕ) (at i : ℕ) (is : d ≡ paste d₀ at s i) where
   copy-all le ge =
       let q : i ≡ length s = omega arith in
       is ∙ ap (λ (k : ℕ). paste d₀ at s k) q ∙ ap (λ (l : List ℕ). take at d₀ ++ l ++ drop (at + length s) d₀) (take-length s)
-
--- the same where each byte is v
-module _ (d₀ d : List ℕ) (at n v i : ℕ) (is : d ≡ paste d₀ at (replicate n v) i) where
-  pub fill-step : at + n ≤ length d₀ → i < n → set d (at + i) v ≡ paste d₀ at (replicate n v) (i + 1)
-  fill-step room more =
-      let l : length (replicate n v) ≡ n = length-replicate n v in
-      ap (λ (x : ℕ). set d (at + i) x) (sym (getD-replicate n i v 0 more))
-      ∙ copy-step d₀ d (replicate n v) at i is (omega arith) (omega arith)
-
-  pub fill-all : i ≤ n → n ≤ i → d ≡ take at d₀ ++ replicate n v ++ drop (at + n) d₀
-  fill-all le ge =
-      let l : length (replicate n v) ≡ n = length-replicate n v in
-      copy-all d₀ d (replicate n v) at i is (omega arith) (omega arith)
-      ∙ ap (λ (k : ℕ). take at d₀ ++ replicate n v ++ drop (at + k) d₀) l

@@ -1,5 +1,5 @@
 -- Laws for callers: what a splice and a rotation leave of a buffer that is told in parts. Each takes what the callee ensures, and gives the parts
--- after it. For `copy_at` and `fill` it is `field-written`, of crate number. Assumes nothing.
+-- after it. For `copy_at` it is `field-written`, of crate number. Assumes nothing.
 use mathlib.Core.Path.{_≡_, sym, ap, ap₂, _∙_}
 use mathlib.Core.List.{List, _++_, append-assoc}
 use Prim.Native.Nat.{ℕ, _+_, _-_, _≤_}

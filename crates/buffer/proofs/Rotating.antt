@@ -97,21 +97,18 @@ module _ (b : List ℕ) (at l r : ℕ) (room : at + l + r ≤ length b) where
         ∙ ap (λ (s : List ℕ). pre ++ (s ++ (x ++ z))) eh
 
   module _ (b′ : List ℕ) where
-    -- x is swapped with the first l bytes of y, which come to their place
-    pub swap-left : l ≤ r → b′ ≡ swapped b at (at + l) l → rotated b′ (at + l) l (r - l) ≡ rotated b at l r
+    -- x is swapped with the last l bytes of y, and comes to its place
+    pub swap-left : l ≤ r → b′ ≡ swapped b at (at + r) l → rotated b′ at l (r - l) ≡ rotated b at l r
     swap-left le e =
-        let y₁ : List ℕ = take l y in
-        let y₂ : List ℕ = drop l y in
-        let l₁ : length y₁ ≡ l = length-take-le l y (omega (arith, length-y)) in
-        let l₂ : length y₂ ≡ r - l = omega (arith, length-drop l y, length-y) in
-        let ey : y ≡ y₁ ++ y₂ = sym (take-append-drop l y) in
-        let eb : b ≡ pre ++ (x ++ ([] ++ (y₁ ++ (y₂ ++ z)))) =
+        let y₁ : List ℕ = take (r - l) y in
+        let y₂ : List ℕ = drop (r - l) y in
+        let l₁ : length y₁ ≡ r - l = length-take-le (r - l) y (omega (arith, length-y)) in
+        let l₂ : length y₂ ≡ l = omega (arith, length-drop (r - l) y, length-y) in
+        let ey : y ≡ y₁ ++ y₂ = sym (take-append-drop (r - l) y) in
+        let eb : b ≡ pre ++ (x ++ (y₁ ++ (y₂ ++ z))) =
         told ∙ ap (λ (s : List ℕ). pre ++ (x ++ (s ++ z))) ey ∙ ap (λ (s : List ℕ). pre ++ (x ++ s)) (append-assoc y₁ y₂ z) in
-        let e₁ : b′ ≡ (pre ++ y₁) ++ (x ++ (y₂ ++ z)) =
-        e ∙ swap-parts b pre x [] y₁ (y₂ ++ z) at (at + l) l eb length-pre length-x l₁ (omega arith) ∙ sym (append-assoc pre y₁ (x ++ (y₂ ++ z))) in
-        let lp : length (pre ++ y₁) ≡ at + l = omega (arith, length-append pre y₁, length-pre) in
-        rotated-parts b′ (pre ++ y₁) x y₂ z (at + l) l (r - l) e₁ lp length-x l₂ (rotated b′ (at + l) l (r - l)) refl
-        ∙ append-assoc pre y₁ (y₂ ++ (x ++ z))
+        let e₁ : b′ ≡ pre ++ (y₂ ++ (y₁ ++ (x ++ z))) = e ∙ swap-parts b pre x y₁ y₂ z at (at + r) l eb length-pre length-x l₂ (omega arith) in
+        rotated-parts b′ pre y₂ y₁ (x ++ z) at l (r - l) e₁ length-pre l₂ l₁ (rotated b′ at l (r - l)) refl
         ∙ ap (λ (s : List ℕ). pre ++ s) (sym (append-assoc y₁ y₂ (x ++ z)) ∙ ap (λ (s : List ℕ). s ++ (x ++ z)) (sym ey))
 
     -- y is swapped with the first r bytes of x, and comes to its place

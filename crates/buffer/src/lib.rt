@@ -4,7 +4,7 @@ mod blocks;
 ghost use mathlib.Core.Path.{_≡_};
 ghost use Prim.Native.Nat.{_+_, _-_, _≤_, _<_};
 ghost use mathlib.Core.List.{[], _++_};
-ghost use lib.ListN.{length, take, drop, replicate};
+ghost use lib.ListN.{length, take, drop};
 ghost use Rattle.buffer.specs.Buffer.{spliced, rotated};
 
 // src over dst from `at` on; the rest of dst is as it was.
@@ -15,18 +15,6 @@ pub fn copy_at(dst: &mut [u8], at: usize, src: &[u8])
     let mut i = 0;
     while i < src.len() {
         dst[at + i] = src[i];
-        i += 1;
-    }
-}
-
-// v at each of the n places from `at` on.
-pub fn fill(b: &mut [u8], at: usize, n: usize, v: u8)
-    requires { ⌜ at + n ≤ length (now b) ⌝ }
-    ensures { λ _. ⌜ now (b .exit) ≡ take at (now (b .entry)) ++ replicate n v ++ drop (at + n) (now (b .entry)) ⌝ }
-{
-    let mut i = 0;
-    while i < n {
-        b[at + i] = v;
         i += 1;
     }
 }
@@ -86,8 +74,8 @@ pub fn remove(b: &mut [u8], at: usize, n: usize, used: usize)
     copy_within(b, at + n, at, used - (at + n));
 }
 
-// The left bytes from `at` on and the right bytes after them, exchanged in place. Each turn brings the bytes of one swap to
-// their place, and what is left is the same question for a shorter pair of blocks.
+// The left bytes from `at` on and the right bytes after them, exchanged in place. Each turn swaps the shorter block with the far
+// end of the longer one, which brings it to its place; what is left is the same question for a shorter pair of blocks.
 pub fn rotate(b: &mut [u8], at: usize, left: usize, right: usize)
     requires { ⌜ at + left + right ≤ length (now b) ⌝ }
     ensures { λ _. ⌜ now (b .exit) ≡ rotated (now (b .entry)) at left right ⌝ }
@@ -103,8 +91,7 @@ pub fn rotate(b: &mut [u8], at: usize, left: usize, right: usize)
             return;
         }
         if l <= r {
-            blocks::swap(b, from, from + l, l);
-            from += l;
+            blocks::swap(b, from, from + r, l);
             r -= l;
         } else {
             blocks::swap(b, from, from + l, r);

@@ -1,17 +1,17 @@
 -- How a call meets its contract: not whole, judged and refused, or done. Assumes nothing.
 use Prim.Native.Nat.{ℕ}
-use mathlib.Core.Path.{_≡_, refl, sym, ap, _∙_, subst}
-use mathlib.Core.Bool.{Bool, true, false, cond, true≢false}
-use mathlib.Core.List.{List, []}
+use mathlib.Core.Path.{_≡_, refl, sym, ap, _∙_}
+use mathlib.Core.Bool.{true, false}
+use mathlib.Core.List.{List}
 use native.Mathlib.Omega.{arith}
 use lib.ListN.{length}
 use Rattle.machine.specs.State.{State}
 use Rattle.machine.specs.Calls.{Call, Reply, Answer, Outcome, refuse, accept, lent}
-use Rattle.machine.specs.Steps.{act, reply, next, replyOf, after}
-use Rattle.layout.specs.Memory.{whole, stateOf, Stands}
+use Rattle.machine.specs.Steps.{act, replyOf}
+use Rattle.layout.specs.Memory.{Stands}
 use Rattle.layout.specs.StandsLaws.{stands-state, stands-whole}
 use Rattle.calls.specs.Answers.{refused}
-use Rattle.calls.specs.Made.{Memory, memory, wholeMemory, stateIn, outcome, resultOf, meantReply, meantState, Made}
+use Rattle.calls.specs.Made.{Memory, wholeMemory, stateIn, outcome, resultOf, meantReply, meantState, Made}
 
 one-not-zero : _≡_ {A = ℕ} 1 0 → ⊥
 one-not-zero e = omega arith

@@ -5,8 +5,6 @@ use Rattle.md5.specs.Md5.{bytesOf}
 use Rattle.types.specs.declared.Etag.{Etag}
 use Rattle.types.specs.declared.Etag.the-variants.{Absent, Plain, Joined}
 use Rattle.types.specs.declared.Metadata.{Metadata}
-use Rattle.types.specs.declared.Counts.{Counts}
-use Rattle.types.specs.declared.UploadNumber.{UploadNumber}
 use Rattle.types.specs.declared.DoneAnswer.{DoneAnswer}
 use Rattle.types.specs.declared.DoneAnswer.the-variants as done
 use Rattle.types.specs.declared.GetAnswer.{GetAnswer}

@@ -19,12 +19,11 @@ use Rattle.layout.specs.Memory.{whole, stateOf, Stands}
 use Rattle.layout.specs.WholeLaws.{whole-stands}
 use Rattle.find.specs.declared.Place.{Place}
 use Rattle.find.specs.Places.{isSome, uploadPlace}
-use Rattle.edit.proofs.ObjectEdits.{is-some}
+use Rattle.find.proofs.Found.{is-some, is-none}
 use Rattle.calls.specs.Answers.{partList, accepted}
 use Rattle.calls.specs.Made.{Memory, memory, stateIn, outcome, resultOf, Made}
 use Rattle.calls.proofs.MadeLaws.{done}
 use Rattle.calls.proofs.Judging.{result-pass, result-stop, passed, result-found, result-missing, was-found}
-use Rattle.writes.proofs.Room.{is-none}
 use Rattle.join.specs.Joined.{Listed, joinedState, Joinable}
 use Rattle.commits.proofs.Fitting.{upload-ok}
 use Rattle.commits.proofs.PathRoom.{counted-result}

@@ -23,7 +23,7 @@ use Rattle.layout.specs.WholeLaws.{whole-stands}
 use Rattle.find.specs.declared.Place.{Place}
 use Rattle.find.specs.declared.Parts.{Parts}
 use Rattle.find.specs.Places.{isSome, partPlace, partsOf}
-use Rattle.edit.proofs.ObjectEdits.{is-some}
+use Rattle.find.proofs.Found.{is-some}
 use Rattle.calls.specs.Answers.{partList}
 use Rattle.join_order.proofs.Listed.{fit-count}
 use Rattle.join.proofs.UploadBounds.{few-parts}

@@ -27,7 +27,7 @@ use Rattle.layout.specs.Memory.{whole, stateOf, Stands}
 use Rattle.layout.specs.WholeLaws.{whole-stands}
 use Rattle.find.specs.declared.Place.{Place}
 use Rattle.find.specs.Places.{isSome, uploadPlace}
-use Rattle.edit.proofs.ObjectEdits.{is-some}
+use Rattle.find.proofs.Found.{is-some}
 use Rattle.calls.specs.Made.{resultOf}
 use Rattle.calls.proofs.Judging.{pass, result-pass, result-stop}
 use Rattle.join.proofs.PathRead.{head-inside, path-inside, path-copied}

@@ -3,7 +3,7 @@ use Prim.Native.Nat.{ℕ, _+_, _-_, _≤_}
 use mathlib.Core.Path.{_≡_, refl, sym, ap, ap₂, _∙_, subst}
 use mathlib.Core.Bool.{Bool, true, false, _&&_}
 use mathlib.Core.List.{List, []}
-use mathlib.Core.Option.{Option, none, some}
+use mathlib.Core.Option.{some}
 use native.Mathlib.Omega.{arith}
 use lib.Dec.{leb}
 use lib.ListN.{length, take, drop}
@@ -16,27 +16,25 @@ use Rattle.machine.specs.Map.{lookup}
 use Rattle.machine.specs.Names.{Bytes, stampOk, requestPathOk, newPathOk}
 use Rattle.machine.specs.Etags.{plain}
 use Rattle.machine.specs.State.{Object, State, held, counted, withObject}
-use Rattle.machine.specs.Calls.{COPY, nothing, accept, badRequest, notFound, tableFull, arenaFull, Outcome, _else_then_, given}
+use Rattle.machine.specs.Calls.{COPY, nothing, accept, badRequest, notFound, tableFull, arenaFull, _else_then_}
 use Rattle.machine.specs.Steps.{plainObject, putAt, act, after}
 use Rattle.machine.specs.Valid.{Valid}
 use Rattle.machine.proofs.KeepsValid.{next-valid}
 use Rattle.row.specs.declared.Head.{Head}
 use Rattle.row.specs.Row.{encodeRows, contentsOf, headAt}
-use Rattle.layout.specs.Memory.{rowsOf, objectRow, whole, stateOf, Stands}
+use Rattle.layout.specs.Memory.{objectRow, whole, stateOf, Stands}
 use Rattle.layout.specs.WholeLaws.{whole-stands}
 use Rattle.find.specs.declared.Place.{Place}
 use Rattle.find.specs.Places.{isSome, beforeObject, afterObject, objectPlace}
 use Rattle.find.proofs.Splits.{object-found}
 use Rattle.find.proofs.RowsAt.{At, row-at}
+use Rattle.find.proofs.Found.{is-some, is-none}
 use Rattle.edit.specs.Objects.{plainWith}
-use Rattle.edit.proofs.ObjectEdits.{is-some}
-use Rattle.edit.proofs.PutLaws.{place-found}
 use Rattle.edit_copy.specs.Copy.{contentIn, contentAt, Copiable}
 use Rattle.calls.specs.Answers.{accepted}
-use Rattle.calls.specs.Made.{Memory, memory, wholeMemory, stateIn, outcome, resultOf, Made}
+use Rattle.calls.specs.Made.{Memory, memory, stateIn, outcome, resultOf, Made}
 use Rattle.calls.proofs.MadeLaws.{done}
 use Rattle.calls.proofs.Judging.{result-pass, result-stop, passed, result-found, result-missing, was-found}
-use Rattle.writes.proofs.Room.{is-none}
 use Rattle.copies.specs.Source.{sourceOutcome}
 
 -- the source, read off whole memory

@@ -1,21 +1,19 @@
 -- The rows of a changed state. Assumes nothing.
-use Prim.Native.Nat.{ℕ, suc, _+_, _≤_, _<_}
-use mathlib.Core.Path.{_≡_, refl, sym, ap, ap₂, _∙_}
+use Prim.Native.Nat.{ℕ, suc, _+_}
+use mathlib.Core.Path.{_≡_, refl, sym, ap, _∙_}
 use mathlib.Core.List.{List, [], _∷_, _++_, append-assoc}
 use mathlib.Core.Option.{none, some}
-use native.Mathlib.Omega.{arith}
-use lib.ListN.{length, take, drop}
-use lib.Seq.{take-length, drop-length}
+use lib.ListN.{take, drop}
 use Rattle.order.specs.Order.{byBytes}
 use Rattle.order.specs.OrderLaws.{numbers, bytes, compare-above}
 use Rattle.machine.specs.Map.{Map, byNumber, lookup, insert, remove, place, Every}
 use Rattle.machine.specs.Names.{Bytes}
-use Rattle.machine.specs.State.{Object, Part, Upload, State, withO, withU, withObject, withoutObject, withUpload, withoutUpload, withPart}
+use Rattle.machine.specs.State.{Object, Part, Upload, State, withObject, withoutObject, withUpload, withoutUpload, withPart}
 use Rattle.machine.specs.Valid.{UploadOk}
 use Rattle.machine.proofs.MapPlaces.{insert-new, insert-old, remove-old}
 use Rattle.row.specs.Row.{Row}
 use Rattle.layout.specs.Memory.{objectRow, objectRows, uploadRow, partRow, partRows, uploadRows, rowsOf}
-use Rattle.find.specs.Places.{beforeObject, beforeUpload, beforeParts, beforePart, throughParts, fromObject, afterObject, fromUpload, afterUpload, fromPart, afterPart}
+use Rattle.find.specs.Places.{beforeObject, beforeUpload, beforeParts, beforePart, fromObject, afterObject, afterUpload, fromPart, afterPart}
 use Rattle.find.proofs.Splits.{object-rows-append, part-rows-append, upload-rows-append}
 
 -- Objects ----------------------------------------------------------------------------------------------------------------

@@ -1,17 +1,17 @@
 -- The rows of a valid state fit the tables. Assumes nothing.
 use Prim.Native.Nat.{ℕ, _+_, _*_, _≤_}
-use mathlib.Core.Path.{_≡_, refl, ap, _∙_}
-use mathlib.Core.List.{List, [], _∷_, _++_}
+use mathlib.Core.Path.{ap}
+use mathlib.Core.List.{[], _∷_, _++_}
 use native.Mathlib.Omega.{arith}
 use lib.ListN.{length, length-append}
 use Rattle.machine.specs.Map.{Map, Every, total}
 use Rattle.machine.specs.Names.{Bytes}
 use Rattle.machine.specs.State.{Object, Part, Upload, State, partsIn}
-use Rattle.machine.specs.Valid.{ObjectOk, PartOk, UploadOk, Valid}
-use Rattle.row.specs.Row.{Row, encodeRow, encodeRows}
-use Rattle.row.specs.RowLaws.{Encodable, EncodableAll, length-row, encode-append, encodable-left, encodable-right}
+use Rattle.machine.specs.Valid.{ObjectOk, UploadOk, Valid}
+use Rattle.row.specs.Row.{encodeRow, encodeRows}
+use Rattle.row.specs.RowLaws.{EncodableAll, length-row, encode-append, encodable-left, encodable-right}
 use Rattle.layout.specs.Memory.{objectRow, objectRows, uploadRow, partRow, partRows, uploadRows, rowsOf, arenaMost, tablesLength}
-use Rattle.layout.specs.TestLaws.{Between, stored-path-length}
+use Rattle.layout.specs.TestLaws.{stored-path-length}
 use Rattle.layout.specs.StandsLaws.{rows-encodable}
 
 objects-most : (m : Map Bytes Object) → EncodableAll (objectRows m) → Every ObjectOk m → length (encodeRows (objectRows m)) ≤ 164 * length m

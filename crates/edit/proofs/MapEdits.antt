@@ -1,8 +1,8 @@
 -- A key taken out of a map that lacks it, and set again after it was taken out. Assumes nothing.
-use Prim.Native.Nat.{ℕ, Ordering, Ordering·lt, Ordering·eq, Ordering·gt}
-use mathlib.Core.Path.{_≡_, refl, sym, ap, _∙_, subst}
-use mathlib.Core.List.{List, [], _∷_}
-use mathlib.Core.Option.{Option, none, some}
+use Prim.Native.Nat.{Ordering}
+use mathlib.Core.Path.{_≡_, refl, sym, ap, subst}
+use mathlib.Core.List.{[], _∷_}
+use mathlib.Core.Option.{none, some}
 use Rattle.order.specs.OrderLaws.{cases, Lawful}
 use Rattle.machine.specs.Map.{Map, lookup, insert, remove, Above, Ascending}
 use Rattle.machine.proofs.MapSplits.{insert-above}

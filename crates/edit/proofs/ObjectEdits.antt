@@ -1,11 +1,10 @@
 -- An object taken out or put in: what the steps require, and what memory then stands for. Assumes nothing.
-use Prim.Native.Nat.{ℕ, suc, _+_, _-_, _≤_, _<_, _^_}
+use Prim.Native.Nat.{ℕ, _+_, _-_, _≤_, _<_, _^_}
 use mathlib.Core.Path.{_≡_, refl, sym, ap, _∙_}
-use mathlib.Core.Bool.{Bool, true, false, cond}
-use mathlib.Core.List.{List, [], _∷_, _++_}
-use mathlib.Core.Option.{Option, none, some}
+use mathlib.Core.Bool.{true}
+use mathlib.Core.List.{List, []}
+use mathlib.Core.Option.{some}
 use native.Mathlib.Omega.{arith}
-use lib.Dec.{eqb}
 use lib.ListN.{length, take, drop}
 use lib.Seq.{length-take-le}
 use lib.ListN.{length-drop}
@@ -17,32 +16,29 @@ use Rattle.order.specs.OrderLaws.{bytes}
 use Rattle.buffer.specs.Buffer.{spliced, rotated}
 use Rattle.machine.specs.Map.{lookup}
 use Rattle.machine.specs.State.{Object, State, held, withObject, withoutObject}
-use Rattle.machine.specs.Valid.{Valid, ObjectOk}
+use Rattle.machine.specs.Valid.{ObjectOk}
 use Rattle.machine.proofs.MapSums.{length-insert, length-remove}
 use Rattle.machine.proofs.MapLaws.{lookup-insert, every-lookup}
 use Rattle.machine.proofs.KeepsValid.{without-object-valid}
 use Rattle.row.specs.declared.Head.{Head}
-use Rattle.row.specs.Row.{Row, encodeRows, contentsOf, headAt, headOf}
+use Rattle.row.specs.Row.{encodeRows, contentsOf, headAt, headOf}
 use Rattle.row.specs.RowLaws.{Encodable}
 use Rattle.layout.specs.declared.Header.{Header}
-use Rattle.layout.specs.Memory.{rowsOf, objectRow, headerAt, whole, stateOf, Stands, etagOf}
+use Rattle.layout.specs.Memory.{rowsOf, objectRow, headerAt, whole, stateOf, Stands}
 use Rattle.layout.specs.TestLaws.{stored-path-length}
 use Rattle.layout.specs.ObjectLaws.{Etagged, etagged, object-encodable}
 use Rattle.layout.specs.WholeLaws.{whole-stands}
 use Rattle.layout.specs.StandsLaws.{header-back}
-use Rattle.find.specs.declared.Offset.{Offset}
+use Rattle.layout.specs.declared.Offset.{Offset}
 use Rattle.find.specs.declared.Place.{Place}
 use Rattle.find.specs.Places.{isSome, behind, beforeObject, afterObject, fromObject, objectPlace}
 use Rattle.find.proofs.Splits.{object-place, object-found}
+use Rattle.find.proofs.Found.{is-some}
 use Rattle.edit.specs.Header.{headerOf, headed}
 use Rattle.edit.specs.RowBytes.{rowBytes}
 use Rattle.edit.specs.Objects.{objectBehind, Addable}
 use Rattle.edit.proofs.Changes.{without-object-rows, new-object-rows}
 use Rattle.edit.proofs.OneRow as row
-
-pub is-some : {X : Type 0} (o : Option X) → isSome o ≡ true → (x : X) × (o ≡ some x)
-is-some none e = absurd (let z : _≡_ {A = ℕ} 0 1 = cc in omega arith)
-is-some (some x) e = (x, refl)
 
 -- the header with another count of objects
 abbrev pub withObjects : Header → ℕ → Header

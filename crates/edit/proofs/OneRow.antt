@@ -1,6 +1,6 @@
 -- One row taken out or put in: what the functions that do it require, and what memory then stands for. Assumes nothing.
 use Prim.Native.Nat.{ℕ, _+_, _-_, _≤_}
-use mathlib.Core.Path.{_≡_, refl, sym, ap, _∙_}
+use mathlib.Core.Path.{_≡_, refl, ap, _∙_}
 use mathlib.Core.List.{List, [], _∷_, _++_}
 use native.Mathlib.Omega.{arith}
 use lib.ListN.{length, take, drop, length-append}
@@ -13,7 +13,7 @@ use Rattle.row.specs.RowLaws.{Encodable, length-row, encode-append, contents-ap
 use Rattle.layout.specs.declared.Header.{Header}
 use Rattle.layout.specs.Memory.{rowsOf, Stands}
 use Rattle.layout.specs.RowCounts.{length-contents}
-use Rattle.find.proofs.RowsAt.{At, row-at, Cut, cut}
+use Rattle.find.proofs.RowsAt.{At, row-at}
 use Rattle.edit.specs.Header.{headerOf, headed}
 use Rattle.edit.specs.RowBytes.{rowBytes}
 use Rattle.edit.proofs.Fit.{tables-fit}

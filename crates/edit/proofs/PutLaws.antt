@@ -1,19 +1,17 @@
 -- An object put in place of another: what the steps require, and what memory then stands for. Assumes nothing.
 use Prim.Native.Nat.{ℕ, _+_, _≤_}
-use mathlib.Core.Path.{_≡_, refl, sym, ap, _∙_, subst}
+use mathlib.Core.Path.{_≡_, sym, ap, _∙_, subst}
 use mathlib.Core.Bool.{Bool, true, false}
 use mathlib.Core.List.{List}
-use mathlib.Core.Option.{Option, none, some}
 use native.Mathlib.Omega.{arith}
 use lib.ListN.{length, take, drop}
 use Rattle.md5.specs.declared.words.Digest.{Digest}
-use Rattle.md5.specs.Md5.{bytesOf}
 use Rattle.number.specs.NumberLaws.{Bytes}
 use Rattle.number.proofs.Fields.{over}
 use Rattle.order.specs.Order.{byBytes}
 use Rattle.order.specs.OrderLaws.{bytes}
-use Rattle.machine.specs.Map.{Map, lookup, insert, remove, owed}
-use Rattle.machine.specs.State.{Object, State, objectLength, held, withO, withObject, withoutObject}
+use Rattle.machine.specs.Map.{Map, lookup}
+use Rattle.machine.specs.State.{Object, State, held, withO, withObject, withoutObject}
 use Rattle.machine.specs.Valid.{Valid}
 use Rattle.machine.proofs.MapLaws.{lookup-remove}
 use Rattle.machine.proofs.Counts.{held-put, held-delete}
@@ -22,9 +20,10 @@ use Rattle.layout.specs.Memory.{rowsOf, whole, stateOf, Stands}
 use Rattle.layout.specs.RowCounts.{length-contents}
 use Rattle.layout.specs.WholeLaws.{whole-stands}
 use Rattle.layout.specs.StandsLaws.{stands-state, stands-whole}
-use Rattle.find.specs.declared.Offset.{Offset}
+use Rattle.layout.specs.declared.Offset.{Offset}
 use Rattle.find.specs.declared.Place.{Place}
 use Rattle.find.specs.Places.{isSome, behind, objectPlace}
+use Rattle.find.proofs.Found.{is-none}
 use Rattle.edit.specs.Objects.{objectBehind, plainWith, Addable}
 use Rattle.edit.proofs.MapEdits.{remove-absent, insert-removed}
 use Rattle.edit.proofs.Tail.{tail-stands, tail-read}
@@ -33,10 +32,6 @@ use Rattle.edit.proofs.Tail.{tail-stands, tail-read}
 pub place-found : (s : State) (p : List ℕ) (place : Place) (b : Bool) → place ≡ objectPlace s p → place .found ≡ b → isSome (lookup byBytes p (s .O)) ≡ b
 unfolding objectPlace
 place-found s p place b is e = sym (ap (λ (x : Place). x .found) is) ∙ e
-
-is-none : {X : Type 0} (o : Option X) → isSome o ≡ false → o ≡ none
-is-none none e = refl
-is-none (some x) e = cc
 
 -- taking out an object that is not there changes nothing
 pub free-already : (t a p : List ℕ) → Bytes t → whole t a ≡ true → isSome (lookup byBytes p (stateOf t a .O)) ≡ false → Stands t a (withoutObject (stateOf t a) p)

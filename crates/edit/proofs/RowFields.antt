@@ -1,7 +1,7 @@
 -- A row, written field by field. Assumes nothing.
 use Prim.Native.Nat.{ℕ, _+_, _*_, _<_, _/_, _%_}
-use mathlib.Core.Path.{_≡_, refl, sym, ap, ap₂, _∙_}
-use mathlib.Core.List.{List, [], _∷_, _++_, append-assoc}
+use mathlib.Core.Path.{_≡_, refl, ap, ap₂, _∙_}
+use mathlib.Core.List.{List, [], _++_, append-assoc, append-nil}
 use native.Mathlib.Omega.{arith}
 use lib.ListN.{length, take, drop, length-append}
 use lib.Seq.{take-at}
@@ -9,8 +9,8 @@ use Rattle.number.specs.Number.{le}
 use Rattle.number.specs.NumberLaws.{length-le}
 use Rattle.number.proofs.Fields.{over, front-next}
 use Rattle.row.specs.declared.Head.{Head}
-use Rattle.row.specs.Fields.{width, fields, Fit}
-use Rattle.row.specs.Row.{Row, widths, encodeRow, headOf}
+use Rattle.row.specs.Fields.{fields}
+use Rattle.row.specs.Row.{Row, encodeRow, headOf}
 use Rattle.edit.specs.RowBytes.{rowBytes}
 
 -- two bytes as one number
@@ -21,10 +21,6 @@ pair-bytes k p h g =
     let same : k % 256 ≡ k = omega arith in
     let high : (k + 256 * p) / 256 ≡ p = omega arith in
     rw (low, high, same)
-
-append-nil : (l : List ℕ) → l ++ [] ≡ l
-append-nil [] = refl
-append-nil (x ∷ l) = ap (λ (m : List ℕ). x ∷ m) (append-nil l)
 
 pub number-fields : (b b₁ b₂ b₃ b₄ b₅ : List ℕ) (h : Head) (k p pair : ℕ) → k ≡ h .kind → k < 256 → p ≡ h .pathlen → p < 256 → pair ≡ k + 256 * p
     → b₁ ≡ over b 0 (le 4 (h .size)) 4 → b₂ ≡ over b₁ 4 (le 4 (h .number)) 4 → b₃ ≡ over b₂ 8 (le 8 (h .stamp)) 8

@@ -1,7 +1,7 @@
 -- Rows and data cut out, put in and replaced, and a header written over another. Each law takes what the callee ensures. Assumes nothing.
-use Prim.Native.Nat.{ℕ, _+_, _≤_}
+use Prim.Native.Nat.{ℕ, _+_}
 use mathlib.Core.Path.{_≡_, refl, sym, ap, ap₂, _∙_}
-use mathlib.Core.List.{List, [], _∷_, _++_, append-assoc}
+use mathlib.Core.List.{List, [], _++_, append-assoc, append-nil}
 use native.Mathlib.Omega.{arith}
 use lib.ListN.{length, drop, length-append}
 use lib.Seq.{drop-at}
@@ -55,10 +55,6 @@ data-rotated xs ys zs a a′ d free told is e =
     (ap (λ (l : List ℕ). l ++ d) (contents-append xs zs) ∙ append-assoc (contentsOf xs) (contentsOf zs) d ∙ ap (λ (l : List ℕ). contentsOf xs ++ (contentsOf zs ++ l)) (sym (append-nil d)))
     (contents-append₃ xs ys zs ∙ ap (λ (l : List ℕ). contentsOf xs ++ (l ++ contentsOf zs)) (sym is) ∙ ap (λ (l : List ℕ). contentsOf xs ++ (d ++ l)) (sym (append-nil (contentsOf zs))))
     refl refl refl e
-  where
-    append-nil : (l : List ℕ) → l ++ [] ≡ l
-    append-nil [] = refl
-    append-nil (x ∷ l) = ap (λ (m : List ℕ). x ∷ m) (append-nil l)
 
 -- the header of s′, written over that of s
 pub header-written : (A : ℕ) (s s′ : State) (t t′ rest : List ℕ) (h : Header) → length (encodeHeader A s) ≡ 18 → t ≡ encodeHeader A s ++ rest

@@ -1,11 +1,11 @@
 -- Memory that stands for s, with rows cut out or a row put in, stands for the changed state. Each law takes what the callees ensure.
 -- Assumes nothing.
-use Prim.Native.Nat.{ℕ, _+_, _≤_}
+use Prim.Native.Nat.{ℕ, _+_}
 use mathlib.Core.Path.{_≡_, refl, sym, ap, ap₂, _∙_, subst}
-use mathlib.Core.List.{List, [], _∷_, _++_, append-assoc}
+use mathlib.Core.List.{List, [], _∷_, _++_, append-nil}
 use native.Mathlib.Omega.{arith}
-use lib.ListN.{length, take, drop, length-append, take-append-drop}
-use lib.Seq.{drop-at, drop-drop}
+use lib.ListN.{length, take, drop, take-append-drop}
+use lib.Seq.{drop-at}
 use Rattle.machine.specs.State.{State, held}
 use Rattle.machine.specs.Valid.{Valid}
 use Rattle.buffer.specs.Buffer.{spliced, rotated}
@@ -16,10 +16,6 @@ use Rattle.layout.specs.RowCounts.{length-contents}
 use Rattle.layout.specs.StandsLaws.{length-header}
 use Rattle.edit.specs.Header.{headerOf, headed}
 use Rattle.edit.proofs.RowLists.{rows-spliced, data-spliced, data-rotated, header-written}
-
-append-nil : {A : Type 0} (l : List A) → l ++ [] ≡ l
-append-nil [] = refl
-append-nil {A} (x ∷ l) = ap (λ (m : List A). x ∷ m) (append-nil l)
 
 module _ (t a : List ℕ) (s : State) (h : Stands t a s) (s′ : State) (valid : Valid (length a) s′) (t₁ t′ a′ : List ℕ) (header : Header)
     (is : header ≡ headerOf (length a) s′) (e : t′ ≡ headed t₁ header) (keeps : length t′ ≡ length t) (keeps-arena : length a′ ≡ length a) where

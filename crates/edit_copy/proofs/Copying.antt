@@ -1,9 +1,9 @@
 -- An object copied to another path: what the steps require, and what memory then stands for. Assumes nothing.
 use Prim.Native.Nat.{ℕ, _+_, _≤_}
-use mathlib.Core.Path.{_≡_, refl, sym, ap, ap₂, _∙_, subst}
-use mathlib.Core.Bool.{Bool, true, false, true≢false}
-use mathlib.Core.List.{List, [], _++_}
-use mathlib.Core.Option.{Option, none, some}
+use mathlib.Core.Path.{_≡_, sym, ap, ap₂, _∙_, subst}
+use mathlib.Core.Bool.{false, true≢false}
+use mathlib.Core.List.{List, _++_}
+use mathlib.Core.Option.{some}
 use native.Mathlib.Omega.{arith}
 use lib.ListN.{length, take, drop}
 use Rattle.number.specs.NumberLaws.{Bytes}
@@ -17,16 +17,16 @@ use Rattle.machine.specs.Valid.{Valid}
 use Rattle.machine.proofs.MapLaws.{lookup-remove-other}
 use Rattle.row.specs.declared.Head.{Head}
 use Rattle.row.specs.Row.{encodeRows, contentsOf, headAt}
-use Rattle.layout.specs.Memory.{rowsOf, objectRow, whole, stateOf, Stands}
+use Rattle.layout.specs.Memory.{rowsOf, objectRow, stateOf, Stands}
 use Rattle.layout.specs.WholeLaws.{whole-stands}
-use Rattle.layout.specs.StandsLaws.{stands-state, stands-whole}
-use Rattle.find.specs.declared.Offset.{Offset}
+use Rattle.layout.specs.StandsLaws.{stands-state}
+use Rattle.layout.specs.declared.Offset.{Offset}
 use Rattle.find.specs.declared.Place.{Place}
-use Rattle.find.specs.Places.{isSome, behind, beforeObject, afterObject, objectPlace}
+use Rattle.find.specs.Places.{behind, beforeObject, afterObject, objectPlace}
 use Rattle.find.proofs.Splits.{object-found}
 use Rattle.find.proofs.RowsAt.{At, row-at}
+use Rattle.find.proofs.Found.{is-some}
 use Rattle.edit.specs.Objects.{objectBehind, plainWith, Addable}
-use Rattle.edit.proofs.ObjectEdits.{is-some}
 use Rattle.edit.proofs.PutLaws.{put-room, put-addable, put-stands}
 use Rattle.edit_copy.specs.Copy.{contentIn, contentAt, Copiable}
 

@@ -1,11 +1,10 @@
 -- A row in place of another with the same data: what the steps require, and what memory then stands for. Assumes nothing.
-use Prim.Native.Nat.{ℕ, _+_, _-_, _≤_, _<_}
+use Prim.Native.Nat.{ℕ, _+_, _-_, _≤_}
 use mathlib.Core.Path.{_≡_, refl, sym, ap, ap₂, _∙_}
-use mathlib.Core.Bool.{Bool, true, false}
-use mathlib.Core.List.{List, [], _∷_, _++_}
-use mathlib.Core.Option.{Option, none, some}
+use mathlib.Core.List.{List, [], _∷_, _++_, append-nil}
+use mathlib.Core.Option.{some}
 use native.Mathlib.Omega.{arith}
-use lib.ListN.{length, take, drop, length-append}
+use lib.ListN.{length, drop, length-append}
 use Rattle.number.specs.NumberLaws.{Bytes}
 use Rattle.md5.specs.declared.words.Digest.{Digest}
 use Rattle.md5.specs.Md5.{bytesOf}
@@ -14,35 +13,31 @@ use Rattle.order.specs.OrderLaws.{bytes}
 use Rattle.buffer.specs.Buffer.{spliced}
 use Rattle.machine.specs.Map.{lookup}
 use Rattle.machine.specs.State.{Object, State, withObject}
-use Rattle.machine.specs.Valid.{Valid, ObjectOk}
+use Rattle.machine.specs.Valid.{ObjectOk}
 use Rattle.machine.proofs.MapSums.{length-insert}
 use Rattle.machine.proofs.MapLaws.{lookup-insert, every-lookup}
 use Rattle.row.specs.declared.Head.{Head}
 use Rattle.row.specs.Row.{Row, encodeRow, encodeRows, contentsOf, headAt, headOf}
-use Rattle.row.specs.RowLaws.{Encodable, length-row, encode-append, contents-append}
+use Rattle.row.specs.RowLaws.{length-row, encode-append, contents-append}
 use Rattle.layout.specs.declared.Header.{Header}
-use Rattle.layout.specs.Memory.{rowsOf, objectRow, encodeHeader, headerAt, whole, stateOf, Stands}
+use Rattle.layout.specs.Memory.{rowsOf, objectRow, encodeHeader, headerAt, stateOf, Stands}
 use Rattle.layout.specs.TestLaws.{stored-path-length}
 use Rattle.layout.specs.WholeLaws.{whole-stands}
 use Rattle.layout.specs.StandsLaws.{length-header, header-back}
-use Rattle.find.specs.declared.Offset.{Offset}
+use Rattle.layout.specs.declared.Offset.{Offset}
 use Rattle.find.specs.declared.Place.{Place}
-use Rattle.find.specs.Places.{isSome, behind, beforeObject, afterObject, objectPlace}
+use Rattle.find.specs.Places.{behind, beforeObject, afterObject, objectPlace}
 use Rattle.find.proofs.Splits.{object-found}
 use Rattle.find.proofs.RowsAt.{At, row-at}
+use Rattle.find.proofs.Found.{is-some}
 use Rattle.edit.specs.Header.{headerOf, headed}
 use Rattle.edit.specs.RowBytes.{rowBytes}
 use Rattle.edit.specs.Objects.{plainWith}
 use Rattle.edit.proofs.Changes.{old-object-rows}
 use Rattle.edit.proofs.Fit.{tables-fit}
-use Rattle.edit.proofs.ObjectEdits.{is-some}
 use Rattle.edit.proofs.RowLists.{rows-spliced, header-written}
 use Rattle.edit.proofs.RowFields.{row-bytes}
 use Rattle.edit_copy.specs.Copy.{contentIn, contentAt, Copiable}
-
-append-nil : (l : List ℕ) → l ++ [] ≡ l
-append-nil [] = refl
-append-nil (x ∷ l) = ap (λ (m : List ℕ). x ∷ m) (append-nil l)
 
 contents-cons : (r r′ : Row) (rs : List Row) → r .content ≡ r′ .content → contentsOf (r ∷ rs) ≡ contentsOf (r′ ∷ rs)
 unfolding contentsOf

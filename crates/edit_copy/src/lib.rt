@@ -3,14 +3,10 @@ use layout::Header;
 use md5::words::Digest;
 use row::Head;
 ghost use mathlib.Core.Path.{_≡_};
-ghost use mathlib.Core.Bool.{true, false};
-ghost use lib.ListN.{length};
-ghost use Rattle.order.specs.Order.{byBytes, same};
-ghost use Rattle.machine.specs.Map.{lookup};
+ghost use mathlib.Core.Bool.{false};
+ghost use Rattle.order.specs.Order.{same};
 ghost use Rattle.machine.specs.State.{withObject};
-ghost use Rattle.machine.specs.Valid.{Valid};
-ghost use Rattle.layout.specs.Memory.{whole, stateOf, Stands};
-ghost use Rattle.find.specs.Places.{isSome};
+ghost use Rattle.layout.specs.Memory.{stateOf, Stands};
 ghost use Rattle.edit.specs.Objects.{plainWith};
 ghost use Rattle.edit_copy.specs.Copy.{contentAt, Copiable};
 

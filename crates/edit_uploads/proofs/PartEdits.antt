@@ -25,15 +25,15 @@ use Rattle.layout.specs.Memory.{rowsOf, partRow, headerAt, whole, stateOf, Stan
 use Rattle.layout.specs.UploadLaws.{part-encodable}
 use Rattle.layout.specs.WholeLaws.{whole-stands}
 use Rattle.layout.specs.StandsLaws.{header-back}
-use Rattle.find.specs.declared.Offset.{Offset}
+use Rattle.layout.specs.declared.Offset.{Offset}
 use Rattle.find.specs.declared.Place.{Place}
 use Rattle.find.specs.Places.{isSome, behind, beforePart, afterPart, fromPart, partPlace}
 use Rattle.find.proofs.RowsAt.{row-at}
 use Rattle.find.proofs.Splits.{part-place, part-found}
+use Rattle.find.proofs.Found.{is-some}
 use Rattle.edit.specs.Header.{headerOf, headed}
 use Rattle.edit.specs.RowBytes.{rowBytes}
 use Rattle.edit.proofs.Changes.{without-part-rows, new-part-rows}
-use Rattle.edit.proofs.ObjectEdits.{is-some}
 use Rattle.edit.proofs.OneRow as row
 use Rattle.edit_uploads.specs.Parts.{withoutPart, partBehind}
 use Rattle.edit_uploads.proofs.PartStates.{open-once, same-uploads, parts-without, without-part-valid}

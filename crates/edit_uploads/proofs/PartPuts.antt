@@ -1,9 +1,9 @@
 -- A part put in place of another: what the steps require, and what memory then stands for. Assumes nothing.
 use Prim.Native.Nat.{ℕ, _+_, _≤_, Ordering}
-use mathlib.Core.Path.{_≡_, refl, sym, ap, ap₂, _∙_, subst}
+use mathlib.Core.Path.{_≡_, sym, ap, ap₂, _∙_, subst}
 use mathlib.Core.Bool.{Bool, true, false}
 use mathlib.Core.List.{List, [], _∷_}
-use mathlib.Core.Option.{Option, none, some}
+use mathlib.Core.Option.{none, some}
 use native.Mathlib.Omega.{arith}
 use lib.ListN.{length, take, drop}
 use Rattle.md5.specs.declared.words.Digest.{Digest}
@@ -20,9 +20,10 @@ use Rattle.layout.specs.Memory.{rowsOf, whole, stateOf, Stands}
 use Rattle.layout.specs.RowCounts.{length-contents}
 use Rattle.layout.specs.WholeLaws.{whole-stands}
 use Rattle.layout.specs.StandsLaws.{stands-state, stands-whole}
-use Rattle.find.specs.declared.Offset.{Offset}
+use Rattle.layout.specs.declared.Offset.{Offset}
 use Rattle.find.specs.declared.Place.{Place}
 use Rattle.find.specs.Places.{isSome, behind, partPlace}
+use Rattle.find.proofs.Found.{is-none}
 use Rattle.edit.proofs.MapEdits.{remove-absent, insert-removed}
 use Rattle.edit.proofs.Tail.{tail-stands, tail-read}
 use Rattle.edit_uploads.specs.Parts.{withoutPart, partWith, partBehind, PartRemovable, PartAddable}
@@ -37,10 +38,6 @@ module _ {K X : Type 0} {cmp : K → K → Ordering} (L : Lawful cmp) where
       (λ q. simp (q, L .self))
       (λ q. simp (q, L .self))
       (λ q. simp q (ap (λ (r : Map K X). e ∷ r) (insert-again k v w m)))
-
-is-none : {X : Type 0} (o : Option X) → isSome o ≡ false → o ≡ none
-is-none none e = refl
-is-none (some x) e = cc
 
 -- the place says whether there is one
 place-found : (s : State) (u : ℕ) (x : Upload) (n : ℕ) (place : Place) (b : Bool) → place ≡ partPlace s u x n → place .found ≡ b → isSome (lookup byNumber n (x .parts)) ≡ b

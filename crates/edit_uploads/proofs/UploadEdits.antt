@@ -2,7 +2,7 @@
 use Prim.Native.Nat.{ℕ, _+_, _-_, _≤_, _<_, _^_}
 use mathlib.Core.Path.{_≡_, refl, sym, ap, _∙_}
 use mathlib.Core.Bool.{true}
-use mathlib.Core.List.{List, [], _∷_, _++_, append-assoc}
+use mathlib.Core.List.{List, [], _∷_, _++_, append-assoc, append-nil}
 use mathlib.Core.Option.{none, some}
 use native.Mathlib.Omega.{arith}
 use lib.ListN.{length, take, drop, length-append, take-append-drop}
@@ -30,22 +30,18 @@ use Rattle.layout.specs.UploadLaws.{upload-encodable}
 use Rattle.layout.specs.WholeLaws.{whole-stands}
 use Rattle.layout.specs.StandsLaws.{header-back}
 use Rattle.layout.specs.RowCounts.{length-contents}
-use Rattle.find.specs.declared.Offset.{Offset}
+use Rattle.layout.specs.declared.Offset.{Offset}
 use Rattle.find.specs.declared.Place.{Place}
 use Rattle.find.specs.declared.Parts.{Parts}
 use Rattle.find.specs.Places.{isSome, behind, beforeUpload, beforeParts, afterUpload, throughParts, uploadPlace, partsOf}
 use Rattle.find.proofs.Splits.{upload-found, parts-behind}
+use Rattle.find.proofs.Found.{is-some}
 use Rattle.edit.specs.Header.{headerOf, headed}
 use Rattle.edit.specs.RowBytes.{rowBytes}
 use Rattle.edit.proofs.Changes.{new-upload-rows, without-upload-rows}
 use Rattle.edit.proofs.Fit.{tables-fit}
-use Rattle.edit.proofs.ObjectEdits.{is-some}
 use Rattle.edit.proofs.Standing.{removed}
 use Rattle.edit.proofs.OneRow as row
-
-append-nil : {A : Type 0} (l : List A) → l ++ [] ≡ l
-append-nil [] = refl
-append-nil {A} (x ∷ l) = ap (λ (m : List A). x ∷ m) (append-nil l)
 
 -- no upload has the coming number
 no-upload : (N : ℕ) (us : Map ℕ Upload) → Every (UploadOk N) us → lookup byNumber N us ≡ none

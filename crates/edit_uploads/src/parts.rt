@@ -12,7 +12,7 @@ ghost use Rattle.find.specs.Places.{isSome};
 ghost use Rattle.edit_uploads.specs.Parts.{withoutPart, partWith, partBehind, PartRemovable, PartAddable, PartPuttable};
 
 // A part that is there, taken out.
-pub fn remove_part(tables: &mut [u8], arena: &mut [u8], upload: u32, number: u16)
+fn remove_part(tables: &mut [u8], arena: &mut [u8], upload: u32, number: u16)
     requires { ⌜ PartRemovable (now tables) (now arena) upload number ⌝ }
     ensures { λ _. ⌜ ((x : Upload) → lookup byNumber upload (stateOf (now (tables .entry)) (now (arena .entry)) .U) ≡ some x → Stands (now (tables .exit)) (now (arena .exit)) (withUpload (stateOf (now (tables .entry)) (now (arena .entry))) upload (withoutPart x number))) ⌝ }
 {
@@ -35,7 +35,7 @@ pub fn remove_part(tables: &mut [u8], arena: &mut [u8], upload: u32, number: u16
 }
 
 // A part put in where the upload has none of this number; its data, `size` bytes, stand behind the last byte held.
-pub fn add_part(
+fn add_part(
     tables: &mut [u8],
     arena: &mut [u8],
     upload: u32,

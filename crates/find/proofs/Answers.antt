@@ -1,21 +1,17 @@
 -- From the spots that the searches answer to the places of an upload and of a part. Assumes nothing.
-use Prim.Native.Nat.{ℕ, zero, suc, _+_, _-_, _≤_, _<_}
+use Prim.Native.Nat.{ℕ, suc, _+_, _-_, _≤_, _<_}
 use mathlib.Core.Path.{_≡_, refl, sym, ap, _∙_}
-use mathlib.Core.Bool.{Bool, true, false, cond, false≢true}
-use mathlib.Core.List.{List, [], _∷_, _++_}
-use mathlib.Core.Option.{Option, none, some}
-use native.Mathlib.Nat.{add-sub-cancel-left}
+use mathlib.Core.Bool.{Bool, true, false, cond}
+use mathlib.Core.List.{List, [], _∷_, _++_, append-nil}
+use mathlib.Core.Option.{some}
 use native.Mathlib.Omega.{arith}
 use lib.ListN.{length, take, drop, length-append, length-drop}
-use lib.Seq.{take-at, drop-at, take-length}
+use lib.Seq.{take-at, drop-at}
 use Rattle.machine.specs.Map.{byNumber, lookup, place}
 use Rattle.machine.specs.State.{Upload, State}
 use Rattle.row.specs.Row.{Row, encodeRows, contentsOf}
-use Rattle.layout.specs.Memory.{uploadRow, partRows, uploadRows, rowsOf}
+use Rattle.layout.specs.Memory.{uploadRow, partRows, rowsOf}
 use Rattle.layout.specs.UploadLaws.{length-part-rows}
-use Rattle.find.specs.declared.Offset.{Offset}
-use Rattle.find.specs.declared.Place.{Place}
-use Rattle.find.specs.declared.Parts.{Parts}
 use Rattle.find.specs.declared.Spot.{Spot}
 use Rattle.find.specs.declared.Goal.{Goal}
 use Rattle.find.specs.declared.Goal.the-variants as goal
@@ -24,6 +20,7 @@ use Rattle.find.specs.Search.{reach, stopsOf, spotAt, Spotted, sought, l
 use Rattle.find.proofs.Splits.{upload-place, upload-found, parts-place, parts-behind, part-place}
 use Rattle.find.proofs.Walk.{spot}
 use Rattle.find.proofs.Searches.{reach-end, reach-upload, upload-leads, reach-part, part-leads, reach-next}
+use Rattle.find.proofs.Found.{is-some}
 
 -- Spots ------------------------------------------------------------------------------------------------------------------
 
@@ -84,10 +81,6 @@ pub end-answer : (rs : List Row) (p : Spot) → p ≡ sought goal.End rs 0 → r
 end-answer rs p e =
     let k = spot-behind rs rs [] p (sym (append-nil rs)) (e ∙ sought-behind goal.End rs [] rs rs 0 refl refl (reach-end rs)) in
     λ i. record { at = k .at i; base = k .base i }
-  where
-    append-nil : (l : List Row) → l ++ [] ≡ l
-    append-nil [] = refl
-    append-nil (x ∷ l) = ap (λ (m : List Row). x ∷ m) (append-nil l)
 
 -- Uploads ----------------------------------------------------------------------------------------------------------------
 
@@ -106,13 +99,9 @@ found-upload s u p found e f =
     let g : found ≡ isSome (lookup byNumber u (s .U)) = f ∙ ap (leads 2 u) (k .rest) ∙ upload-leads u (s .U) in
     λ i. record { found = g i; at = k .at i; base = k .base i }
 
-known : {X : Type 0} (o : Option X) → isSome o ≡ true → (x : X) × (o ≡ some x)
-known none e = absurd (false≢true e)
-known (some x) e = (x, refl)
-
 pub open-within : (s : State) (u : ℕ) → isSome (lookup byNumber u (s .U)) ≡ true → length (beforeUpload s u) < length (rowsOf s)
 open-within s u e =
-    let k = known (lookup byNumber u (s .U)) e in
+    let k = is-some (lookup byNumber u (s .U)) e in
     let x = k .0 in
     omega (arith, ap length (upload-found s u x (k .1)), length-append (beforeUpload s u) (uploadRow u x ∷ (partRows (x .parts) ++ afterUpload s u)))
 

@@ -1,5 +1,7 @@
+pub mod Found
 pub mod RowsAt
 pub mod Splits
+pub mod ObjectAt
 pub mod Objects
 pub mod Walk
 pub mod Searches

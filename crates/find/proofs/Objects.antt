@@ -2,24 +2,23 @@
 use Prim.Native.Nat.{ℕ, suc, _+_, _≤_, _<_, Ordering, Ordering·lt, Ordering·eq, Ordering·gt}
 use mathlib.Core.Path.{_≡_, refl, sym, ap, _∙_}
 use mathlib.Core.Bool.{Bool, true, false}
-use mathlib.Core.List.{List, [], _∷_, _++_, append-assoc}
+use mathlib.Core.List.{List, []}
 use mathlib.Core.Option.{none, some}
 use native.Mathlib.Numerals.{add-one}
 use native.Mathlib.Omega.{arith}
-use lib.ListN.{length, getD, take, drop, drop-of-length-le}
-use lib.Seq.{drop-cons, take-suc, split-at}
+use lib.ListN.{length, take, drop, drop-of-length-le}
+use lib.Seq.{drop-cons}
 use Rattle.order.specs.Order.{by, byBytes}
-use Rattle.machine.specs.Map.{Map, lookup, place}
+use Rattle.machine.specs.Map.{lookup, place}
 use Rattle.machine.specs.Names.{Bytes}
-use Rattle.machine.specs.Etags.{absent}
-use Rattle.machine.specs.State.{Object, State}
+use Rattle.machine.specs.State.{State}
 use Rattle.row.specs.declared.Head.{Head}
 use Rattle.row.specs.Row.{Row, encodeRows, contentsOf, headAt}
-use Rattle.layout.specs.Memory.{objectRow, objectRows, uploadRows, rowsOf, Stands}
+use Rattle.layout.specs.Memory.{objectRows, Stands}
 use Rattle.find.specs.declared.Place.{Place}
 use Rattle.find.specs.Places.{beforeObject, objectPlace, isSome}
 use Rattle.find.proofs.RowsAt.{At, Read, row-at, row-read}
-use Rattle.find.proofs.Splits.{object-rows-append}
+use Rattle.find.proofs.ObjectAt.{blank, entry, row, front, rest, split, next-front}
 
 -- the paths of the first i objects are below p, and the next row begins at `at`
 pub record Passed (s : State) (p : Bytes) (i at base : ℕ) : Type 0 where
@@ -57,50 +56,24 @@ pub record Turn (t a : List ℕ) (s : State) (p : Bytes) (i at base : ℕ) (head
   pub equal : byBytes p (take (head .pathlen) (drop (at + 36) t)) ≡ Ordering·eq → placed true at base ≡ objectPlace s p
   pub greater : byBytes p (take (head .pathlen) (drop (at + 36) t)) ≡ Ordering·gt → Passed s p (i + 1) (at + 36 + head .pathlen) (base + head .size)
 
-abbrev blank : Bytes × Object
-blank = ([], record { content = []; created = 0; etag = absent })
-
 module _ (t a : List ℕ) (s : State) (h : Stands t a s) (p : Bytes) (i at base : ℕ) (k : Passed s p i at base) (l : i < length (s .O)) where
-  abbrev entry : Bytes × Object
-  entry = getD (s .O) i blank
-
-  abbrev row : Row
-  row = objectRow (entry .0) (entry .1)
-
-  unfoldable front : List Row
-  front = objectRows (take i (s .O))
-
-  unfoldable rest : List Row
-  rest = objectRows (drop (suc i) (s .O)) ++ uploadRows (s .U)
-
-  split : rowsOf s ≡ front ++ (row ∷ rest)
-  unfolding rowsOf objectRows front rest
-  split =
-      ap (λ (m : Map Bytes Object). objectRows m ++ uploadRows (s .U)) (split-at (s .O) i blank l)
-      ∙ ap (λ (rs : List Row). rs ++ uploadRows (s .U)) (object-rows-append (take i (s .O)) (entry ∷ drop (suc i) (s .O)))
-      ∙ append-assoc (objectRows (take i (s .O))) (row ∷ objectRows (drop (suc i) (s .O))) (uploadRows (s .U))
-
-  next-front : objectRows (take (i + 1) (s .O)) ≡ front ++ (row ∷ [])
-  unfolding objectRows front
-  next-front = ap (λ (n : ℕ). objectRows (take n (s .O))) (add-one i) ∙ ap objectRows (take-suc (s .O) i blank l) ∙ object-rows-append (take i (s .O)) (entry ∷ [])
-
-  here-at : At t a s h front row rest
-  here-at = row-at t a s h front row rest split
+  here-at : At t a s h (front s i) (row s i) (rest s i)
+  here-at = row-at t a s h (front s i) (row s i) (rest s i) (split s i l)
 
   pub object-inside : at + 36 ≤ length t
   unfolding front
   object-inside = let q = k .rows in let z = here-at .inside in omega arith
 
   module _ (head : Head) (q : head ≡ headAt (drop at t)) where
-    here-read : Read t a front row at base head
+    here-read : Read t a (front s i) (row s i) at base head
     unfolding front
-    here-read = row-read t a s h front row rest at base head here-at (k .rows) (k .contents) q
+    here-read = row-read t a s h (front s i) (row s i) (rest s i) at base head here-at (k .rows) (k .contents) q
 
     answer : (o : Ordering) → byBytes p (take (head .pathlen) (drop (at + 36) t)) ≡ o
-        → (lookup byBytes p (drop i (s .O)) ≡ by o none (some (entry .1)) (lookup byBytes p (drop (suc i) (s .O))))
+        → (lookup byBytes p (drop i (s .O)) ≡ by o none (some (entry s i .1)) (lookup byBytes p (drop (suc i) (s .O))))
         × (place byBytes p (drop i (s .O)) ≡ by o 0 0 (suc (place byBytes p (drop (suc i) (s .O)))))
     answer o e =
-        let f : byBytes p (entry .0) ≡ o = ap (byBytes p) (sym (here-read .path)) ∙ e in
+        let f : byBytes p (entry s i .0) ≡ o = ap (byBytes p) (sym (here-read .path)) ∙ e in
         (rw (drop-cons (s .O) i blank l, f), rw (drop-cons (s .O) i blank l, f))
 
     pub object-turn : Turn t a s p i at base head
@@ -115,8 +88,8 @@ module _ (t a : List ℕ) (s : State) (h : Stands t a s) (p : Bytes) (i at base 
           greater = λ e.
               record {
                 within = omega arith;
-                rows = r .next ∙ ap (λ (rs : List Row). 18 + length (encodeRows rs)) (sym next-front);
-                contents = r .arena-next ∙ ap (λ (rs : List Row). length (contentsOf rs)) (sym next-front);
+                rows = r .next ∙ ap (λ (rs : List Row). 18 + length (encodeRows rs)) (sym (next-front s i l));
+                contents = r .arena-next ∙ ap (λ (rs : List Row). length (contentsOf rs)) (sym (next-front s i l));
                 places = rw add-one (let m = k .places in omega (arith, answer _ e .1));
                 found = rw add-one (k .found ∙ answer _ e .0);
               };

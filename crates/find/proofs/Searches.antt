@@ -1,21 +1,18 @@
 -- What the searches along the rows find. Assumes nothing.
-use Prim.Native.Nat.{ℕ, zero, suc, _+_, _≤_, _<_, compare, Ordering, Ordering·lt, Ordering·eq, Ordering·gt}
+use Prim.Native.Nat.{ℕ, suc, _+_, compare}
 use mathlib.Core.Path.{_≡_, refl, sym, ap, _∙_}
-use mathlib.Core.Bool.{Bool, true, false, _&&_, cond}
-use mathlib.Core.List.{List, [], _∷_, _++_, append-assoc}
-use mathlib.Core.Option.{none, some}
+use mathlib.Core.Bool.{false}
+use mathlib.Core.List.{List, [], _∷_, _++_}
 use native.Mathlib.Omega.{arith}
 use borrow.Author.Tests.{eq-eqb, ne-eqb}
-use lib.Dec.{eqb}
 use lib.ListN.{length, take, drop, length-append}
-use lib.Seq.{take-at, drop-at, take-length}
-use Rattle.order.specs.OrderLaws.{cases, alike, below, numbers}
+use Rattle.order.specs.OrderLaws.{cases, alike, below}
 use Rattle.machine.specs.Map.{Map, byNumber, lookup, place}
 use Rattle.machine.specs.Names.{Bytes}
 use Rattle.machine.specs.Etags.{Etag, absent, plain, joined}
 use Rattle.machine.specs.State.{Object, Part, Upload, State}
-use Rattle.row.specs.Row.{Row, encodeRows, contentsOf}
-use Rattle.layout.specs.Memory.{objectRow, objectRows, uploadRow, partRow, partRows, uploadRows, rowsOf}
+use Rattle.row.specs.Row.{Row}
+use Rattle.layout.specs.Memory.{objectRow, objectRows, partRows, uploadRows, rowsOf}
 use Rattle.find.specs.declared.Goal.the-variants as goal
 use Rattle.find.specs.Places.{isSome}
 use Rattle.find.specs.Search.{reach, stopsAt, stopsOf, leads}

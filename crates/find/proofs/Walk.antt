@@ -1,7 +1,7 @@
 -- A search along the rows, row by row. Assumes nothing.
-use Prim.Native.Nat.{ℕ, zero, suc, _+_, _≤_, _<_}
-use mathlib.Core.Path.{_≡_, refl, sym, ap, _∙_}
-use mathlib.Core.Bool.{Bool, true, false, _&&_, cond}
+use Prim.Native.Nat.{ℕ, suc, _+_, _≤_, _<_}
+use mathlib.Core.Path.{_≡_, sym, ap, _∙_}
+use mathlib.Core.Bool.{true, false, _&&_}
 use mathlib.Core.List.{List, [], _∷_, _++_}
 use native.Mathlib.Nat.{add-zero}
 use native.Mathlib.Numerals.{add-one}
@@ -12,7 +12,6 @@ use lib.Seq.{drop-cons, take-suc, split-at}
 use Rattle.machine.specs.State.{State}
 use Rattle.row.specs.declared.Head.{Head}
 use Rattle.row.specs.Row.{Row, encodeRows, contentsOf, headAt, headOf}
-use Rattle.machine.specs.Valid.{Valid}
 use Rattle.layout.specs.Memory.{rowsOf, Stands}
 use Rattle.layout.specs.RowCounts.{length-rows}
 use Rattle.find.specs.declared.Spot.{Spot}

@@ -5,12 +5,12 @@ use mathlib.Core.List.{List, [], _∷_, _++_}
 use mathlib.Core.Option.{Option, none, some}
 use lib.ListN.{length, take, drop}
 use Rattle.order.specs.Order.{byBytes}
-use Rattle.machine.specs.Map.{Map, byNumber, lookup, place}
+use Rattle.machine.specs.Map.{byNumber, lookup, place}
 use Rattle.machine.specs.Names.{Bytes}
-use Rattle.machine.specs.State.{Object, Part, Upload, State}
+use Rattle.machine.specs.State.{Upload, State}
 use Rattle.row.specs.Row.{Row, encodeRows, contentsOf}
-use Rattle.layout.specs.Memory.{objectRows, uploadRow, partRows, uploadRows, rowsOf}
-use Rattle.find.specs.declared.Offset.{Offset}
+use Rattle.layout.specs.Memory.{objectRows, uploadRow, partRows, uploadRows}
+use Rattle.layout.specs.declared.Offset.{Offset}
 use Rattle.find.specs.declared.Place.{Place}
 use Rattle.find.specs.declared.Parts.{Parts}
 

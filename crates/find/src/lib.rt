@@ -1,4 +1,5 @@
 // Readers of whole memory: where an object, an upload or a part stands.
+use layout::Offset;
 use order::Order;
 use row::Head;
 ghost use mathlib.Core.Path.{_≡_};
@@ -11,12 +12,6 @@ ghost use Rattle.machine.specs.State.{Upload};
 ghost use Rattle.layout.specs.Memory.{whole, stateOf, rowsOf};
 ghost use Rattle.find.specs.Places.{isSome, behind, beforeUpload, objectPlace, uploadPlace, partPlace, partsOf};
 ghost use Rattle.find.specs.Search.{stopsAt, sought, spotAt, Spotted, leads};
-
-// Where a row stands in the tables, and its data in the arena.
-pub struct Offset {
-    pub at: usize,
-    pub base: usize,
-}
 
 // The offset of what was looked for, or where it would stand.
 pub struct Place {

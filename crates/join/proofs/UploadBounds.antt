@@ -1,7 +1,7 @@
 -- The bounds of an open upload. Assumes nothing.
 use Prim.Native.Nat.{ℕ, _+_, _-_, _*_, _≤_}
 use mathlib.Core.Path.{_≡_, refl, ap, _∙_, subst}
-use mathlib.Core.List.{List, [], _∷_, _++_}
+use mathlib.Core.List.{List, [], _∷_, _++_, append-nil}
 use mathlib.Core.Option.{some}
 use native.Mathlib.Omega.{arith}
 use lib.ListN.{length, length-append}
@@ -13,16 +13,12 @@ use Rattle.row.specs.Row.{encodeRow, encodeRows, contentsOf}
 use Rattle.row.specs.RowLaws.{EncodableAll, encode-append, contents-append, encodable-left, encodable-right, length-row}
 use Rattle.layout.specs.Memory.{uploadRow, partRow, partRows, rowsOf, Stands}
 use Rattle.layout.specs.StandsLaws.{rows-encodable}
-use Rattle.find.specs.declared.Offset.{Offset}
+use Rattle.layout.specs.declared.Offset.{Offset}
 use Rattle.find.specs.declared.Place.{Place}
 use Rattle.find.specs.declared.Parts.{Parts}
 use Rattle.find.specs.Places.{behind, beforeUpload, beforeParts, throughParts, afterUpload, uploadPlace, partsOf}
 use Rattle.find.proofs.Splits.{parts-place}
 use Rattle.join.specs.Bounds.{boundsOf}
-
-append-nil : {A : Type 0} (l : List A) → l ++ [] ≡ l
-append-nil [] = refl
-append-nil {A} (x ∷ l) = ap (λ (m : List A). x ∷ m) (append-nil l)
 
 length-part-bytes : (m : Map ℕ Part) → EncodableAll (partRows m) → length (encodeRows (partRows m)) ≡ 36 * length m
 unfolding partRows encodeRows

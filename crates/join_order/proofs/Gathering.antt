@@ -1,7 +1,7 @@
 -- The digests of parts in listed order, gathered one by one. Assumes nothing.
 use Prim.Native.Nat.{ℕ, _+_, _*_, _≤_, _<_}
 use mathlib.Core.Path.{_≡_, refl, sym, ap, ap₂, _∙_, subst}
-use mathlib.Core.List.{List, [], _∷_, _++_, append-assoc}
+use mathlib.Core.List.{List, [], _∷_, _++_, append-assoc, append-nil}
 use native.Mathlib.Nat.{not-suc-le-zero}
 use native.Mathlib.Omega.{arith}
 use lib.ListN.{length, take, drop, length-append}
@@ -121,10 +121,6 @@ module _ (t : List ℕ) (at count : ℕ) (k : OrderedAt t at count) where
       nothing : (ys : List Part) → length ys ≤ 0 → ys ≡ []
       nothing [] h = refl
       nothing (y ∷ ys) h = absurd (not-suc-le-zero h)
-
-      append-nil : (l : List ℕ) → l ++ [] ≡ l
-      append-nil [] = refl
-      append-nil (x ∷ l) = ap (λ (m : List ℕ). x ∷ m) (append-nil l)
 
   module _ (all : List ℕ) (i : ℕ) (g : Gathered t at count k all i) (more : i < count) where
     pub turn : FirstRow t (g .place) (g .left) (g .rest)

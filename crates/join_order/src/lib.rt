@@ -1,5 +1,5 @@
 // An upload's parts, brought into listed order where they stand, and the digest of their digests.
-pub mod digests;
+mod digests;
 
 use md5::words::Digest;
 ghost use mathlib.Core.Path.{_≡_};
@@ -48,7 +48,7 @@ fn bring(tables: &mut [u8], arena: &mut [u8], at: usize, base: usize, number: u3
 
 // The parts at `at` brought into listed order, with their data at `base`: each listed part to the front of those that remain.
 // Nothing moves where the list ascends.
-pub fn order_parts(tables: &mut [u8], arena: &mut [u8], at: usize, base: usize, list: &[u8])
+fn order_parts(tables: &mut [u8], arena: &mut [u8], at: usize, base: usize, list: &[u8])
     requires { ⌜ ListedAt (now tables) (now arena) at base (now list) ⌝ }
     ensures { λ _. ⌜ ((k : ListedAt (now (tables .entry)) (now (arena .entry)) at base (now (list .entry)))
         → (now (tables .exit) ≡ orderedTables (now (tables .entry)) (now (arena .entry)) at base (now (list .entry)) k)

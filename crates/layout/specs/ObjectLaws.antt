@@ -1,23 +1,23 @@
 -- The rows of objects: what is read was written so and keeps document 01's rules, and what keeps them is read back. Assumes nothing.
-use Prim.Native.Nat.{ℕ, _+_, _≤_, _<_, _^_, Ordering, Ordering·lt, Ordering·eq, Ordering·gt}
-use mathlib.Core.Path.{_≡_, refl, sym, ap, ap₂, _∙_}
+use Prim.Native.Nat.{ℕ, _≤_, _<_, _^_, Ordering, Ordering·lt, Ordering·eq, Ordering·gt}
+use mathlib.Core.Path.{_≡_, refl, sym, ap, ap₂}
 use mathlib.Core.Bool.{Bool, true, false, cond, false≢true}
-use mathlib.Core.List.{List, [], _∷_, _++_}
+use mathlib.Core.List.{List, [], _∷_}
 use native.Mathlib.Omega.{arith}
 use borrow.Author.Tests.{leb-true, le-leb, eqb-true, eqb-false, eq-eqb}
-use lib.Dec.{leb, eqb}
+use lib.Dec.{eqb}
 use lib.ListN.{length, length-append}
 use Rattle.order.specs.Order.{byBytes}
 use Rattle.machine.specs.Map.{Map, Above, Ascending, Every}
-use Rattle.machine.specs.Names.{Bytes, storedPathOk, stampOk}
+use Rattle.machine.specs.Names.{Bytes, storedPathOk}
 use Rattle.machine.specs.Etags.{Etag, absent, plain, joined}
 use Rattle.machine.specs.State.{Object}
 use Rattle.machine.specs.Valid.{EtagOk, ObjectOk}
-use Rattle.row.specs.Row.{Row, encodeRows, contentsOf, headOf}
+use Rattle.row.specs.Row.{Row, contentsOf}
 use Rattle.row.specs.RowLaws.{Encodable, EncodableAll, Follows}
 use Rattle.layout.specs.Rules.{isLess, objectRule, objectOk, objectNext}
 use Rattle.layout.specs.Memory.{objectRow, objectRows, objectOf, objectsOf, etagOf, kindOf, digestOf, countOf}
-use Rattle.layout.specs.TestLaws.{AllTrue, all-true, true-all, Between, stored-path-length, stamp-range, stamp-ok}
+use Rattle.layout.specs.TestLaws.{all-true, true-all, stored-path-length, stamp-range, stamp-ok}
 
 is-less : (o : Ordering) → isLess o ≡ true → o ≡ Ordering·lt
 is-less Ordering·lt e = refl

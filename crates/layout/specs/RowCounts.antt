@@ -1,12 +1,12 @@
 -- How many rows a state has, and how many bytes they hold. Assumes nothing.
 use Prim.Native.Nat.{ℕ, _+_}
-use mathlib.Core.Path.{_≡_, refl, ap, _∙_}
-use mathlib.Core.List.{List, [], _∷_, _++_}
+use mathlib.Core.Path.{_≡_, refl, ap}
+use mathlib.Core.List.{List, [], _∷_}
 use native.Mathlib.Omega.{arith}
 use lib.ListN.{length, length-append}
 use Rattle.machine.specs.Map.{Map, total}
 use Rattle.machine.specs.State.{Object, Part, Upload, State, objectLength, partLength, uploadLength, partsIn, held}
-use Rattle.row.specs.Row.{Row, contentsOf}
+use Rattle.row.specs.Row.{contentsOf}
 use Rattle.row.specs.RowLaws.{contents-append}
 use Rattle.layout.specs.Memory.{objectRows, partRows, uploadRows, rowsOf}
 use Rattle.layout.specs.ObjectLaws.{length-object-rows}

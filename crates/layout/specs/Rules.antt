@@ -4,7 +4,7 @@ use Prim.Native.Nat.{ℕ, Ordering, Ordering·lt, Ordering·eq, Ordering·gt}
 use mathlib.Core.Bool.{Bool, true, false, _&&_, cond}
 use mathlib.Core.List.{List, [], _∷_}
 use lib.Dec.{leb, ltb, eqb}
-use lib.ListN.{length, replicate}
+use lib.ListN.{replicate}
 use Rattle.order.specs.Order.{byBytes, same}
 use Rattle.machine.specs.Names.{storedPathOk, storedPartOk}
 use Rattle.row.specs.declared.Head.{Head}

@@ -1,25 +1,24 @@
 -- The rows of uploads and their parts: what is read was written so and keeps document 01's rules, and what keeps them is read back.
 -- Assumes nothing.
-use Prim.Native.Nat.{ℕ, _+_, _≤_, _<_, _^_, Ordering, Ordering·lt}
+use Prim.Native.Nat.{ℕ, _+_, _≤_, _<_, _^_}
 use mathlib.Core.Path.{_≡_, refl, sym, ap, ap₂, _∙_, subst}
 use mathlib.Core.Bool.{Bool, true, false, cond}
-use mathlib.Core.List.{List, [], _∷_, _++_, append-assoc}
+use mathlib.Core.List.{List, [], _∷_, _++_, append-nil}
 use native.Mathlib.Omega.{arith}
-use borrow.Author.Tests.{leb-true, le-leb, ltb-true, lt-ltb, eqb-true, eqb-false, eq-eqb}
-use lib.Dec.{leb, ltb, eqb}
+use borrow.Author.Tests.{leb-true, le-leb, ltb-true, lt-ltb, eqb-true}
+use lib.Dec.{eqb}
 use lib.ListN.{length, length-append}
-use Rattle.order.specs.Order.{byBytes}
 use Rattle.order.specs.OrderLaws.{compare-below, below, same-true, same-self}
 use Rattle.machine.specs.Map.{Map, byNumber, Above, Ascending, Every, total}
-use Rattle.machine.specs.Names.{Bytes, storedPathOk, storedPartOk, stampOk}
+use Rattle.machine.specs.Names.{storedPathOk, storedPartOk}
 use Rattle.machine.specs.State.{Part, Upload, partsIn}
 use Rattle.machine.specs.Valid.{PartOk, UploadOk}
-use Rattle.row.specs.Row.{Row, contentsOf, headOf}
+use Rattle.row.specs.Row.{Row, contentsOf}
 use Rattle.row.specs.RowLaws.{Encodable, EncodableAll, Follows, encodable-append, contents-append}
 use Rattle.layout.specs.declared.Mark.{Mark}
-use Rattle.layout.specs.Rules.{uploadKind, zeros, uploadRule, partRule, entryOk, markAfter, entryNext, start}
+use Rattle.layout.specs.Rules.{uploadKind, zeros, uploadRule, partRule, entryOk, markAfter, entryNext}
 use Rattle.layout.specs.Memory.{uploadRow, partRow, partRows, uploadRows, Nest, partOf, uploadOf, nest, opens}
-use Rattle.layout.specs.TestLaws.{all-true, true-all, Between, stored-path-length, stamp-range, stamp-ok, stored-part-range}
+use Rattle.layout.specs.TestLaws.{all-true, true-all, stored-path-length, stamp-range, stamp-ok, stored-part-range}
 
 -- Sound ------------------------------------------------------------------------------------------------------------------
 
@@ -172,10 +171,6 @@ opens-uploads [] = refl
 opens-uploads (e ∷ us) = omega (arith, opens-parts (e .1 .parts) (uploadRows us), opens-uploads us)
 
 -- Complete ---------------------------------------------------------------------------------------------------------------
-
-append-nil : {A : Type 0} (l : List A) → l ++ [] ≡ l
-append-nil [] = refl
-append-nil {A} (x ∷ l) = ap (λ (m : List A). x ∷ m) (append-nil l)
 
 nest-parts : (ps : Map ℕ Part) (rs : List Row) → nest (partRows ps ++ rs) ≡ record { waiting = ps ++ nest rs .waiting; uploads = nest rs .uploads }
 unfolding nest partRows

@@ -1,7 +1,7 @@
 -- Whole memory stands for a state that keeps document 01's rules: it is that state's encoding, then free bytes. Assumes nothing.
 use Prim.Native.Nat.{ℕ, _+_, _≤_}
 use mathlib.Core.Path.{_≡_, refl, sym, ap, ap₂, _∙_, subst}
-use mathlib.Core.Bool.{Bool, true}
+use mathlib.Core.Bool.{true}
 use mathlib.Core.List.{List, [], _∷_, _++_, append-assoc}
 use native.Mathlib.Omega.{arith}
 use borrow.Author.Tests.{leb-true, eqb-true}
@@ -9,16 +9,16 @@ use lib.ListN.{length, drop, length-append}
 use lib.Seq.{drop-at}
 use Rattle.number.specs.NumberLaws.{Bytes, bytes-drop}
 use Rattle.machine.specs.Map.{Map, total}
-use Rattle.machine.specs.State.{Part, partsIn, held}
+use Rattle.machine.specs.State.{Part, partsIn}
 use Rattle.machine.specs.Valid.{Valid}
 use Rattle.row.specs.Fields.{fields, numbersAt}
 use Rattle.row.specs.FieldLaws.{fields-numbers}
-use Rattle.row.specs.Row.{Row, encodeRows, contentsOf, rowsAt, pastRows, pastData, good}
+use Rattle.row.specs.Row.{Row, encodeRows, contentsOf, pastRows, pastData, good}
 use Rattle.row.specs.RowLaws.{EncodableAll, Follows, encode-append, contents-append, rows-sound, contents-sound, follows-sound, encodable-sound, length-rowsAt}
 use Rattle.layout.specs.declared.Mark.{Mark}
 use Rattle.layout.specs.declared.Header.{Header}
 use Rattle.layout.specs.Rules.{objectOk, objectNext, entryOk, entryNext, start}
-use Rattle.layout.specs.Memory.{objectRows, partRows, uploadRows, rowsOf, headerWidths, encodeHeader, headerAt, tablesLength, arenaMost, nest, opens, objectRowsAt, uploadTables, uploadArena, uploadRowsAt, stateOf, headerOk, objectsGood, uploadsGood, whole, Stands}
+use Rattle.layout.specs.Memory.{partRows, uploadRows, rowsOf, headerWidths, encodeHeader, headerAt, tablesLength, arenaMost, nest, opens, objectRowsAt, uploadTables, uploadArena, uploadRowsAt, stateOf, headerOk, objectsGood, uploadsGood, whole, Stands}
 use Rattle.layout.specs.TestLaws.{all-true}
 use Rattle.layout.specs.ObjectLaws.{object-rows-same, objects-ascending, objects-ok, length-objects}
 use Rattle.layout.specs.UploadLaws.{Nested, nested, length-uploads, length-upload-rows}

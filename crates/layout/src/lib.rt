@@ -1,6 +1,12 @@
 // What tables and arena stand for: definitions, and the header.
 pub mod headers;
 
+// Where a row stands in the tables, and its data in the arena.
+pub struct Offset {
+    pub at: usize,
+    pub base: usize,
+}
+
 // The upload passed last, and its part passed last; 0 for none.
 pub struct Mark {
     pub upload: u32,

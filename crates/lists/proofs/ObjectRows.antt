@@ -1,18 +1,18 @@
 -- The row of an object, and what LIST writes for it. Assumes nothing.
-use Prim.Native.Nat.{ℕ, suc, _+_, _*_, _≤_, _<_}
+use Prim.Native.Nat.{ℕ, _+_, _*_, _≤_, _<_}
 use mathlib.Core.Path.{_≡_, refl, sym, ap, _∙_}
 use mathlib.Core.Bool.{Bool, true, false, cond, _&&_}
-use mathlib.Core.List.{List, [], _∷_, _++_, append-assoc}
+use mathlib.Core.List.{List, [], _∷_, _++_, append-nil}
 use native.Mathlib.Numerals.{add-one}
 use native.Mathlib.Omega.{arith}
-use lib.ListN.{length, getD, take, drop, length-append}
-use lib.Seq.{take-suc, split-at, take-all}
+use lib.ListN.{length, take, drop, length-append}
+use lib.Seq.{take-all}
 use Rattle.number.specs.Number.{le}
 use Rattle.order.specs.Order.{begins, ends}
 use Rattle.order.specs.OrderLaws.{bytes}
 use Rattle.machine.specs.Map.{Map, records}
 use Rattle.machine.specs.Names.{Bytes}
-use Rattle.machine.specs.Etags.{absent, text}
+use Rattle.machine.specs.Etags.{text}
 use Rattle.machine.specs.State.{Object, State}
 use Rattle.machine.specs.Steps.{listed, listRecord}
 use Rattle.machine.specs.Valid.{ObjectOk}
@@ -22,47 +22,17 @@ use Rattle.machine.proofs.MapLaws.{every-lookup}
 use Rattle.row.specs.declared.Head.{Head}
 use Rattle.row.specs.Row.{Row, encodeRows, headAt, digestAt, pathAt, headOf}
 use Rattle.row.specs.RowLaws.{path-back, digest-back}
-use Rattle.layout.specs.Memory.{objectRow, objectRows, uploadRows, rowsOf, Stands}
+use Rattle.layout.specs.Memory.{objectRows, Stands}
 use Rattle.layout.specs.ObjectLaws.{object-back}
 use Rattle.find.proofs.RowsAt.{At, row-at}
-use Rattle.find.proofs.Splits.{object-rows-append}
+use Rattle.find.proofs.ObjectAt.{blank, entry, row, front, rest, split, next-front}
 use Rattle.lists.specs.Rows.{lists, textAt, recordAt, rowBytes}
 
-append-nil : (xs : List ℕ) → xs ++ [] ≡ xs
-append-nil [] = refl
-append-nil (x ∷ xs) = ap (λ (r : List ℕ). x ∷ r) (append-nil xs)
-
-abbrev blank : Bytes × Object
-blank = ([], record { content = []; created = 0; etag = absent })
-
 module _ (t a : List ℕ) (s : State) (h : Stands t a s) (i at : ℕ) (here : at ≡ 18 + length (encodeRows (objectRows (take i (s .O))))) (l : i < length (s .O)) where
-  abbrev entry : Bytes × Object
-  entry = getD (s .O) i blank
+  row-here : At t a s h (front s i) (row s i) (rest s i)
+  row-here = row-at t a s h (front s i) (row s i) (rest s i) (split s i l)
 
-  abbrev row : Row
-  row = objectRow (entry .0) (entry .1)
-
-  unfoldable front : List Row
-  front = objectRows (take i (s .O))
-
-  unfoldable rest : List Row
-  rest = objectRows (drop (suc i) (s .O)) ++ uploadRows (s .U)
-
-  split : rowsOf s ≡ front ++ (row ∷ rest)
-  unfolding rowsOf objectRows front rest
-  split =
-      ap (λ (m : Map Bytes Object). objectRows m ++ uploadRows (s .U)) (split-at (s .O) i blank l)
-      ∙ ap (λ (rs : List Row). rs ++ uploadRows (s .U)) (object-rows-append (take i (s .O)) (entry ∷ drop (suc i) (s .O)))
-      ∙ append-assoc (objectRows (take i (s .O))) (row ∷ objectRows (drop (suc i) (s .O))) (uploadRows (s .U))
-
-  next-front : objectRows (take (i + 1) (s .O)) ≡ front ++ (row ∷ [])
-  unfolding objectRows front
-  next-front = ap (λ (n : ℕ). objectRows (take n (s .O))) (add-one i) ∙ ap objectRows (take-suc (s .O) i blank l) ∙ object-rows-append (take i (s .O)) (entry ∷ [])
-
-  row-here : At t a s h front row rest
-  row-here = row-at t a s h front row rest split
-
-  head-here : headAt (drop at t) ≡ headOf row
+  head-here : headAt (drop at t) ≡ headOf (row s i)
   unfolding front
   head-here = ap (λ (n : ℕ). headAt (drop n t)) here ∙ row-here .head
 
@@ -73,32 +43,32 @@ module _ (t a : List ℕ) (s : State) (h : Stands t a s) (i at : ℕ) (here : at
   pub row-next : at + 36 + headAt (drop at t) .pathlen ≡ 18 + length (encodeRows (objectRows (take (i + 1) (s .O))))
   unfolding front
   row-next =
-      let q : 18 + length (encodeRows (front ++ (row ∷ []))) ≡ at + 36 + headAt (drop at t) .pathlen = omega (arith, row-here .next, ap (λ (x : Head). x .pathlen) head-here) in
-      sym (ap (λ (rs : List Row). 18 + length (encodeRows rs)) next-front ∙ q)
+      let q : 18 + length (encodeRows (front s i ++ (row s i ∷ []))) ≡ at + 36 + headAt (drop at t) .pathlen = omega (arith, row-here .next, ap (λ (x : Head). x .pathlen) head-here) in
+      sym (ap (λ (rs : List Row). 18 + length (encodeRows rs)) (next-front s i l) ∙ q)
 
-  path-here : pathAt (drop at t) ≡ entry .0
+  path-here : pathAt (drop at t) ≡ entry s i .0
   unfolding front
-  path-here = ap (λ (n : ℕ). pathAt (drop n t)) here ∙ ap pathAt (row-here .row) ∙ path-back row (row-here .encodable) _ []
+  path-here = ap (λ (n : ℕ). pathAt (drop n t)) here ∙ ap pathAt (row-here .row) ∙ path-back (row s i) (row-here .encodable) _ []
 
-  digest-here : digestAt (drop at t) ≡ row .digest
+  digest-here : digestAt (drop at t) ≡ row s i .digest
   unfolding front
-  digest-here = ap (λ (n : ℕ). digestAt (drop n t)) here ∙ ap digestAt (row-here .row) ∙ digest-back row (row-here .encodable) _ []
+  digest-here = ap (λ (n : ℕ). digestAt (drop n t)) here ∙ ap digestAt (row-here .row) ∙ digest-back (row s i) (row-here .encodable) _ []
 
-  ok : ObjectOk (entry .0) (entry .1)
-  ok = every-lookup bytes ObjectOk (entry .0) (entry .1) (s .O) (h .valid .object) (lookup-key bytes blank i (s .O) (h .valid .objects) l)
+  ok : ObjectOk (entry s i .0) (entry s i .1)
+  ok = every-lookup bytes ObjectOk (entry s i .0) (entry s i .1) (s .O) (h .valid .object) (lookup-key bytes blank i (s .O) (h .valid .objects) l)
 
-  pub record-here : recordAt (drop at t) ≡ listRecord (entry .0) (entry .1)
+  pub record-here : recordAt (drop at t) ≡ listRecord (entry s i .0) (entry s i .1)
   unfolding recordAt textAt listRecord
   record-here =
       rw (head-here, path-here, digest-here)
-      (ap (λ (x : Object). length (entry .0) ∷ entry .0 ++ (le 4 (length (entry .1 .content)) ++ (le 8 (entry .1 .created) ++ length (text (x .etag)) ∷ text (x .etag)))) (object-back (entry .1) (ok .etag) (entry .0)))
+      (ap (λ (x : Object). length (entry s i .0) ∷ entry s i .0 ++ (le 4 (length (entry s i .1 .content)) ++ (le 8 (entry s i .1 .created) ++ length (text (x .etag)) ∷ text (x .etag)))) (object-back (entry s i .1) (ok .etag) (entry s i .0)))
 
   module _ (prefix suffix : Bytes) where
     abbrev m : Map Bytes Object
     m = listed prefix suffix (take i (s .O))
 
     abbrev more : Map Bytes Object
-    more = cond (lists prefix suffix (entry .0)) (entry ∷ []) []
+    more = cond (lists prefix suffix (entry s i .0)) (entry s i ∷ []) []
 
     listed-next : listed prefix suffix (take (i + 1) (s .O)) ≡ m ++ more
     unfolding listed lists
@@ -109,16 +79,16 @@ module _ (t a : List ℕ) (s : State) (h : Stands t a s) (i at : ℕ) (here : at
     bytes-next =
         ap (records listRecord) listed-next
         ∙ records-append listRecord m more
-        ∙ ap (λ (y : List ℕ). records listRecord m ++ y) (rw (path-here, record-here) (go (lists prefix suffix (entry .0))))
+        ∙ ap (λ (y : List ℕ). records listRecord m ++ y) (rw (path-here, record-here) (go (lists prefix suffix (entry s i .0))))
       where
-        go : (b : Bool) → records listRecord (cond b (entry ∷ []) []) ≡ cond b (listRecord (entry .0) (entry .1)) []
-        go true = append-nil (listRecord (entry .0) (entry .1))
+        go : (b : Bool) → records listRecord (cond b (entry s i ∷ []) []) ≡ cond b (listRecord (entry s i .0) (entry s i .1)) []
+        go true = append-nil (listRecord (entry s i .0) (entry s i .1))
         go false = refl
 
     pub count-next : length (listed prefix suffix (take (i + 1) (s .O))) ≡ length m + cond (lists prefix suffix (pathAt (drop at t))) 1 0
-    count-next = ap length listed-next ∙ length-append m more ∙ ap (λ (n : ℕ). length m + n) (rw path-here (go (lists prefix suffix (entry .0))))
+    count-next = ap length listed-next ∙ length-append m more ∙ ap (λ (n : ℕ). length m + n) (rw path-here (go (lists prefix suffix (entry s i .0))))
       where
-        go : (b : Bool) → length (cond b (entry ∷ []) []) ≡ cond b 1 0
+        go : (b : Bool) → length (cond b (entry s i ∷ []) []) ≡ cond b 1 0
         go true = refl
         go false = refl
 

@@ -11,6 +11,7 @@ use lib.ListN.{length, take, drop, set, length-append, length-drop, length-set}
 use lib.Seq.{drop-drop, length-take-le}
 use Rattle.number.specs.Number.{le}
 use Rattle.number.specs.NumberLaws.{length-le}
+use Rattle.number.proofs.Halves.{write-byte}
 use Rattle.number.proofs.Fields.{over, over-length}
 use Rattle.text.specs.Text.{hex, decimal}
 use Rattle.text.specs.TextLaws.{length-hex}
@@ -20,11 +21,11 @@ use Rattle.row.specs.Row.{headAt, digestAt, pathAt}
 use Rattle.layout.specs.Memory.{etagOf}
 use Rattle.lists.specs.Rows.{textAt, recordAt}
 use Rattle.lists.proofs.RowLengths.{record-length, text-plain, text-joined}
-use Rattle.lists.proofs.Front.{byte-over, over-next}
+use Rattle.lists.proofs.Front.{over-next}
 
 -- a byte, then the bytes y
 pub byte-next : (b b₁ y : List ℕ) (to v m : ℕ) → to + (1 + m) ≤ length b → b₁ ≡ over (set b to v) (to + 1) y m → b₁ ≡ over b to (v ∷ y) (1 + m)
-byte-next b b₁ y to v m room e = over-next b (set b to v) b₁ (v ∷ []) y to 1 m refl (omega arith) (byte-over b to v (omega arith)) e
+byte-next b b₁ y to v m room e = over-next b (set b to v) b₁ (v ∷ []) y to 1 m refl (omega arith) (write-byte b to v (omega arith)) e
 
 -- the length of the path, and the path
 module _ (t b : List ℕ) (at n to : ℕ) (inside : at + 36 + n ≤ length t) (room : to + (1 + n) ≤ length b) where
@@ -52,7 +53,7 @@ numbers-written b b₁ b₂ to size created n room e₁ e₂ =
     let two : b₂ ≡ over b to (x ++ y) 12 = over-next b b₁ b₂ x y to 4 8 (length-le 4 size) (omega arith) e₁ e₂ in
     let l : length (x ++ y) ≡ 12 = omega (arith, length-append x y, length-le 4 size, length-le 8 created) in
     let k : length b₂ ≡ length b = ap length two ∙ over-length b to (x ++ y) 12 l (omega arith) in
-    over-next b b₂ (set b₂ (to + 12) n) (x ++ y) (n ∷ []) to 12 1 l (omega arith) two (byte-over b₂ (to + 12) n (omega arith))
+    over-next b b₂ (set b₂ (to + 12) n) (x ++ y) (n ∷ []) to 12 1 l (omega arith) two (write-byte b₂ (to + 12) n (omega arith))
     ∙ ap (λ (z : List ℕ). over b to z 13) (append-assoc x y (n ∷ []))
 
 -- the text of an etag

@@ -1,8 +1,8 @@
 -- The lengths of LIST's and UPLOADS' records, and document 01's LIST after M5.
 -- Assumes nothing.
 use Prim.Native.Nat.{ℕ, _+_, _≤_, _<_}
-use mathlib.Core.Path.{_≡_, refl, ap, _∙_}
-use mathlib.Core.List.{List, [], _∷_, _++_}
+use mathlib.Core.Path.{_≡_, refl, _∙_}
+use mathlib.Core.List.{[], _∷_, _++_, append-nil}
 use native.Mathlib.Omega.{arith}
 use borrow.Author.Tests.{le-leb, lt-leb}
 use lib.ListN.{length, drop, length-append, drop-of-length-le}
@@ -44,10 +44,6 @@ m5-record = listRecord a (plainObject 5 xyz) ++ []
 m5-length : length m5-record ≡ 47
 unfolding m5-record text
 m5-length = omega (arith, length-append (listRecord a (plainObject 5 xyz)) [], length-listRecord a (plainObject 5 xyz), length-hex (md5 xyz), length-md5 xyz)
-
-append-nil : (xs : List ℕ) → xs ++ [] ≡ xs
-append-nil [] = refl
-append-nil (x ∷ xs) = ap (λ (r : List ℕ). x ∷ r) (append-nil xs)
 
 m5-bytes : m5-record ≡ 1 ∷ 97 ∷ 3 ∷ 0 ∷ 0 ∷ 0 ∷ 5 ∷ 0 ∷ 0 ∷ 0 ∷ 0 ∷ 0 ∷ 0 ∷ 0 ∷ 32 ∷ hex (md5 xyz)
 unfolding m5-record listRecord le text

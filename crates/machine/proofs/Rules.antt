@@ -2,7 +2,7 @@
 -- Assumes nothing.
 use Prim.Native.Nat.{ℕ}
 use mathlib.Core.Path.{_≡_}
-use mathlib.Core.Bool.{true, false, false≢true}
+use mathlib.Core.Bool.{true, false≢true}
 use mathlib.Core.List.{[]}
 use Rattle.machine.specs.Names.{Bytes, pathOk, requestPathOk, newPathOk, storedPathOk, requestPartOk, storedPartOk}
 

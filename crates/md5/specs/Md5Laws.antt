@@ -1,14 +1,14 @@
 -- The laws of digests: words of 32 bits, sixteen bytes, and the way from one to the other and back. Assumes nothing.
-use mathlib.Core.Path.{_≡_, refl, sym, ap, ap₂, _∙_}
-use mathlib.Core.List.{List, [], _∷_, _++_}
-use Prim.Native.Nat.{ℕ, zero, suc, _+_, _-_, _*_, _/_, _%_, _^_, _≤_, _<_}
+use mathlib.Core.Path.{_≡_, refl, sym, ap, _∙_}
+use mathlib.Core.List.{List, _++_}
+use Prim.Native.Nat.{ℕ, zero, suc, _+_, _-_, _*_, _/_, _^_, _≤_, _<_}
 use native.Mathlib.Nat.{mod-lt}
 use native.Mathlib.Omega.{arith}
 use lib.Dec.{lit<}
-use lib.ListN.{length, take, drop, length-append, length-drop, take-append-drop}
+use lib.ListN.{length, take, drop, length-drop, take-append-drop}
 use lib.Seq.{take-all, drop-drop, length-take-le}
-use Rattle.number.specs.Number.{le, fromLe}
-use Rattle.number.specs.NumberLaws.{Bytes, bytes-take, bytes-drop, bytes-le, bytes-append, length-le, fromLe-le, le-fromLe}
+use Rattle.number.specs.Number.{le}
+use Rattle.number.specs.NumberLaws.{Bytes, bytes-take, bytes-drop, bytes-le, bytes-append, fromLe-le, le-fromLe}
 use Rattle.md5.specs.declared.words.Digest.{Digest}
 use Rattle.md5.specs.Md5.{initial, added, compress, chain, padded, md5, word, bytesOf, fromBytes}
 

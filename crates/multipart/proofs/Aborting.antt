@@ -1,26 +1,21 @@
 -- ABORT: its refusal, and what it leaves. Assumes nothing.
 use Prim.Native.Nat.{ℕ}
 use mathlib.Core.Path.{_≡_, refl, sym, ap, _∙_}
-use mathlib.Core.Bool.{Bool, true, false}
+use mathlib.Core.Bool.{true, false}
 use mathlib.Core.List.{List, []}
-use mathlib.Core.Option.{Option, none, some}
 use lib.ListN.{length}
 use Rattle.machine.specs.Map.{byNumber, lookup}
-use Rattle.machine.specs.State.{Upload, State, withoutUpload}
-use Rattle.machine.specs.Calls.{ABORT, nothing, badRequest, Outcome, accept, code, given}
+use Rattle.machine.specs.State.{State, withoutUpload}
+use Rattle.machine.specs.Calls.{ABORT, nothing, badRequest, accept}
 use Rattle.machine.specs.Steps.{act}
 use Rattle.layout.specs.Memory.{whole, stateOf, Stands}
 use Rattle.find.specs.declared.Place.{Place}
 use Rattle.find.specs.Places.{isSome, uploadPlace}
-use Rattle.edit.proofs.ObjectEdits.{is-some}
+use Rattle.find.proofs.Found.{is-some, is-none}
 use Rattle.calls.specs.Answers.{accepted}
-use Rattle.calls.specs.Made.{Memory, memory, resultOf, outcome, Made}
+use Rattle.calls.specs.Made.{memory, resultOf, outcome, Made}
 use Rattle.calls.proofs.Judging.{result-found, result-missing, was-found}
 use Rattle.calls.proofs.MadeLaws.{done}
-
-pub is-none : {X : Type 0} (o : Option X) → isSome o ≡ false → o ≡ none
-is-none none e = refl
-is-none (some x) e = cc
 
 module _ (A : ℕ) (s : State) (u : ℕ) (place : Place) (is : place ≡ uploadPlace s u) where
   found-is : place .found ≡ isSome (lookup byNumber u (s .U))

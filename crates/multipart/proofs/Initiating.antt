@@ -1,7 +1,7 @@
 -- INITIATE: its refusals in checking order, and what it leaves. Assumes nothing.
 use Prim.Native.Nat.{ℕ, _+_, _≤_, _<_}
 use mathlib.Core.Path.{_≡_, refl, sym, ap, _∙_, subst}
-use mathlib.Core.Bool.{Bool, true, false, _&&_}
+use mathlib.Core.Bool.{true, false, _&&_}
 use mathlib.Core.List.{List, [], _∷_}
 use mathlib.Core.Option.{none}
 use native.Mathlib.Omega.{arith}
@@ -14,7 +14,7 @@ use Rattle.machine.specs.Map.{Map, byNumber, lookup, insert, Every}
 use Rattle.machine.specs.Names.{newPathOk, stampOk, lastUploadNumber}
 use Rattle.machine.specs.State.{Upload, State, counted, withUpload, withNext}
 use Rattle.machine.specs.Valid.{UploadOk, Valid}
-use Rattle.machine.specs.Calls.{INITIATE, number, badRequest, tableFull, numbersUsedUp, Outcome, accept, code, _else_then_}
+use Rattle.machine.specs.Calls.{INITIATE, number, badRequest, tableFull, numbersUsedUp, Outcome, accept, _else_then_}
 use Rattle.machine.specs.Steps.{act, newUpload, next}
 use Rattle.machine.proofs.Counts.{initiate-counted}
 use Rattle.machine.proofs.KeepsValid.{next-valid}

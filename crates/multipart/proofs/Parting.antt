@@ -1,9 +1,9 @@
 -- PART: its refusals in checking order, and what it leaves. Assumes nothing.
 use Prim.Native.Nat.{ℕ, _+_, _-_, _≤_, _<_}
-use mathlib.Core.Path.{_≡_, refl, sym, ap, _∙_, subst}
-use mathlib.Core.Bool.{Bool, true, false}
+use mathlib.Core.Path.{_≡_, sym, ap, _∙_, subst}
+use mathlib.Core.Bool.{true, false}
 use mathlib.Core.List.{List, []}
-use mathlib.Core.Option.{Option, none, some}
+use mathlib.Core.Option.{none, some}
 use native.Mathlib.Omega.{arith}
 use borrow.Author.Tests.{le-leb, lt-leb}
 use lib.Dec.{leb}
@@ -13,38 +13,36 @@ use Rattle.md5.specs.declared.words.Digest.{Digest}
 use Rattle.md5.specs.Md5 as rfc
 use Rattle.md5.specs.Md5.{bytesOf}
 use Rattle.md5.specs.DigestBytes.{digestBytes-is}
-use Rattle.order.specs.OrderLaws.{numbers}
-use Rattle.machine.specs.Map.{byNumber, lookup, insert, total, owed}
+use Rattle.machine.specs.Map.{byNumber, lookup, total}
 use Rattle.machine.specs.Names.{Bytes, requestPartOk}
 use Rattle.machine.specs.Digest.{md5}
 use Rattle.machine.specs.Etags.{plain}
-use Rattle.machine.specs.State.{Part, Upload, State, partLength, partsIn, held, counted, withUpload, withPart}
+use Rattle.machine.specs.State.{Part, Upload, State, partsIn, held, counted, withUpload, withPart}
 use Rattle.machine.specs.Valid.{Valid}
-use Rattle.machine.specs.Calls.{PART, etag, badRequest, tableFull, arenaFull, accept, Outcome, _else_then_, given}
+use Rattle.machine.specs.Calls.{PART, etag, badRequest, tableFull, arenaFull, accept, Outcome, _else_then_}
 use Rattle.machine.specs.Steps.{newPart, act, next}
 use Rattle.machine.proofs.Counts.{part-counted, held-part, parts-part}
 use Rattle.machine.proofs.KeepsValid.{next-valid}
 use Rattle.row.specs.declared.Head.{Head}
-use Rattle.row.specs.Row.{encodeRows, contentsOf, headAt}
+use Rattle.row.specs.Row.{encodeRows, headAt}
 use Rattle.layout.specs.declared.Header.{Header}
 use Rattle.layout.specs.Memory.{rowsOf, partRow, headerAt, whole, stateOf, Stands}
 use Rattle.layout.specs.RowCounts.{length-contents}
 use Rattle.layout.specs.WholeLaws.{whole-stands}
 use Rattle.layout.specs.StandsLaws.{header-back}
-use Rattle.find.specs.declared.Offset.{Offset}
+use Rattle.layout.specs.declared.Offset.{Offset}
 use Rattle.find.specs.declared.Place.{Place}
 use Rattle.find.specs.Places.{isSome, behind, beforePart, afterPart, partPlace, uploadPlace}
 use Rattle.find.proofs.Splits.{part-found}
 use Rattle.find.proofs.RowsAt.{At, row-at}
+use Rattle.find.proofs.Found.{is-some, is-none}
 use Rattle.edit.specs.Header.{headerOf}
-use Rattle.edit.proofs.ObjectEdits.{is-some}
 use Rattle.edit_uploads.specs.Parts.{partWith, PartPuttable}
 use Rattle.calls.specs.Answers.{accepted}
 use Rattle.calls.specs.Made.{memory, resultOf, outcome, Made}
-use Rattle.calls.proofs.Judging.{pass, stop, passed, result-found, result-missing, result-stop, result-pass, was-found}
+use Rattle.calls.proofs.Judging.{pass, stop, passed, result-found, result-missing, result-stop, was-found}
 use Rattle.calls.proofs.MadeLaws.{done}
 use Rattle.multipart.specs.Part.{partIn, partOutcome}
-use Rattle.multipart.proofs.Aborting.{is-none}
 
 -- the last two checks, by the numbers that code has at hand
 module _ (A : ℕ) (s : State) (v : Valid A s) (u n : ℕ) (d : Bytes) (x : Upload) (f : lookup byNumber u (s .U) ≡ some x) where

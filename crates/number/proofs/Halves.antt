@@ -16,13 +16,13 @@ module _ (b : List ℕ) (at : ℕ) where
   unfolding fromLe
   get-byte h = sym (ap (λ (l : List ℕ). fromLe (take 1 l)) (drop-cons b at 0 h) ∙ omega arith)
 
+  pub write-byte : (x : ℕ) → at < length b → set b at x ≡ take at b ++ (x ∷ []) ++ drop (at + 1) b
+  write-byte x h =
+      set-split b at x h ∙ ap (λ (k : ℕ). take at b ++ (x ∷ drop k b)) (sym (add-one at)) ∙ sym (append-assoc (take at b) (x ∷ []) (drop (at + 1) b))
+
   pub put-byte : (x : ℕ) → x < 256 → at < length b → set b at x ≡ take at b ++ le 1 x ++ drop (at + 1) b
   unfolding le
-  put-byte x small h =
-      set-split b at x h
-      ∙ ap (λ (k : ℕ). take at b ++ (x ∷ drop k b)) (sym (add-one at))
-      ∙ sym (append-assoc (take at b) (x ∷ []) (drop (at + 1) b))
-      ∙ ap (λ (y : ℕ). take at b ++ (y ∷ []) ++ drop (at + 1) b) (sym (mod-eq-of-lt small))
+  put-byte x small h = write-byte x h ∙ ap (λ (y : ℕ). take at b ++ (y ∷ []) ++ drop (at + 1) b) (sym (mod-eq-of-lt small))
 
   pub get-halves : (k lo hi : ℕ) → at + (k + k) ≤ length b → lo ≡ fromLe (take k (drop at b)) → hi ≡ fromLe (take k (drop (at + k) b))
       → lo + 256 ^ k * hi ≡ fromLe (take (k + k) (drop at b))

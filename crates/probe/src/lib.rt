@@ -1,6 +1,6 @@
 // The functions that bench/ measures, exported for C. Each answers 0, or 1 where its arguments do not fit, and then changes nothing.
 ghost use mathlib.Core.Path.{_≡_};
-ghost use Prim.Native.Nat.{_+_, _-_, _≤_};
+ghost use Prim.Native.Nat.{_+_, _-_};
 ghost use mathlib.Core.Bool.{_&&_};
 ghost use mathlib.Core.List.{_++_};
 ghost use lib.Dec.{eqb, leb};

@@ -9,7 +9,7 @@ use lib.ListN.{length, drop}
 use Rattle.number.specs.NumberLaws as number
 use Rattle.order.specs.Order.{byBytes}
 use Rattle.order.specs.OrderLaws.{bytes}
-use Rattle.machine.specs.Map.{Map, lookup}
+use Rattle.machine.specs.Map.{lookup}
 use Rattle.machine.specs.Names.{Bytes, requestPathOk}
 use Rattle.machine.specs.Etags.{absent}
 use Rattle.machine.specs.State.{Object, State}
@@ -18,7 +18,7 @@ use Rattle.machine.specs.Steps.{objectAt, replyOf}
 use Rattle.machine.specs.Valid.{ObjectOk}
 use Rattle.machine.proofs.MapLaws.{every-lookup}
 use Rattle.row.specs.declared.Head.{Head}
-use Rattle.row.specs.Row.{Row, headAt, rowAt}
+use Rattle.row.specs.Row.{headAt, rowAt}
 use Rattle.row.specs.RowLaws.{row-back}
 use Rattle.layout.specs.Memory.{whole, stateOf, objectRow, objectOf, Stands}
 use Rattle.layout.specs.ObjectLaws.{object-back}
@@ -28,7 +28,6 @@ use Rattle.find.specs.Places.{isSome, behind, beforeObject, afterObject, object
 use Rattle.find.proofs.RowsAt.{At, row-at}
 use Rattle.find.proofs.Splits.{object-found}
 use Rattle.calls.specs.Answers.{refused}
-use Rattle.reads.specs.declared.Named.{Named}
 use Rattle.reads.specs.declared.Named.the-variants as named
 use Rattle.reads.specs.Named.{namedIn, storedAt}
 

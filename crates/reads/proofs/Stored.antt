@@ -1,7 +1,7 @@
 -- What the code reads of an object in its row, and GET's reply about it. Assumes nothing.
 use Prim.Native.Nat.{ℕ, _+_, _-_, _≤_, _<_}
-use mathlib.Core.Path.{_≡_, refl, sym, ap, ap₂, _∙_}
-use mathlib.Core.List.{List, [], _++_}
+use mathlib.Core.Path.{_≡_, sym, ap, ap₂, _∙_}
+use mathlib.Core.List.{List, _++_}
 use native.Mathlib.Nat.{add-sub-cancel-left, zero-add}
 use native.Mathlib.Omega.{arith}
 use borrow.Author.Tests.{eq-eqb, ne-eqb}
@@ -15,7 +15,7 @@ use Rattle.types.specs.declared.Etag.{Etag}
 use Rattle.types.specs.declared.Metadata.{Metadata}
 use Rattle.types.specs.declared.GetAnswer.the-variants.{Refused, Found}
 use Rattle.machine.specs.State.{Object, State}
-use Rattle.machine.specs.Calls.{Answer, metadata}
+use Rattle.machine.specs.Calls.{metadata}
 use Rattle.machine.specs.Steps.{about, write, replyOf}
 use Rattle.machine.specs.Etags as machine
 use Rattle.machine.proofs.Records.{write-fits, write-short}

@@ -1,7 +1,7 @@
 -- Several numbers end to end, each in as many bytes as a list of widths says, low byte first. Assumes nothing.
-use Prim.Native.Nat.{ℕ, zero, suc, _+_, _<_, _^_}
+use Prim.Native.Nat.{ℕ, _+_, _<_, _^_}
 use mathlib.Core.List.{List, [], _∷_, _++_}
-use lib.ListN.{length, take, drop}
+use lib.ListN.{take, drop}
 use Rattle.number.specs.Number.{le, fromLe}
 
 abbrev pub width : List ℕ → ℕ

@@ -1,5 +1,5 @@
 -- The laws of rows: what is read was written so (sound), and what is written is read back (complete), for every rule. Assumes nothing.
-use Prim.Native.Nat.{ℕ, zero, suc, _+_, _≤_, _<_}
+use Prim.Native.Nat.{ℕ, zero, suc, _+_, _≤_}
 use mathlib.Core.Path.{_≡_, refl, sym, ap, ap₂, _∙_, subst}
 use mathlib.Core.Bool.{Bool, true, false, _&&_, false≢true}
 use mathlib.Core.List.{List, [], _∷_, _++_, append-assoc}
@@ -9,8 +9,7 @@ use lib.Dec.{leb}
 use lib.ListN.{length, take, drop, length-take, length-drop, length-append, take-append-drop}
 use lib.Seq.{drop-drop, take-at, drop-at, length-take-le}
 use Rattle.number.specs.NumberLaws.{Bytes, bytes-drop}
-use Rattle.row.specs.declared.Head.{Head}
-use Rattle.row.specs.Fields.{width, fields, numbersAt, Fit}
+use Rattle.row.specs.Fields.{fields, numbersAt, Fit}
 use Rattle.row.specs.FieldLaws.{length-fields, fields-numbers, numbers-fit, numbers-fields}
 use Rattle.row.specs.Row.{Row, widths, numbersOf, encodeRow, encodeRows, contentsOf, headFrom, headAt, digestAt, pathAt, spanAt, rowAt, inside, headOf, rowsAt, pastRows, pastData, good}
 

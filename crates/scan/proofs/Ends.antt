@@ -13,7 +13,7 @@ use Rattle.row.specs.RowLaws.{here-inside, rest-good}
 use Rattle.layout.specs.declared.Header.{Header}
 use Rattle.layout.specs.Rules.{all, objectOk, objectNext, start}
 use Rattle.layout.specs.Memory.{tablesLength, headerAt, headerOk, uploadTables, uploadArena, uploadRowsAt, objectsGood, uploadsGood, whole}
-use Rattle.scan.specs.declared.Offset.{Offset}
+use Rattle.layout.specs.declared.Offset.{Offset}
 use Rattle.scan.specs.declared.Scan.{Scan}
 use Rattle.scan.specs.declared.Scan.the-variants.{Bad, Good}
 use Rattle.scan.specs.Scan.{past, pastAll, objectScan, entriesOk, first, rowsOk}

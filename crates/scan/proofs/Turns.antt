@@ -11,7 +11,7 @@ use Rattle.number.specs.NumberLaws.{Bytes, bytes-drop}
 use Rattle.row.specs.declared.Head.{Head}
 use Rattle.row.specs.Row.{Row, headAt, digestAt, pathAt, spanAt, rowAt, inside, headOf, good}
 use Rattle.row.specs.RowLaws.{Inside, inside-true, head-at}
-use Rattle.scan.specs.declared.Offset.{Offset}
+use Rattle.layout.specs.declared.Offset.{Offset}
 use Rattle.scan.specs.declared.Reading.the-variants.{Short, Fits}
 use Rattle.scan.specs.Scan.{readingOf, past, pastAll}
 

@@ -1,9 +1,10 @@
 // The test "whole", over any bytes.
-pub mod entries;
-pub mod objects;
-pub mod rows;
+mod entries;
+mod objects;
+mod rows;
 
 use layout::Header;
+use layout::Offset;
 use layout::headers;
 use row::Head;
 ghost use mathlib.Core.Path.{_≡_};
@@ -11,12 +12,6 @@ ghost use Prim.Native.Nat.{_≤_};
 ghost use lib.ListN.{length};
 ghost use Rattle.scan.specs.Scan.{rowsOk};
 ghost use Rattle.layout.specs.Memory as memory;
-
-// The start of a row in the tables, and of its data in the arena.
-pub struct Offset {
-    pub at: usize,
-    pub base: usize,
-}
 
 // What stands at an offset: the head of a row that fits there with its data.
 pub enum Reading {

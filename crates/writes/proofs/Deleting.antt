@@ -15,13 +15,12 @@ use Rattle.machine.specs.Steps.{act}
 use Rattle.layout.specs.Memory.{Stands}
 use Rattle.find.specs.declared.Place.{Place}
 use Rattle.find.specs.Places.{isSome, objectPlace}
-use Rattle.edit.proofs.ObjectEdits.{is-some}
+use Rattle.find.proofs.Found.{is-some, is-none}
 use Rattle.edit.proofs.PutLaws.{place-found}
 use Rattle.calls.specs.Answers.{doneReply}
 use Rattle.calls.specs.Made.{Memory, wholeMemory, stateIn, outcome, resultOf, Made}
 use Rattle.calls.proofs.MadeLaws.{done}
 use Rattle.calls.proofs.Judging.{result-pass, result-stop, result-found, result-missing, passed, was-found}
-use Rattle.writes.proofs.Room.{is-none}
 
 -- DELETE over the memory m
 module _ (m : Memory) (p : Bytes) where

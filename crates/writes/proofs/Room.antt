@@ -1,9 +1,9 @@
 -- What `room_judge` reads is what the checks of an object put at a path ask. Assumes nothing.
 use Prim.Native.Nat.{ℕ, _+_, _-_, _≤_, _<_}
-use mathlib.Core.Path.{_≡_, refl, sym, ap, _∙_}
+use mathlib.Core.Path.{_≡_, sym, ap, _∙_}
 use mathlib.Core.Bool.{true, false, cond}
 use mathlib.Core.List.{List}
-use mathlib.Core.Option.{Option, none, some}
+use mathlib.Core.Option.{none, some}
 use native.Mathlib.Omega.{arith}
 use lib.Dec.{leb}
 use lib.ListN.{length, drop}
@@ -18,19 +18,16 @@ use Rattle.layout.specs.declared.Header.{Header}
 use Rattle.layout.specs.Memory.{rowsOf, objectRow, headerAt, whole, stateOf, Stands}
 use Rattle.layout.specs.RowCounts.{length-contents}
 use Rattle.layout.specs.WholeLaws.{whole-stands}
-use Rattle.find.specs.declared.Offset.{Offset}
+use Rattle.layout.specs.declared.Offset.{Offset}
 use Rattle.find.specs.declared.Place.{Place}
 use Rattle.find.specs.Places.{isSome, behind, beforeObject, afterObject, objectPlace}
 use Rattle.find.proofs.Splits.{object-found}
 use Rattle.find.proofs.RowsAt.{row-at}
-use Rattle.edit.proofs.ObjectEdits.{is-some, header-is}
+use Rattle.find.proofs.Found.{is-some, is-none}
+use Rattle.edit.proofs.ObjectEdits.{header-is}
 use Rattle.edit.proofs.PutLaws.{place-found}
 use Rattle.calls.specs.Made.{resultOf}
 use Rattle.writes.proofs.Putting.{object-share, room-old, room-new, room-none}
-
-pub is-none : {X : Type 0} (o : Option X) → isSome o ≡ false → o ≡ none
-is-none none e = refl
-is-none (some x) e = cc
 
 module _ (t a : List ℕ) (b : Bytes t) (w : whole t a ≡ true) (p : List ℕ) (place : Place) (place-is : place ≡ objectPlace (stateOf t a) p)
     (end : Offset) (end-is : end ≡ behind (rowsOf (stateOf t a))) where

@@ -41,7 +41,13 @@ pub fn room_judge(tables: &[u8], arena: &[u8], path: &[u8], n: usize) -> u8
     arena_judge(held, n, arena.len())
 }
 
-pub fn put_judge(tables: &[u8], arena: &[u8], stamp: Stamp, path: &[u8], content: &[u8]) -> u8
+pub(crate) fn put_judge(
+    tables: &[u8],
+    arena: &[u8],
+    stamp: Stamp,
+    path: &[u8],
+    content: &[u8],
+) -> u8
     requires { ⌜ whole (now tables) (now arena) ≡ true ⌝ }
     ensures { λ r. ⌜ r ≡ resultOf (outcome (Call.PUT (stamp .0) (now (path .entry)) (now (content .entry))) (memory (now (tables .entry)) (now (arena .entry)))) ⌝ }
 {
@@ -54,7 +60,7 @@ pub fn put_judge(tables: &[u8], arena: &[u8], stamp: Stamp, path: &[u8], content
     room_judge(tables, arena, path, content.len())
 }
 
-pub fn delete_judge(tables: &[u8], arena: &[u8], path: &[u8]) -> u8
+pub(crate) fn delete_judge(tables: &[u8], arena: &[u8], path: &[u8]) -> u8
     requires { ⌜ whole (now tables) (now arena) ≡ true ⌝ }
     ensures { λ r. ⌜ r ≡ resultOf (outcome (Call.DELETE (now (path .entry))) (memory (now (tables .entry)) (now (arena .entry)))) ⌝ }
 {

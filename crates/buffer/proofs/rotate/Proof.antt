@@ -1,6 +1,6 @@
 -- `buffer::rotate` meets its contract. The invariant: what is left to rotate, from `from` on, gives what the whole rotation gives. Assumes nothing.
 use mathlib.Core.Path.{_≡_, refl, _∙_}
-use Prim.Native.Nat.{_+_}
+use Prim.Native.Nat.{_+_, _≤_}
 use lib.ListN.{length}
 use native.Mathlib.Omega.{arith}
 use Rattle.buffer.specs.Buffer.{rotated}
@@ -9,13 +9,13 @@ use Rattle.buffer.proofs.rotate.Statement.{statement}
 use Rattle.buffer.proofs.rotate.Tie as tie
 
 abbrev Inv-loop : tie.InvT-loop
-Inv-loop b₀ at left right from₀ l₀ r₀ b from l r = (from + l + r ≡ at + left + right) × (length b ≡ length b₀) × (rotated b from l r ≡ rotated b₀ at left right)
+Inv-loop b₀ at left right from₀ l₀ r₀ b from l r = (from + l + r ≤ at + left + right) × (length b ≡ length b₀) × (rotated b from l r ≡ rotated b₀ at left right)
 
 abbrev μ-loop : tie.MeasureT-loop
 μ-loop b₀ at left right from₀ l₀ r₀ b from l r = l + r
 
 loop-holds : tie.Need-loop-holds Inv-loop μ-loop
-loop-holds c = (refl, refl, refl)
+loop-holds c = (omega arith, refl, refl)
 
 rotate-small-right-requires : tie.Need-rotate-small-right-requires Inv-loop μ-loop
 rotate-small-right-requires c κs = omega arith
@@ -41,9 +41,6 @@ add-swap c = omega arith
 swap-requires : tie.Need-swap-requires Inv-loop μ-loop
 swap-requires c κs = omega arith
 
-add-from : tie.Need-add-from Inv-loop μ-loop
-add-from c = omega arith
-
 loop-less : tie.Need-loop-less Inv-loop μ-loop
 loop-less c = omega arith
 
@@ -59,8 +56,8 @@ add-swap-2 c = omega arith
 swap-requires-2 : tie.Need-swap-requires-2 Inv-loop μ-loop
 swap-requires-2 c κs = omega arith
 
-add-from-2 : tie.Need-add-from-2 Inv-loop μ-loop
-add-from-2 c = omega arith
+add-from : tie.Need-add-from Inv-loop μ-loop
+add-from c = omega arith
 
 sub-l : tie.Need-sub-l Inv-loop μ-loop
 sub-l c = omega arith
@@ -114,12 +111,11 @@ rotate-spec =
     returns-2
     add-swap
     swap-requires
-    add-from
     loop-less
     loop-again
     add-swap-2
     swap-requires-2
-    add-from-2
+    add-from
     sub-l
     loop-less-2
     loop-again-2

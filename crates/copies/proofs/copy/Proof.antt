@@ -6,7 +6,6 @@ use Rattle.machine.specs.Calls.{COPY}
 use Rattle.calls.specs.Made.{memory}
 use Rattle.calls.proofs.MadeLaws.{not-whole, judged}
 use Rattle.copies.proofs.Sources.{copy-there, copy-ready, copy-made}
-use native.Mathlib.Omega.{arith}
 use borrow.Author.Needs.{needs}
 use Rattle.copies.proofs.copy.Statement.{statement}
 use Rattle.copies.proofs.copy.Tie as tie

@@ -6,7 +6,6 @@ use lib.ListN.{length}
 use Rattle.layout.specs.Memory.{stateOf}
 use Rattle.edit.proofs.PutLaws.{place-found}
 use Rattle.copies.proofs.Sources.{head-inside, judged-source, judged-missing}
-use native.Mathlib.Omega.{arith}
 use borrow.Author.Needs.{needs}
 use Rattle.copies.proofs.source_judge.Statement.{statement}
 use Rattle.copies.proofs.source_judge.Tie as tie

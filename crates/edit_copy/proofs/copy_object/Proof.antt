@@ -1,5 +1,5 @@
 -- `edit_copy::copy_object` meets its contract: by whether the paths are the same. Assumes nothing.
-use mathlib.Core.Path.{sym, _∙_, ap, subst}
+use mathlib.Core.Path.{sym, _∙_, subst}
 use mathlib.Core.List.{List}
 use Prim.Native.Nat.{ℕ}
 use Rattle.order.specs.OrderLaws.{same-true}
@@ -8,7 +8,6 @@ use Rattle.layout.specs.Memory.{stateOf, Stands}
 use Rattle.edit.specs.Objects.{plainWith}
 use Rattle.edit_copy.specs.Copy.{contentAt}
 use Rattle.edit_copy.proofs.Copying.{same-path}
-use native.Mathlib.Omega.{arith}
 use borrow.Author.Needs.{needs}
 use Rattle.edit_copy.proofs.copy_object.Statement.{statement}
 use Rattle.edit_copy.proofs.copy_object.Tie as tie

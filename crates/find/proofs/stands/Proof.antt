@@ -1,7 +1,7 @@
 -- `find::stands` meets its contract: the row's head has its kind and its number. Assumes nothing.
 use Prim.Native.Nat.{ℕ, _+_, _≤_, _<_}
 use mathlib.Core.Path.{_≡_, sym, ap, _∙_}
-use mathlib.Core.Bool.{Bool, _&&_}
+use mathlib.Core.Bool.{_&&_}
 use mathlib.Core.List.{List}
 use native.Mathlib.Omega.{arith}
 use borrow.Author.Needs.{needs}
@@ -13,7 +13,7 @@ use Rattle.row.specs.declared.Head.{Head}
 use Rattle.layout.specs.Memory.{stateOf, rowsOf, Stands}
 use Rattle.layout.specs.WholeLaws.{whole-stands}
 use Rattle.find.specs.Search.{leads}
-use Rattle.find.proofs.Walk.{Reached, Turn, spot-reached, row-inside, row-turn, leads-none, leads-row}
+use Rattle.find.proofs.Walk.{Reached, spot-reached, row-inside, row-turn, leads-none, leads-row}
 use Rattle.find.proofs.stands.Statement.{statement}
 use Rattle.find.proofs.stands.Tie as tie
 use Rattle.find.proofs.stands.Reads as reads

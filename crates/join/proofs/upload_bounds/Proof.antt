@@ -9,7 +9,7 @@ use Rattle.machine.specs.Map.{byNumber, lookup}
 use Rattle.machine.specs.State.{Upload, State}
 use Rattle.layout.specs.Memory.{stateOf, Stands}
 use Rattle.layout.specs.WholeLaws.{whole-stands}
-use Rattle.edit.proofs.ObjectEdits.{is-some}
+use Rattle.find.proofs.Found.{is-some}
 use Rattle.join.proofs.UploadBounds.{count-small, rows-behind, base-behind, bounds-are}
 use Rattle.join.proofs.upload_bounds.Statement.{statement}
 use Rattle.join.proofs.upload_bounds.Tie as tie

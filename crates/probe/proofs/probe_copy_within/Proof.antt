@@ -1,5 +1,4 @@
 -- `probe::probe_copy_within` meets its contract: what the tests refuse is what does not fit. Assumes nothing.
-use native.Mathlib.Omega.{arith}
 use mathlib.Core.Path.{refl}
 use Rattle.probe.proofs.Tests.{failed, passed}
 use borrow.Author.Tests.{leb-true}

@@ -3,7 +3,6 @@ use Rattle.number.specs.NumberLaws.{Bytes}
 use Rattle.edit.proofs.PutLaws.{place-found, free-already}
 use Rattle.layout.specs.Memory.{stateOf}
 use mathlib.Core.Bool.{true, false}
-use native.Mathlib.Omega.{arith}
 use borrow.Author.Needs.{needs}
 use Rattle.edit.proofs.objects.free_path.Statement.{statement}
 use Rattle.edit.proofs.objects.free_path.Tie as tie

@@ -6,7 +6,6 @@ use Rattle.layout.specs.Memory.{stateOf}
 use Rattle.layout.specs.WholeLaws.{whole-stands}
 use Rattle.layout.specs.StandsLaws.{stands-whole}
 use Rattle.edit.proofs.PutLaws.{put-room, put-addable, put-stands}
-use native.Mathlib.Omega.{arith}
 use borrow.Author.Needs.{needs}
 use Rattle.edit.proofs.objects.put_object.Statement.{statement}
 use Rattle.edit.proofs.objects.put_object.Tie as tie

@@ -1,9 +1,9 @@
 -- `edit::rows::insert_row` meets its contract: the row is written to a local array, whose front is spliced in. Assumes nothing.
-use Prim.Native.Nat.{ℕ, _+_, _≤_}
+use Prim.Native.Nat.{ℕ, _+_}
 use mathlib.Core.Path.{_≡_, refl, sym, ap, _∙_}
 use mathlib.Core.List.{List}
 use native.Mathlib.Omega.{arith}
-use lib.ListN.{length, take, drop}
+use lib.ListN.{length, take}
 use Rattle.md5.specs.Md5.{bytesOf}
 use Rattle.md5.specs.Md5Laws.{length-bytesOf}
 use Rattle.buffer.specs.Buffer.{spliced}

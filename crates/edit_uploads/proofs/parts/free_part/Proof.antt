@@ -1,7 +1,7 @@
 -- `edit_uploads::parts::free_part` meets its contract: taken out where it is found. Assumes nothing.
 use Rattle.machine.specs.Map.{byNumber, lookup}
 use Rattle.layout.specs.Memory.{stateOf}
-use Rattle.edit.proofs.ObjectEdits.{is-some}
+use Rattle.find.proofs.Found.{is-some}
 use Rattle.edit_uploads.proofs.PartPuts.{free-there, free-already}
 use borrow.Author.Needs.{needs}
 use Rattle.edit_uploads.proofs.parts.free_part.Statement.{statement}

@@ -1,5 +1,5 @@
 -- `md5::block::blocks` meets its contract. The loop's invariant: v is the chain over the first i blocks. The measure is the blocks left. Assumes nothing.
-use Prim.Native.Nat.{ℕ, _-_, _*_, _≤_}
+use Prim.Native.Nat.{_-_, _*_, _≤_}
 use mathlib.Core.Path.{_≡_, refl, ap, _∙_}
 use native.Mathlib.Omega.{arith}
 use lib.ListN.{length, length-take, length-drop}

@@ -5,7 +5,6 @@ use Rattle.machine.specs.Calls.{ABORT}
 use Rattle.calls.specs.Made.{memory, outcome}
 use Rattle.calls.proofs.MadeLaws.{not-whole, judged}
 use Rattle.multipart.proofs.Aborting.{abort-there, abort-made}
-use native.Mathlib.Omega.{arith}
 use borrow.Author.Needs.{needs}
 use Rattle.multipart.proofs.abort.abort.Statement.{statement}
 use Rattle.multipart.proofs.abort.abort.Tie as tie

@@ -3,7 +3,6 @@ use Rattle.number.specs.NumberLaws.{Bytes}
 use mathlib.Core.Path.{sym, _∙_}
 use borrow.Author.Tests.{not-true, not-false}
 use Rattle.multipart.proofs.Initiating.{header-inside, bad-stamp, bad-path, full, used-up, opened}
-use native.Mathlib.Omega.{arith}
 use borrow.Author.Needs.{needs}
 use Rattle.multipart.proofs.initiate.initiate_judge.Statement.{statement}
 use Rattle.multipart.proofs.initiate.initiate_judge.Tie as tie

@@ -6,7 +6,6 @@ use Rattle.machine.specs.Calls.{PART}
 use Rattle.calls.specs.Made.{memory, outcome}
 use Rattle.calls.proofs.MadeLaws.{not-whole, judged}
 use Rattle.multipart.proofs.Parting.{part-ready, part-made}
-use native.Mathlib.Omega.{arith}
 use borrow.Author.Needs.{needs}
 use Rattle.multipart.proofs.part.part.Statement.{statement}
 use Rattle.multipart.proofs.part.part.Tie as tie

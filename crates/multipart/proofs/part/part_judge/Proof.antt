@@ -4,7 +4,6 @@ use borrow.Author.Tests.{not-true, not-false}
 use lib.ListN.{length}
 use Rattle.layout.specs.Memory.{stateOf}
 use Rattle.multipart.proofs.Parting.{bad-number, not-open, open-found, part-judged}
-use native.Mathlib.Omega.{arith}
 use borrow.Author.Needs.{needs}
 use Rattle.multipart.proofs.part.part_judge.Statement.{statement}
 use Rattle.multipart.proofs.part.part_judge.Tie as tie

@@ -1,0 +1,118 @@
+// A line's fields, separated by one space.
+ghost use Prim.Native.Nat.{_+_, _≤_};
+ghost use lib.ListN.{length};
+ghost use Rattle.io.specs.Counts.{Counts};
+
+// The index of the first such byte, from an index on; the text's length where there is none.
+pub fn find(text: &[u8], from: usize, byte: u8) -> usize
+    requires { ⌜ from ≤ length (now text) ⌝ }
+    ensures { λ r. ⌜ (from ≤ r) × (r ≤ length (now (text .entry))) ⌝ }
+{
+    let mut i = from;
+    while i < text.len() {
+        if text[i] == byte {
+            return i;
+        }
+        i += 1;
+    }
+    i
+}
+
+// One further, where such a byte stands there.
+fn skip(text: &[u8], at: usize, byte: u8) -> usize
+    requires { ⌜ at ≤ length (now text) ⌝ }
+    ensures { λ r. ⌜ (at ≤ r) × (r ≤ length (now (text .entry))) ⌝ }
+{
+    if at < text.len() {
+        if text[at] == byte {
+            return at + 1;
+        }
+    }
+    at
+}
+
+// Where field k starts; the line's length where it has no such field.
+fn start(line: &[u8], k: usize) -> usize
+    ensures { λ r. ⌜ r ≤ length (now (line .entry)) ⌝ }
+{
+    let mut at = 0;
+    for _ in 0..k {
+        at = find(line, at, b' ');
+        at = skip(line, at, b' ');
+    }
+    at
+}
+
+// Field k, counted from 0; `~` is the empty field, and so is one that the line lacks.
+pub fn field(line: &[u8], k: usize) -> &[u8] {
+    let at = start(line, k);
+    let from = skip(line, at, b'~');
+    let to = find(line, from, b' ');
+    &line[from..to]
+}
+
+// The number that the text begins with.
+pub fn decimal(text: &[u8]) -> u64 {
+    let mut n: u64 = 0;
+    let mut i = 0;
+    while i < text.len() {
+        let digit = number::wide(text[i]);
+        if digit < 48 {
+            return n;
+        }
+        if 57 < digit {
+            return n;
+        }
+        if 1000000000000000000 <= n {
+            return n;
+        }
+        n = 10 * n + (digit - 48) as u64;
+        i += 1;
+    }
+    n
+}
+
+// The number in field k, or `most` where it is more.
+pub fn number(line: &[u8], k: usize, most: u64) -> u64
+    ensures { λ r. ⌜ r ≤ most ⌝ }
+{
+    let n = decimal(field(line, k));
+    if most < n { most } else { n }
+}
+
+// A part number; 65,535, which is none, where it is more.
+pub fn part_number(text: &[u8]) -> u16 {
+    let n = decimal(text);
+    if 65535 < n { 65535 } else { n as u16 }
+}
+
+// An entry of a part list, at index n. `+` is one odd byte. Answers the index behind it.
+fn put_entry(text: &[u8], out: &mut [u8], n: usize) -> usize
+    requires { ⌜ n + 2 ≤ length (now out) ⌝ }
+    ensures { λ r. ⌜ r ≤ n + 2 ⌝ }
+{
+    if text.len() == 1 {
+        if text[0] == b'+' {
+            return n + 1;
+        }
+    }
+    number::put_u16(out, n, part_number(text));
+    n + 2
+}
+
+// Part numbers, separated by commas, as COMMIT takes them: 16-bit numbers, low byte first. Answers their bytes.
+pub fn part_list(list: &[u8], out: &mut [u8]) -> usize
+    ensures { λ r. ⌜ Counts r (now (out .exit)) ⌝ }
+{
+    let mut at = 0;
+    let mut n: usize = 0;
+    while at < list.len() {
+        if out.len() < n + 2 {
+            return n;
+        }
+        let end = find(list, at, b',');
+        n = put_entry(&list[at..end], out, n);
+        at = end + 1;
+    }
+    n
+}

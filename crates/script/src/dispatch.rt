@@ -1,0 +1,162 @@
+// The call that a line says.
+use lines::answers::print_buffer;
+use lines::answers::print_done;
+use lines::answers::print_found;
+use lines::answers::print_front;
+use lines::answers::print_opened;
+use lines::answers::print_result;
+use lines::answers::print_stored;
+use lines::answers::print_written;
+use lines::fields::field;
+use lines::fields::number;
+use lines::fields::part_list;
+use lines::fields::part_number;
+use lines::words::ABORT;
+use lines::words::ARENA;
+use lines::words::COMMIT;
+use lines::words::COPY;
+use lines::words::DELETE;
+use lines::words::FRESH;
+use lines::words::GET;
+use lines::words::HEAD;
+use lines::words::INITIATE;
+use lines::words::LIST;
+use lines::words::PART;
+use lines::words::PUT;
+use lines::words::TABLES;
+use lines::words::UPLOADS;
+use lines::words::front_len;
+use types::DoneAnswer;
+use types::InitiateAnswer;
+use types::PartAnswer;
+use types::PartNumber;
+use types::Stamp;
+use types::UploadNumber;
+ghost use mathlib.Core.Path.{_≡_};
+ghost use lib.ListN.{length};
+
+fn commit(tables: &mut [u8], arena: &mut [u8], upload: u32, text: &[u8]) -> DoneAnswer {
+    let mut list = [0u8; 64];
+    let n = part_list(text, &mut list);
+    store::commit(tables, arena, UploadNumber(upload), &list[..n])
+}
+
+// The words that have an answer buffer.
+fn answered(tables: &[u8], arena: &[u8], word: usize, a: &[u8], b: &[u8], answer: &mut [u8]) {
+    match word {
+        GET => print_found(store::get(tables, arena, a, answer)),
+        LIST => print_written(store::list(tables, arena, a, b, answer)),
+        _ => print_written(store::uploads(tables, arena, a, answer)),
+    }
+}
+
+fn answer_shown(tables: &[u8], arena: &[u8], word: usize, line: &[u8], answer: &mut [u8]) {
+    answered(tables, arena, word, field(line, 2), field(line, 3), answer);
+    print_buffer(answer, word == GET);
+}
+
+// An answer buffer of dots.
+fn dots() -> [u8; 512]
+    ensures { λ r. ⌜ length r ≡ 512 ⌝ }
+{
+    [b'.'; 512]
+}
+
+fn answering(tables: &[u8], arena: &[u8], word: usize, line: &[u8]) {
+    let mut space = dots();
+    let n = front_len(true, line, 0, &space);
+    answer_shown(tables, arena, word, line, &mut space[..n]);
+}
+
+// The words that change nothing.
+fn reading(tables: &[u8], arena: &[u8], word: usize, line: &[u8]) {
+    match word {
+        TABLES => print_front(tables, line),
+        ARENA => print_front(arena, line),
+        HEAD => print_found(store::head(tables, arena, field(line, 1))),
+        _ => answering(tables, arena, word, line),
+    }
+}
+
+// PUT and COPY.
+fn stored(
+    tables: &mut [u8],
+    arena: &mut [u8],
+    word: usize,
+    n: u64,
+    a: &[u8],
+    b: &[u8],
+) -> DoneAnswer {
+    if word == PUT {
+        store::put(tables, arena, Stamp(n), a, b)
+    } else {
+        store::copy(tables, arena, Stamp(n), a, b)
+    }
+}
+
+// COMMIT and ABORT.
+fn ended(tables: &mut [u8], arena: &mut [u8], word: usize, upload: u32, list: &[u8]) -> DoneAnswer {
+    if word == COMMIT {
+        commit(tables, arena, upload, list)
+    } else {
+        store::abort(tables, arena, UploadNumber(upload))
+    }
+}
+
+fn stamp(line: &[u8]) -> u64 {
+    number(line, 1, 18446744073709551615)
+}
+
+fn upload(line: &[u8]) -> u32 {
+    number(line, 1, 4294967295) as u32
+}
+
+fn initiate(tables: &mut [u8], arena: &[u8], line: &[u8]) -> InitiateAnswer {
+    store::initiate(tables, arena, Stamp(stamp(line)), field(line, 2))
+}
+
+fn part(tables: &mut [u8], arena: &mut [u8], line: &[u8]) -> PartAnswer {
+    let number = PartNumber(part_number(field(line, 2)));
+    store::part(
+        tables,
+        arena,
+        UploadNumber(upload(line)),
+        number,
+        field(line, 3),
+    )
+}
+
+// The words that answer a result alone.
+fn done(tables: &mut [u8], arena: &mut [u8], word: usize, line: &[u8]) -> DoneAnswer {
+    if word == DELETE {
+        store::delete(tables, arena, field(line, 1))
+    } else if word <= COPY {
+        stored(
+            tables,
+            arena,
+            word,
+            stamp(line),
+            field(line, 2),
+            field(line, 3),
+        )
+    } else {
+        ended(tables, arena, word, upload(line), field(line, 2))
+    }
+}
+
+fn changing(tables: &mut [u8], arena: &mut [u8], word: usize, line: &[u8]) {
+    match word {
+        FRESH => print_result(store::fresh(tables, arena)),
+        INITIATE => print_opened(initiate(tables, arena, line)),
+        PART => print_stored(part(tables, arena, line)),
+        _ => print_done(done(tables, arena, word, line)),
+    }
+}
+
+pub fn run(tables: &mut [u8], arena: &mut [u8], word: usize, line: &[u8]) {
+    if word <= UPLOADS {
+        reading(tables, arena, word, line);
+    } else if word <= ABORT {
+        changing(tables, arena, word, line);
+    }
+}

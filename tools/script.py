@@ -1,0 +1,184 @@
+#!/usr/bin/env python3
+"""Writes what crate `script` must print, by a store of Python's own dicts and MD5.
+
+usage: tools/script.py < crates/script/stdin > crates/script/stdout
+
+Only the front of tables and arena (TABLES, ARENA) follows docs/LAYOUT.md; all else is document 01's machine.
+"""
+import hashlib
+import sys
+
+
+class Refused(Exception):
+    pass
+
+
+def md5(data):
+    return hashlib.md5(data).digest()
+
+
+def need(condition, number):
+    if not condition:
+        raise Refused(number)
+
+
+def path_ok(path):
+    return 1 <= len(path) <= 128 and all(33 <= c <= 126 for c in path) and b"//" not in path and path[:1] != b"/"
+
+
+def low_first(n, size):
+    return n.to_bytes(size, "little")
+
+
+class Store:
+    def __init__(self, length):
+        self.length, self.objects, self.uploads, self.coming = length, {}, {}, 1
+
+    def fit(self, objects, uploads):
+        """The ceilings, of the state after a call: counts first, then bytes."""
+        parts = [data for upload in uploads.values() for data in upload[2].values()]
+        need(len(objects) <= 256 and len(uploads) <= 16 and len(parts) <= 256, 4)
+        need(sum(len(o[0]) for o in objects.values()) + sum(map(len, parts)) <= self.length, 5)
+        self.objects, self.uploads = objects, uploads
+
+    def put(self, stamp, path, data):
+        need(stamp >= 1 and path_ok(path), 2)
+        self.fit({**self.objects, path: (data, stamp, md5(data), None)}, self.uploads)
+
+    def find(self, path):
+        need(path_ok(path), 2)
+        need(path in self.objects, 3)
+        return self.objects[path]
+
+    def copy(self, stamp, source, destination):
+        need(stamp >= 1 and path_ok(destination), 2)
+        self.put(stamp, destination, self.find(source)[0])
+
+    def delete(self, path):
+        self.find(path)
+        del self.objects[path]
+
+    def initiate(self, stamp, path):
+        need(stamp >= 1 and path_ok(path), 2)
+        self.fit(self.objects, {**self.uploads, self.coming: (path, stamp, {})})
+        self.coming += 1
+        return f", upload {self.coming - 1}"
+
+    def part(self, upload, number, data):
+        need(1 <= number <= 11000 and upload in self.uploads, 2)
+        path, start, parts = self.uploads[upload]
+        self.fit(self.objects, {**self.uploads, upload: (path, start, {**parts, number: data})})
+        return ", etag " + md5(data).hex()
+
+    def commit(self, upload, listed):
+        need(upload in self.uploads, 2)
+        path, start, parts = self.uploads[upload]
+        need(sorted(listed) == sorted(parts), 2)
+        data = b"".join(parts[n] for n in listed)
+        joined = (data, start, md5(b"".join(md5(parts[n]) for n in listed)), len(listed))
+        self.fit({**self.objects, path: joined}, {n: u for n, u in self.uploads.items() if n != upload})
+
+    def abort(self, upload):
+        need(upload in self.uploads, 2)
+        del self.uploads[upload]
+
+    def listing(self, prefix, suffix):
+        for path, (data, created, digest, count) in sorted(self.objects.items()):
+            if path.startswith(prefix) and path[len(prefix):].endswith(suffix):
+                text = etag(digest, count).encode()
+                sizes = low_first(len(data), 4) + low_first(created, 8)
+                yield bytes([len(path)]) + path + sizes + bytes([len(text)]) + text
+
+    def opened(self, prefix):
+        for number, (path, start, parts) in sorted(self.uploads.items()):
+            if path.startswith(prefix):
+                yield low_first(number, 4) + bytes([len(path)]) + path + low_first(start, 8) + low_first(len(parts), 2)
+
+    def memory(self):
+        """docs/LAYOUT.md: the header and the rows; the rows' data."""
+        parts = sum(len(u[2]) for u in self.uploads.values())
+        tables = low_first(self.length, 4) + low_first(self.coming, 8)
+        tables += low_first(len(self.objects), 2) + low_first(len(self.uploads), 2) + low_first(parts, 2)
+        arena = b""
+
+        def row(size, number, stamp, kind, count, digest, path):
+            sizes = low_first(size, 4) + low_first(number, 4) + low_first(stamp, 8)
+            return sizes + bytes([kind, len(path)]) + low_first(count, 2) + digest + path
+
+        for path, (data, created, digest, count) in sorted(self.objects.items()):
+            tables += row(len(data), 0, created, 0 if count is None else 1, count or 0, digest, path)
+            arena += data
+        for number, (path, start, parts) in sorted(self.uploads.items()):
+            tables += row(0, number, start, 2, 0, bytes(16), path)
+            for part, data in sorted(parts.items()):
+                tables += row(len(data), part, 0, 3, 0, md5(data), b"")
+                arena += data
+        return tables, arena
+
+
+def etag(digest, count):
+    return digest.hex() + ("" if count is None else f"-{count}")
+
+
+def metadata(store, path):
+    if path == b"":
+        return b"", ", length 0, created 0, etag absent"
+    data, created, digest, count = store.find(path)
+    return data, f", length {len(data)}, created {created}, etag {etag(digest, count)}"
+
+
+def parts_of(text):
+    """A part list's numbers, or one that no upload has where a byte is left over."""
+    return [0 if n == "+" else int(n) for n in text.split(",")] if text else []
+
+
+def answer(store, word, fields):
+    """What stands behind the line, and the answer buffer (None for none), which starts as dots."""
+    texts = [b"" if f == "~" else f.encode() for f in fields] + [b"", b"", b""]
+    number = int(fields[0]) if fields and fields[0].isdigit() else 0
+    if word in ("TABLES", "ARENA"):
+        return "", store.memory()[word == "ARENA"][:number]
+    if word in ("GET", "LIST", "UPLOADS"):
+        buffer = b"." * number
+        try:
+            if word == "GET":
+                data, said = metadata(store, texts[1])
+            else:
+                records = list(store.listing(texts[1], texts[2]) if word == "LIST" else store.opened(texts[1]))
+                data = b"".join(records)
+                said = f", records {len(records)}, bytes {len(data)}"
+            need(len(data) <= number, 7)
+            return ": 0" + said, data + buffer[len(data):]
+        except Refused as refusal:
+            return f": {refusal}", buffer
+    calls = {
+        "HEAD": lambda: metadata(store, texts[0])[1],
+        "DELETE": lambda: store.delete(texts[0]),
+        "PUT": lambda: store.put(number, texts[1], texts[2]),
+        "COPY": lambda: store.copy(number, texts[1], texts[2]),
+        "INITIATE": lambda: store.initiate(number, texts[1]),
+        "PART": lambda: store.part(number, int(fields[1]), texts[2]),
+        "COMMIT": lambda: store.commit(number, parts_of(texts[1].decode())),
+        "ABORT": lambda: store.abort(number),
+    }
+    try:
+        return ": 0" + (calls[word]() or ""), None
+    except Refused as refusal:
+        return f": {refusal}", None
+
+
+WORDS = "TABLES ARENA HEAD GET LIST UPLOADS DELETE PUT COPY INITIATE PART COMMIT ABORT".split()
+store = Store(0)
+for line in sys.stdin.read().splitlines():
+    word, *fields = line.split(" ")
+    if word == "FRESH":
+        store = Store(int(fields[0]))
+        print(line + ": 0")
+        continue
+    if word not in WORDS:
+        print(line)
+        continue
+    said, buffer = answer(store, word, fields)
+    print(line + said)
+    if buffer is not None:
+        print("    " + (buffer.decode() if word == "GET" else " ".join(map(str, buffer))))

@@ -31,4 +31,4 @@ target/host/%: host/panel/%.c include/rathnodi.h $(LIB)
 	@$(CC) $(HOST_CFLAGS) -o $@ $< $(LIB) $(HOST_LIBS)
 
 target/staticlib/librathnodi.a: FORCE
-	@mkdir -p target && rt staticlib rathnodi >target/rathnodi.out || { cat target/rathnodi.out; exit 1; }
+	@mkdir -p target && rt staticlib rathnodi >target/rathnodi.out 2>&1 || { cat target/rathnodi.out; exit 1; }

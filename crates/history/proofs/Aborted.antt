@@ -3,27 +3,28 @@ use Prim.Native.Nat.{ℕ, _+_, _<_}
 use native.Mathlib.Omega.{arith}
 use mathlib.Core.Path.{_≡_, refl, sym, ap, _∙_, subst}
 use mathlib.Core.Bool.{Bool, true, false, false≢true}
-use mathlib.Core.List.{List, [], _∷_, _++_}
+use mathlib.Core.List.{List, [], _∷_, _++_, append-assoc}
 use mathlib.Core.Option.{Option, none, some}
 use borrow.Author.Tests.{eq-eqb, eqb-true}
 use Rattle.order.specs.OrderLaws.{numbers}
-use Rattle.machine.specs.Map.{Map, byNumber, lookup, insert, remove}
+use Rattle.machine.specs.Map.{byNumber, lookup, insert, remove}
 use Rattle.machine.specs.Names.{Bytes, requestPartOk}
-use Rattle.machine.specs.State.{Object, Upload, State, fresh, withPart, withoutUpload}
-use Rattle.machine.specs.Calls.{Call, PUT, GET, HEAD, DELETE, COPY, LIST, INITIATE, PART, COMMIT, ABORT, UPLOADS, Answer, nothing, Reply, badRequest, Outcome, refuse, accept, _else_then_, given}
-use Rattle.machine.specs.Steps.{newUpload, newPart, putAt, objectAt, act, replyOf, after, reply, next}
+use Rattle.machine.specs.State.{Upload, State, fresh, withPart}
+use Rattle.machine.specs.Calls.{Call, PUT, GET, HEAD, DELETE, COPY, LIST, INITIATE, PART, COMMIT, ABORT, UPLOADS, Answer, Reply, badRequest, refuse, accept, _else_then_, given}
+use Rattle.machine.specs.Steps.{newUpload, newPart, putAt, act, replyOf, after, reply, next}
 use Rattle.machine.specs.Lists.{Trace, trace, final}
 use Rattle.machine.specs.Valid.{Valid, UploadOk}
 use Rattle.machine.specs.Demand3.{accepted, calls}
 use Rattle.machine.proofs.Options.{none-some}
 use Rattle.machine.proofs.MapLaws.{lookup-insert-other, lookup-remove, lookup-remove-other, every-lookup}
-use Rattle.machine.proofs.Outcome.{Then, then-accept, then-else, then-given}
+use Rattle.machine.proofs.Outcome.{Then, then-accept, then-else, then-given, then-object, then-put, then-after}
 use Rattle.machine.proofs.KeepsValid.{next-valid, fresh-valid, final-valid}
 use Rattle.machine.proofs.Traces.{cut}
 use Rattle.calls.specs.Made.{Memory}
 use Rattle.history.specs.Runs.{FromFresh}
 use Rattle.history.specs.Questions.{names, Shut, StaysOut}
 use Rattle.history.proofs.Running.{from-fresh}
+use Rattle.history.proofs.Demand3.{demand3}
 
 -- the upload's number was given out, and it is not open
 record Gone (u : ℕ) (s : State) : Type 0 where
@@ -35,11 +36,10 @@ open-other : (u v : ℕ) (s : State) (x : Upload) → Gone u s → lookup byNumb
 open-other u v s x g e q = none-some (sym (g .shut) ∙ ap (λ (n : ℕ). lookup byNumber n (s .U)) q ∙ e)
 
 module _ (A u : ℕ) (s : State) (v : Valid A s) (g : Gone u s) where
-  Still : Answer → Bytes → State → Type 0
+  abbrev Still : Answer → Bytes → State → Type 0
   Still a out s′ = Gone u s′
 
   still : (a : Answer) (out : Bytes) (s′ : State) → Gone u s′ → Then Still (accept a out s′)
-  unfolding Still
   still a out s′ h = then-accept Still a out s′ h
 
   -- with U and N as they were
@@ -47,13 +47,7 @@ module _ (A u : ℕ) (s : State) (v : Valid A s) (g : Gone u s) where
   same a out s′ e f = still a out s′ (record { given-out = rw f (g .given-out); shut = rw e (g .shut) })
 
   put-still : (t : ℕ) (p d : Bytes) → Then Still (putAt A s t p d)
-  unfolding putAt
-  put-still t p d = then-else _ _ _ _ λ _. then-else _ _ _ _ λ _. same _ _ _ refl refl
-
-  at-still : (p : Bytes) (k : Object → Outcome) → ((x : Object) → Then Still (k x)) → Then Still (objectAt s p k)
-  unfolding objectAt
-  at-still [] k h = h _
-  at-still (b ∷ p) k h = then-else _ _ _ _ λ _. then-given _ _ _ _ λ x _. h x
+  put-still t p d = then-put Still A s t p d λ _ _. record { given-out = g .given-out; shut = g .shut }
 
   opened : (t : ℕ) (p : Bytes) → lookup byNumber u (insert byNumber (s .N) (newUpload t p) (s .U)) ≡ none
   opened t p = let l = g .given-out in lookup-insert-other numbers u (s .N) (newUpload t p) (s .U) (λ e. omega (arith, e)) ∙ g .shut
@@ -67,8 +61,8 @@ module _ (A u : ℕ) (s : State) (v : Valid A s) (g : Gone u s) where
   act-still : (c : Call) → Then Still (act A s c)
   unfolding act
   act-still (PUT t p d) = then-else _ _ _ _ λ _. put-still t p d
-  act-still (GET p b) = at-still p _ λ x. then-else _ _ _ _ λ _. same _ _ _ refl refl
-  act-still (HEAD p) = at-still p _ λ x. same _ _ _ refl refl
+  act-still (GET p b) = then-object _ s p _ λ x. then-else _ _ _ _ λ _. same _ _ _ refl refl
+  act-still (HEAD p) = then-object _ s p _ λ x. same _ _ _ refl refl
   act-still (DELETE p) = then-else _ _ _ _ λ _. then-given _ _ _ _ λ x _. same _ _ _ refl refl
   act-still (COPY t p q) = then-else _ _ _ _ λ _. then-given _ _ _ _ λ x _. put-still t q (x .content)
   act-still (LIST prefix suffix b) = then-else _ _ _ _ λ _. same _ _ _ refl refl
@@ -92,12 +86,7 @@ module _ (A u : ℕ) (s : State) (v : Valid A s) (g : Gone u s) where
   act-still (UPLOADS prefix b) = then-else _ _ _ _ λ _. same _ _ _ refl refl
 
   still-gone : (c : Call) → Gone u (next A s c)
-  unfolding Still Then
-  still-gone c = go (act A s c) (act-still c)
-    where
-      go : (o : Outcome) → Then Still o → Gone u (after s o)
-      go (refuse n) h = g
-      go (accept a out s′) h = h
+  still-gone c = then-after (Gone u) s (act A s c) g (act-still c)
 
   gone-here : (k : ℕ) → names u (ABORT k) ≡ true → lookup byNumber k (s .U) ≡ none
   gone-here k e = ap (λ (n : ℕ). lookup byNumber n (s .U)) (sym (eqb-true u k e)) ∙ g .shut
@@ -141,10 +130,9 @@ shut-at u (w ∷ between) after c r h e = shut-at u between after c r (h .1) e
 not-accepted : (r : Reply) → r .result ≡ 2 → accepted r ≡ true → ⊥
 not-accepted r e ok = omega (arith, e, eqb-true (r .result) 0 ok)
 
--- After an accepted ABORT the upload takes no part and no commit, so no later record is made of its parts: `commits-join` of demand 3 says
--- that an accepted COMMIT joins parts of its own upload.
+-- After an accepted ABORT the upload takes no part and no commit, and no later record is made of its parts.
 pub stays-out : (A : ℕ) (t : Trace) (m : Memory) → FromFresh A t m → (before behind : Trace) (u : ℕ) (r : Reply) → t ≡ before ++ (ABORT u, r) ∷ behind → accepted r ≡ true
-    → StaysOut u behind
+    → StaysOut A before u r behind m
 stays-out A t m f before behind u r e ok =
     let k = cut A fresh (calls t) before behind (ABORT u) r (sym (from-fresh A t m f .0) ∙ e) in
     let s = final A fresh (calls before) in
@@ -153,5 +141,9 @@ stays-out A t m f before behind u r e ok =
     let h : Shut u behind = subst (Shut u) (k .last) (all-shut A u (next A s (ABORT u)) (k .rest) (next-valid A s (ABORT u) v) g) in
     record {
       shut = h;
-      other = λ between after w ns q is yes-accepted same. not-accepted q (shut-at u between after (COMMIT w ns) q (subst (Shut u) is h) (eq-eqb u w (sym same))) yes-accepted;
+      records = λ between after w ns q is yes-accepted. (
+        λ same. not-accepted q (shut-at u between after (COMMIT w ns) q (subst (Shut u) is h) (eq-eqb u w (sym same))) yes-accepted,
+        demand3 A t m f .commits-join (before ++ (ABORT u, r) ∷ between) after w ns q
+            (e ∙ ap (λ (x : Trace). before ++ (ABORT u, r) ∷ x) is ∙ sym (append-assoc before ((ABORT u, r) ∷ between) ((COMMIT w ns, q) ∷ after))) yes-accepted,
+      );
     }

@@ -3,7 +3,7 @@ use Prim.Native.Nat.{ℕ}
 use mathlib.Core.Path.{_≡_, refl, sym, ap, _∙_, subst}
 use mathlib.Core.Bool.{true}
 use mathlib.Core.List.{List, [], _∷_, _++_, append-assoc}
-use Rattle.machine.specs.State.{State, fresh}
+use Rattle.machine.specs.State.{fresh}
 use Rattle.machine.specs.Calls.{Call, COMMIT, Reply}
 use Rattle.machine.specs.Lists.{Trace, trace, final}
 use Rattle.machine.specs.Demand3.{accepted, Leaves, calls, CommitsJoin, without, NeverCommitted, NoCommitAccepted, NeverFull, PartsUnseen, PartsUnseenUnlessCommitted, seen}

@@ -2,18 +2,18 @@
 use Prim.Native.Nat.{ℕ}
 use native.Mathlib.Omega.{arith}
 use mathlib.Core.Path.{_≡_, refl, sym, ap, _∙_}
-use mathlib.Core.Bool.{Bool, true, false, cond, false≢true}
-use mathlib.Core.List.{List, [], _∷_}
+use mathlib.Core.Bool.{Bool, true, false, false≢true}
+use mathlib.Core.List.{[], _∷_}
 use mathlib.Core.Option.{Option, none, some}
 use lib.ListN.{length}
 use Rattle.machine.specs.Map.{Map}
 use Rattle.machine.specs.Names.{Bytes}
 use Rattle.machine.specs.State.{Object, Upload, State}
-use Rattle.machine.specs.Calls.{Call, PUT, GET, HEAD, DELETE, COPY, LIST, INITIATE, PART, COMMIT, ABORT, UPLOADS, Answer, Reply, Refusal, Outcome, refuse, accept, _else_then_, given, lent}
-use Rattle.machine.specs.Steps.{objectAt, act, replyOf, after, reply, next}
+use Rattle.machine.specs.Calls.{Call, PUT, GET, HEAD, DELETE, COPY, LIST, INITIATE, PART, COMMIT, ABORT, UPLOADS, Answer, Reply, Refusal, Outcome, accept, _else_then_, given, lent}
+use Rattle.machine.specs.Steps.{objectAt, act, replyOf, reply, next}
 use Rattle.machine.specs.Lists.{Trace}
 use Rattle.machine.specs.Demand3.{kind, isLook}
-use Rattle.machine.proofs.Outcome.{Then, then-accept, then-else, then-given}
+use Rattle.machine.proofs.Outcome.{Then, then-accept, then-else, then-given, then-object, then-after}
 use Rattle.calls.specs.Made.{Memory, wholeMemory, stateIn, meantReply, meantState, Made}
 use Rattle.history.specs.Runs.{Run, stop, call}
 use Rattle.history.specs.Questions.{changesObjects, ChangesNone, SameReads}
@@ -21,23 +21,17 @@ use Rattle.history.specs.Questions.{changesObjects, ChangesNone, SameRea
 -- What a call that changes no object leaves --------------------------------------------------------------------------------
 
 module _ (A : ℕ) (s : State) where
-  Kept : Answer → Bytes → State → Type 0
+  abbrev Kept : Answer → Bytes → State → Type 0
   Kept a out s′ = s′ .O ≡ s .O
 
   kept : (a : Answer) (out : Bytes) (s′ : State) → s′ .O ≡ s .O → Then Kept (accept a out s′)
-  unfolding Kept
   kept a out s′ e = then-accept Kept a out s′ e
-
-  at-kept : (p : Bytes) (k : Object → Outcome) → ((x : Object) → Then Kept (k x)) → Then Kept (objectAt s p k)
-  unfolding objectAt
-  at-kept [] k h = h _
-  at-kept (b ∷ p) k h = then-else _ _ _ _ λ _. then-given _ _ _ _ λ x _. h x
 
   act-kept : (c : Call) → changesObjects c ≡ false → Then Kept (act A s c)
   unfolding act
   act-kept (PUT t p d) e = absurd (false≢true (sym e))
-  act-kept (GET p b) e = at-kept p _ λ x. then-else _ _ _ _ λ _. kept _ _ _ refl
-  act-kept (HEAD p) e = at-kept p _ λ x. kept _ _ _ refl
+  act-kept (GET p b) e = then-object _ s p _ λ x. then-else _ _ _ _ λ _. kept _ _ _ refl
+  act-kept (HEAD p) e = then-object _ s p _ λ x. kept _ _ _ refl
   act-kept (DELETE p) e = absurd (false≢true (sym e))
   act-kept (COPY t p q) e = absurd (false≢true (sym e))
   act-kept (LIST prefix suffix b) e = then-else _ _ _ _ λ _. kept _ _ _ refl
@@ -48,12 +42,7 @@ module _ (A : ℕ) (s : State) where
   act-kept (UPLOADS prefix b) e = then-else _ _ _ _ λ _. kept _ _ _ refl
 
   objects-kept : (c : Call) → changesObjects c ≡ false → next A s c .O ≡ s .O
-  unfolding Kept Then
-  objects-kept c e = go (act A s c) (act-kept c e)
-    where
-      go : (o : Outcome) → Then Kept o → after s o .O ≡ s .O
-      go (refuse n) h = refl
-      go (accept a out s′) h = h
+  objects-kept c e = then-after (λ s′. s′ .O ≡ s .O) s (act A s c) refl (act-kept c e)
 
 -- What GET, HEAD and LIST answer comes of the objects alone -------------------------------------------------------------------
 

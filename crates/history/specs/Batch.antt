@@ -9,8 +9,8 @@ use Rattle.machine.specs.Lists.{Trace}
 use Rattle.calls.specs.Answers.{doneReply, getReply, partReply, initiateReply}
 use Rattle.calls.specs.Made.{Memory, freshResult}
 use Rattle.history.specs.declared.batch.Batch.{Batch}
-use Rattle.history.specs.declared.batch.Outcome.{Outcome}
-use Rattle.history.specs.declared.batch.Outcome.the-variants as outcome
+use Rattle.history.specs.declared.batch.BatchAnswer.{BatchAnswer}
+use Rattle.history.specs.declared.batch.BatchAnswer.the-variants as answer
 use Rattle.history.specs.Demand3.{Demand3}
 
 -- INITIATE, two PARTs, GET, COMMIT of part 2 before part 1, GET; each answer buffer before and after its call
@@ -25,6 +25,6 @@ batchTrace stamp path one two early late b early′ late′ =
     ∷ []
 
 -- FRESH refused, and nothing changed; or the list ran as demand 3 says
-abbrev pub Concluded : (m : Memory) (stamp : ℕ) (path one two early late : Bytes) → Outcome → (early′ late′ : Bytes) → (m′ : Memory) → Type 0
-Concluded m stamp path one two early late (outcome.Refused n) early′ late′ m′ = (n ≡ freshResult m) × (m′ ≡ m) × (early′ ≡ early) × (late′ ≡ late)
-Concluded m stamp path one two early late (outcome.Ran b) early′ late′ m′ = Demand3 (length (m .arena)) (batchTrace stamp path one two early late b early′ late′) m′
+abbrev pub Concluded : (m : Memory) (stamp : ℕ) (path one two early late : Bytes) → BatchAnswer → (early′ late′ : Bytes) → (m′ : Memory) → Type 0
+Concluded m stamp path one two early late (answer.Refused n) early′ late′ m′ = (n ≡ freshResult m) × (m′ ≡ m) × (early′ ≡ early) × (late′ ≡ late)
+Concluded m stamp path one two early late (answer.Ran b) early′ late′ m′ = Demand3 (length (m .arena)) (batchTrace stamp path one two early late b early′ late′) m′

@@ -8,7 +8,7 @@ use Rattle.machine.specs.Calls.{Call, PUT, GET, HEAD, DELETE, COPY, LIST, INITI
 use Rattle.machine.specs.Lists.{Trace}
 use Rattle.machine.specs.Demand3.{kind, isLook, accepted}
 use Rattle.calls.specs.Made.{Memory, Made}
-use Rattle.history.specs.Runs.{FromFresh}
+use Rattle.history.specs.Demand3.{Committed}
 
 -- "Can a batch record be read before its last weighing is committed?" -----------------------------------------------------
 
@@ -56,7 +56,9 @@ abbrev pub Shut : (upload : ℕ) → Trace → Type 0
 Shut u [] = Unit {0}
 Shut u (e ∷ t) = (names u (e .0) ≡ true → e .1 .result ≡ 2) × Shut u t
 
--- what an accepted ABORT leaves for the rest of the run: the upload is shut, and every COMMIT that is accepted later is another upload's
-pub record StaysOut (u : ℕ) (behind : Trace) : Type 0 where
+-- What an accepted ABORT of upload u means for the rest of the run, which leaves memory m: the upload is shut, and every COMMIT that is
+-- accepted later names another upload and joins the parts that were sent to that one.
+pub record StaysOut (A : ℕ) (before : Trace) (u : ℕ) (r : Reply) (behind : Trace) (m : Memory) : Type 0 where
   pub shut : Shut u behind
-  pub other : (between after : Trace) (v : ℕ) (ns : List ℕ) (r : Reply) → behind ≡ between ++ (COMMIT v ns, r) ∷ after → accepted r ≡ true → v ≡ u → ⊥
+  pub records : (between after : Trace) (v : ℕ) (ns : List ℕ) (q : Reply) → behind ≡ between ++ (COMMIT v ns, q) ∷ after → accepted q ≡ true
+      → (v ≡ u → ⊥) × Committed A (before ++ (ABORT u, r) ∷ between) v ns q after m

@@ -51,7 +51,7 @@ fn weigh(
 }
 
 // What came of a batch: FRESH's refusal, or the answers.
-pub enum Outcome {
+pub enum BatchAnswer {
     Refused(u8),
     Ran(Batch),
 }
@@ -66,13 +66,13 @@ pub fn fresh_batch(
     two: &[u8],
     early: &mut [u8],
     late: &mut [u8],
-) -> Outcome
+) -> BatchAnswer
     ensures { λ r. ⌜ Concluded (memory (now (tables .entry)) (now (arena .entry))) (stamp .0) (now (path .entry)) (now (one .entry)) (now (two .entry)) (now (early .entry)) (now (late .entry)) r (now (early .exit)) (now (late .exit)) (memory (now (tables .exit)) (now (arena .exit))) ⌝ }
 {
     let n = store::fresh(tables, arena);
     if n != 0 {
-        return Outcome::Refused(n);
+        return BatchAnswer::Refused(n);
     }
     let batch = weigh(tables, arena, stamp, path, one, two, early, late);
-    Outcome::Ran(batch)
+    BatchAnswer::Ran(batch)
 }

@@ -52,7 +52,7 @@ pub fn field(line: &[u8], k: usize) -> &[u8] {
 }
 
 // The number that the text begins with.
-pub fn decimal(text: &[u8]) -> u64 {
+fn decimal(text: &[u8]) -> u64 {
     let mut n: u64 = 0;
     let mut i = 0;
     while i < text.len() {

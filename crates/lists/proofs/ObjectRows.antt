@@ -1,20 +1,19 @@
 -- The row of an object, and what LIST writes for it. Assumes nothing.
 use Prim.Native.Nat.{ℕ, _+_, _*_, _≤_, _<_}
 use mathlib.Core.Path.{_≡_, refl, sym, ap, _∙_}
-use mathlib.Core.Bool.{Bool, true, false, cond, _&&_}
+use mathlib.Core.Bool.{Bool, true, false, cond}
 use mathlib.Core.List.{List, [], _∷_, _++_, append-nil}
 use native.Mathlib.Numerals.{add-one}
 use native.Mathlib.Omega.{arith}
 use lib.ListN.{length, take, drop, length-append}
 use lib.Seq.{take-all}
 use Rattle.number.specs.Number.{le}
-use Rattle.order.specs.Order.{begins, ends}
 use Rattle.order.specs.OrderLaws.{bytes}
 use Rattle.machine.specs.Map.{Map, records}
 use Rattle.machine.specs.Names.{Bytes}
 use Rattle.machine.specs.Etags.{text}
 use Rattle.machine.specs.State.{Object, State}
-use Rattle.machine.specs.Steps.{listed, listRecord}
+use Rattle.machine.specs.Steps.{isListed, listed, listRecord}
 use Rattle.machine.specs.Valid.{ObjectOk}
 use Rattle.machine.proofs.MapKeep.{keep-suc, records-append}
 use Rattle.machine.proofs.MapScan.{lookup-key}
@@ -26,7 +25,7 @@ use Rattle.layout.specs.Memory.{objectRows, Stands}
 use Rattle.layout.specs.ObjectLaws.{object-back}
 use Rattle.find.proofs.RowsAt.{At, row-at}
 use Rattle.find.proofs.ObjectAt.{blank, entry, row, front, rest, split, next-front}
-use Rattle.lists.specs.Rows.{lists, textAt, recordAt, rowBytes}
+use Rattle.lists.specs.Rows.{textAt, recordAt, rowBytes}
 
 module _ (t a : List ℕ) (s : State) (h : Stands t a s) (i at : ℕ) (here : at ≡ 18 + length (encodeRows (objectRows (take i (s .O))))) (l : i < length (s .O)) where
   row-here : At t a s h (front s i) (row s i) (rest s i)
@@ -68,25 +67,25 @@ module _ (t a : List ℕ) (s : State) (h : Stands t a s) (i at : ℕ) (here : at
     m = listed prefix suffix (take i (s .O))
 
     abbrev more : Map Bytes Object
-    more = cond (lists prefix suffix (entry s i .0)) (entry s i ∷ []) []
+    more = cond (isListed prefix suffix (entry s i .0)) (entry s i ∷ []) []
 
     listed-next : listed prefix suffix (take (i + 1) (s .O)) ≡ m ++ more
-    unfolding listed lists
-    listed-next = ap (λ (n : ℕ). listed prefix suffix (take n (s .O))) (add-one i) ∙ keep-suc (λ p x. begins prefix p && ends suffix (drop (length prefix) p)) blank i (s .O) l
+    unfolding listed
+    listed-next = ap (λ (n : ℕ). listed prefix suffix (take n (s .O))) (add-one i) ∙ keep-suc (λ p x. isListed prefix suffix p) blank i (s .O) l
 
     pub bytes-next : records listRecord (listed prefix suffix (take (i + 1) (s .O))) ≡ records listRecord m ++ rowBytes prefix suffix (drop at t)
     unfolding rowBytes
     bytes-next =
         ap (records listRecord) listed-next
         ∙ records-append listRecord m more
-        ∙ ap (λ (y : List ℕ). records listRecord m ++ y) (rw (path-here, record-here) (go (lists prefix suffix (entry s i .0))))
+        ∙ ap (λ (y : List ℕ). records listRecord m ++ y) (rw (path-here, record-here) (go (isListed prefix suffix (entry s i .0))))
       where
         go : (b : Bool) → records listRecord (cond b (entry s i ∷ []) []) ≡ cond b (listRecord (entry s i .0) (entry s i .1)) []
         go true = append-nil (listRecord (entry s i .0) (entry s i .1))
         go false = refl
 
-    pub count-next : length (listed prefix suffix (take (i + 1) (s .O))) ≡ length m + cond (lists prefix suffix (pathAt (drop at t))) 1 0
-    count-next = ap length listed-next ∙ length-append m more ∙ ap (λ (n : ℕ). length m + n) (rw path-here (go (lists prefix suffix (entry s i .0))))
+    pub count-next : length (listed prefix suffix (take (i + 1) (s .O))) ≡ length m + cond (isListed prefix suffix (pathAt (drop at t))) 1 0
+    count-next = ap length listed-next ∙ length-append m more ∙ ap (λ (n : ℕ). length m + n) (rw path-here (go (isListed prefix suffix (entry s i .0))))
       where
         go : (b : Bool) → length (cond b (entry s i ∷ []) []) ≡ cond b 1 0
         go true = refl
@@ -106,7 +105,7 @@ unfolding encodeRows objectRows listed
 walked-none s prefix suffix = record { within = omega arith; rows = refl; counted = refl; sized = refl; few = omega arith; small = omega arith }
 
 pub walked-next : (t a : List ℕ) (s : State) (h : Stands t a s) (prefix suffix : Bytes) (i at count size n c k : ℕ) → Walked s prefix suffix i at count size → i < length (s .O)
-    → n ≡ headAt (drop at t) .pathlen → c ≡ cond (lists prefix suffix (pathAt (drop at t))) 1 0 → k ≡ length (rowBytes prefix suffix (drop at t)) → c ≤ 1 → k ≤ 307
+    → n ≡ headAt (drop at t) .pathlen → c ≡ cond (isListed prefix suffix (pathAt (drop at t))) 1 0 → k ≡ length (rowBytes prefix suffix (drop at t)) → c ≤ 1 → k ≤ 307
     → Walked s prefix suffix (i + 1) (at + 36 + n) (count + c) (size + k)
 walked-next t a s h prefix suffix i at count size n c k w l e f g few small =
     let x = w .counted in

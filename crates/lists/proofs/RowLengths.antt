@@ -16,7 +16,8 @@ use Rattle.text.specs.TextLaws.{length-hex}
 use Rattle.machine.specs.Etags.{text}
 use Rattle.row.specs.Row.{headAt, digestAt, pathAt}
 use Rattle.layout.specs.Memory.{etagOf}
-use Rattle.lists.specs.Rows.{lists, textAt, recordAt, rowBytes}
+use Rattle.machine.specs.Steps.{isListed}
+use Rattle.lists.specs.Rows.{textAt, recordAt, rowBytes}
 
 pub text-plain : (kind count : ℕ) (d : List ℕ) → kind ≡ 0 → length d ≡ 16 → 32 ≡ length (text (etagOf kind d count))
 unfolding text
@@ -49,11 +50,11 @@ module _ (t : List ℕ) (at : ℕ) (room : at + 36 + headAt (drop at t) .pathlen
 
 -- what is measured of a row that LIST has not, and of one that it has
 module _ (prefix suffix x : List ℕ) where
-  pub none-measured : lists prefix suffix (pathAt x) ≡ false → (_≡_ {A = ℕ} 0 (cond (lists prefix suffix (pathAt x)) 1 0)) × (0 ≡ length (rowBytes prefix suffix x))
+  pub none-measured : isListed prefix suffix (pathAt x) ≡ false → (_≡_ {A = ℕ} 0 (cond (isListed prefix suffix (pathAt x)) 1 0)) × (0 ≡ length (rowBytes prefix suffix x))
   unfolding rowBytes
   none-measured e = (rw e, rw e)
 
-  pub one-measured : (n : ℕ) → lists prefix suffix (pathAt x) ≡ true → n ≡ length (recordAt x) → (_≡_ {A = ℕ} 1 (cond (lists prefix suffix (pathAt x)) 1 0)) × (n ≡ length (rowBytes prefix suffix x))
+  pub one-measured : (n : ℕ) → isListed prefix suffix (pathAt x) ≡ true → n ≡ length (recordAt x) → (_≡_ {A = ℕ} 1 (cond (isListed prefix suffix (pathAt x)) 1 0)) × (n ≡ length (rowBytes prefix suffix x))
   unfolding rowBytes
   one-measured n e l = (rw e, rw e l)
 
@@ -62,10 +63,10 @@ module _ (prefix suffix p : List ℕ) where
   pub long-enough : begins prefix p ≡ true → length prefix ≤ length p
   long-enough e = omega (arith, ap length (begins-true prefix p e), length-append prefix (drop (length prefix) p))
 
-  pub has-not : begins prefix p ≡ false → false ≡ lists prefix suffix p
-  unfolding lists
+  pub has-not : begins prefix p ≡ false → false ≡ isListed prefix suffix p
+  unfolding isListed
   has-not e = rw e
 
-  pub has-rest : (r : Bool) → begins prefix p ≡ true → r ≡ ends suffix (take (length p - length prefix) (drop (length prefix) p)) → r ≡ lists prefix suffix p
-  unfolding lists
+  pub has-rest : (r : Bool) → begins prefix p ≡ true → r ≡ ends suffix (take (length p - length prefix) (drop (length prefix) p)) → r ≡ isListed prefix suffix p
+  unfolding isListed
   has-rest r e q = rw e (q ∙ ap (ends suffix) (take-all (length p - length prefix) (drop (length prefix) p) (simp length-drop (omega arith))))

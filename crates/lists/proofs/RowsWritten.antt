@@ -1,22 +1,21 @@
 -- What LIST writes, row by row, at the front of the answer buffer. Assumes nothing.
 use Prim.Native.Nat.{ℕ, _+_, _≤_, _<_}
 use mathlib.Core.Path.{_≡_, refl, sym, ap, _∙_}
-use mathlib.Core.Bool.{true, false, _&&_}
+use mathlib.Core.Bool.{true, false}
 use mathlib.Core.List.{List, [], _++_, append-assoc}
 use native.Mathlib.Nat.{add-zero}
 use native.Mathlib.Omega.{arith}
 use lib.ListN.{length, take, drop, length-append, take-append-drop}
 use lib.Seq.{take-all}
 use Rattle.number.proofs.Fields.{over}
-use Rattle.order.specs.Order.{begins, ends}
 use Rattle.machine.specs.Map.{Map, records}
 use Rattle.machine.specs.Names.{Bytes}
 use Rattle.machine.specs.State.{Object, State}
-use Rattle.machine.specs.Steps.{listed, listRecord}
+use Rattle.machine.specs.Steps.{isListed, listed, listRecord}
 use Rattle.machine.proofs.MapKeep.{keep-append, records-append}
 use Rattle.row.specs.Row.{encodeRows, headAt, pathAt}
 use Rattle.layout.specs.Memory.{objectRows, Stands}
-use Rattle.lists.specs.Rows.{lists, recordAt, rowBytes, listing}
+use Rattle.lists.specs.Rows.{recordAt, rowBytes, listing}
 use Rattle.lists.proofs.ObjectRows.{row-next, bytes-next}
 use Rattle.lists.proofs.Front.{front-grows}
 
@@ -28,11 +27,11 @@ module _ (prefix suffix x b : List ℕ) (to : ℕ) where
   abbrev bytes : Bytes
   bytes = rowBytes prefix suffix x
 
-  pub none-written : lists prefix suffix (pathAt x) ≡ false → (to ≡ to + length bytes) × (b ≡ over b to bytes (length bytes))
+  pub none-written : isListed prefix suffix (pathAt x) ≡ false → (to ≡ to + length bytes) × (b ≡ over b to bytes (length bytes))
   unfolding rowBytes
   none-written e = (rw e (sym (add-zero to)), rw e (over-none b to))
 
-  module _ (e : lists prefix suffix (pathAt x) ≡ true) where
+  module _ (e : isListed prefix suffix (pathAt x) ≡ true) where
     row-is : bytes ≡ recordAt x
     unfolding rowBytes
     row-is = rw e
@@ -51,7 +50,7 @@ module _ (prefix suffix : Bytes) where
 
   bytes-append : (m n : Map Bytes Object) → bytesOf (m ++ n) ≡ bytesOf m ++ bytesOf n
   unfolding listed
-  bytes-append m n = ap (records listRecord) (keep-append (λ p x. begins prefix p && ends suffix (drop (length prefix) p)) m n) ∙ records-append listRecord (listed prefix suffix m) (listed prefix suffix n)
+  bytes-append m n = ap (records listRecord) (keep-append (λ p x. isListed prefix suffix p) m n) ∙ records-append listRecord (listed prefix suffix m) (listed prefix suffix n)
 
   bytes-fewer : (i : ℕ) (o : Map Bytes Object) → length (bytesOf (take i o)) ≤ length (bytesOf o)
   bytes-fewer i o =

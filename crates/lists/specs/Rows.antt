@@ -1,21 +1,16 @@
--- LIST's test of a path, and what it writes: for a row, and for a state. Assumes nothing.
+-- What LIST writes: for a row, and for a state. Assumes nothing.
 use Prim.Native.Nat.{ℕ}
-use mathlib.Core.Bool.{Bool, _&&_, cond}
+use mathlib.Core.Bool.{cond}
 use mathlib.Core.List.{List, [], _∷_, _++_}
-use lib.ListN.{length, drop}
+use lib.ListN.{length}
 use Rattle.number.specs.Number.{le}
-use Rattle.order.specs.Order.{begins, ends}
 use Rattle.machine.specs.Map.{records}
 use Rattle.machine.specs.Names.{Bytes}
 use Rattle.machine.specs.Etags.{text}
 use Rattle.machine.specs.State.{State}
-use Rattle.machine.specs.Steps.{listed, listRecord}
+use Rattle.machine.specs.Steps.{isListed, listed, listRecord}
 use Rattle.row.specs.Row.{headAt, digestAt, pathAt}
 use Rattle.layout.specs.Memory.{etagOf}
-
--- "begins with the prefix and whose rest after the prefix ends with the suffix"
-unfoldable pub lists : (prefix suffix path : Bytes) → Bool
-lists prefix suffix p = begins prefix p && ends suffix (drop (length prefix) p)
 
 -- the text of the etag in the row at the front of t
 unfoldable pub textAt : List ℕ → Bytes
@@ -27,7 +22,7 @@ recordAt t = headAt t .pathlen ∷ pathAt t ++ (le 4 (headAt t .size) ++ (le 8 (
 
 -- what LIST writes for that row
 unfoldable pub rowBytes : (prefix suffix : Bytes) (t : List ℕ) → Bytes
-rowBytes prefix suffix t = cond (lists prefix suffix (pathAt t)) (recordAt t) []
+rowBytes prefix suffix t = cond (isListed prefix suffix (pathAt t)) (recordAt t) []
 
 -- all that LIST writes
 abbrev pub listing : (prefix suffix : Bytes) → State → Bytes

@@ -4,7 +4,6 @@ mod paths;
 mod record;
 mod writing;
 
-use types::Counts;
 use types::ListAnswer;
 ghost use mathlib.Core.Path.{_≡_};
 ghost use mathlib.Core.Bool.{true};
@@ -25,15 +24,12 @@ fn list_whole(
     requires { ⌜ whole (now tables) (now arena) ≡ true ⌝ }
     ensures { λ r. ⌜ listReply r (now (answer .exit)) ≡ replyOf (now (answer .entry)) (outcome (LIST (now (prefix .entry)) (now (suffix .entry)) (now (answer .entry))) (memory (now (tables .entry)) (now (arena .entry)))) ⌝ }
 {
-    let m = measuring::measure_rows(tables, arena, prefix, suffix);
-    if answer.len() < m.bytes as usize {
+    let counts = measuring::measure_rows(tables, arena, prefix, suffix);
+    if answer.len() < counts.bytes as usize {
         return ListAnswer::Refused(7);
     }
     writing::write_rows(tables, arena, prefix, suffix, answer);
-    ListAnswer::Written(Counts {
-        records: m.records,
-        bytes: m.bytes,
-    })
+    ListAnswer::Written(counts)
 }
 
 // LIST: the records of the paths that begin with the prefix and whose rest ends with the suffix.

@@ -1,14 +1,15 @@
 // What LIST writes, measured.
+use types::Counts;
 ghost use mathlib.Core.Path.{_≡_};
 ghost use mathlib.Core.Bool.{true, cond};
 ghost use Prim.Native.Nat.{ℕ, _+_, _≤_};
 ghost use mathlib.Core.List.{List};
 ghost use lib.ListN.{length, drop};
 ghost use Rattle.machine.specs.Etags.{text};
-ghost use Rattle.machine.specs.Steps.{listed};
+ghost use Rattle.machine.specs.Steps.{isListed, listed};
 ghost use Rattle.row.specs.Row.{headAt, pathAt};
 ghost use Rattle.layout.specs.Memory.{whole, stateOf, etagOf};
-ghost use Rattle.lists.specs.Rows.{lists, rowBytes, listing};
+ghost use Rattle.lists.specs.Rows.{rowBytes, listing};
 
 // How long the text of an etag is.
 pub fn text_length(kind: u8, count: u16) -> u32
@@ -20,35 +21,29 @@ pub fn text_length(kind: u8, count: u16) -> u32
     33 + text::decimal_length(count) as u32
 }
 
-// How many records and bytes LIST writes.
-pub struct Measured {
-    pub records: u32,
-    pub bytes: u32,
-}
-
-// What it writes for the row at `at`.
-fn measure_row(tables: &[u8], at: usize, prefix: &[u8], suffix: &[u8]) -> Measured
+// How many records, 0 or 1, and bytes LIST writes for the row at `at`.
+fn measure_row(tables: &[u8], at: usize, prefix: &[u8], suffix: &[u8]) -> Counts
     requires { ⌜ at + 36 + headAt (drop at (now tables)) .pathlen ≤ length (now tables) ⌝ }
-    ensures { λ r. ⌜ (r .records ≡ cond (lists (now (prefix .entry)) (now (suffix .entry)) (pathAt (drop at (now (tables .entry))))) 1 0)
+    ensures { λ r. ⌜ (r .records ≡ cond (isListed (now (prefix .entry)) (now (suffix .entry)) (pathAt (drop at (now (tables .entry))))) 1 0)
         × (r .bytes ≡ length (rowBytes (now (prefix .entry)) (now (suffix .entry)) (drop at (now (tables .entry)))))
         × (r .records ≤ 1)
         × (r .bytes ≤ 307) ⌝ }
 {
     if !crate::paths::has_row(tables, at, prefix, suffix) {
-        return Measured {
+        return Counts {
             records: 0,
             bytes: 0,
         };
     }
     let h = row::read_head(tables, at);
-    Measured {
+    Counts {
         records: 1,
         bytes: 14 + number::wide(h.pathlen) as u32 + text_length(h.kind, h.count),
     }
 }
 
-// All that it writes.
-pub fn measure_rows(tables: &[u8], arena: &[u8], prefix: &[u8], suffix: &[u8]) -> Measured
+// How many records and bytes it writes in all.
+pub fn measure_rows(tables: &[u8], arena: &[u8], prefix: &[u8], suffix: &[u8]) -> Counts
     requires { ⌜ whole (now tables) (now arena) ≡ true ⌝ }
     ensures { λ r. ⌜ (r .records ≡ length (listed (now (prefix .entry)) (now (suffix .entry)) (stateOf (now (tables .entry)) (now (arena .entry)) .O)))
         × (r .bytes ≡ length (listing (now (prefix .entry)) (now (suffix .entry)) (stateOf (now (tables .entry)) (now (arena .entry))))) ⌝ }
@@ -67,5 +62,5 @@ pub fn measure_rows(tables: &[u8], arena: &[u8], prefix: &[u8], suffix: &[u8]) -
         bytes += m.bytes;
         i += 1;
     }
-    Measured { records, bytes }
+    Counts { records, bytes }
 }

@@ -3,11 +3,11 @@ ghost use mathlib.Core.Path.{_≡_};
 ghost use Prim.Native.Nat.{_+_, _≤_};
 ghost use lib.ListN.{length, drop};
 ghost use Rattle.row.specs.Row.{headAt, pathAt};
-ghost use Rattle.lists.specs.Rows.{lists};
+ghost use Rattle.machine.specs.Steps.{isListed};
 
 // Whether LIST has the path.
 fn has_path(path: &[u8], prefix: &[u8], suffix: &[u8]) -> bool
-    ensures { λ r. ⌜ r ≡ lists (now (prefix .entry)) (now (suffix .entry)) (now (path .entry)) ⌝ }
+    ensures { λ r. ⌜ r ≡ isListed (now (prefix .entry)) (now (suffix .entry)) (now (path .entry)) ⌝ }
 {
     if !order::begins_with(path, prefix) {
         return false;
@@ -19,7 +19,7 @@ fn has_path(path: &[u8], prefix: &[u8], suffix: &[u8]) -> bool
 // Whether LIST has the path of the row at `at`.
 pub fn has_row(tables: &[u8], at: usize, prefix: &[u8], suffix: &[u8]) -> bool
     requires { ⌜ at + 36 + headAt (drop at (now tables)) .pathlen ≤ length (now tables) ⌝ }
-    ensures { λ r. ⌜ r ≡ lists (now (prefix .entry)) (now (suffix .entry)) (pathAt (drop at (now (tables .entry)))) ⌝ }
+    ensures { λ r. ⌜ r ≡ isListed (now (prefix .entry)) (now (suffix .entry)) (pathAt (drop at (now (tables .entry)))) ⌝ }
 {
     let h = row::read_head(tables, at);
     let from = at + 36;

@@ -18,7 +18,7 @@ use Rattle.machine.specs.Demand3.{kind, partOf, commitOf, isLook}
 use Rattle.machine.proofs.Options.{none-some}
 use Rattle.machine.proofs.MapLaws.{insert-there}
 use Rattle.machine.proofs.MapEach.{each, lookup-each, each-insert, each-remove}
-use Rattle.machine.proofs.Outcome.{Then, then-accept, then-else, then-given}
+use Rattle.machine.proofs.Outcome.{Then, then-accept, then-else, then-given, then-after}
 
 -- the upload u with no parts, any other as it is
 abbrev pub bareAt : ℕ → ℕ → Upload → Upload
@@ -246,11 +246,6 @@ part-like A u s n d =
     then-else _ _ _ _ λ _.
     then-accept (λ a out s′. Like u s′ s) _ _ _ (record { objects = refl; uploads = bare-part u (s .U) x _ e; number = refl })
 
-after-then : (u : ℕ) (s : State) (o : Outcome) → Then (λ a out s′. Like u s′ s) o → Like u (after s o) s
-unfolding Then
-after-then u s (refuse n) h = like-self u s
-after-then u s (accept a out s′) h = h
-
 pub part-went : (A u : ℕ) (s : State) (c : Call) → partOf u (kind c) ≡ true → Like u (next A s c) s × (isLook (kind c) ≡ false)
 part-went A u s (PUT t p d) h = absurd (false≢true h)
 part-went A u s (GET p b) h = absurd (false≢true h)
@@ -259,7 +254,7 @@ part-went A u s (DELETE p) h = absurd (false≢true h)
 part-went A u s (COPY t p q) h = absurd (false≢true h)
 part-went A u s (LIST prefix suffix b) h = absurd (false≢true h)
 part-went A u s (INITIATE t p) h = absurd (false≢true h)
-part-went A u s (PART v n d) h = (rw (← eqb-true u v h) (after-then u s _ (part-like A u s n d)), refl)
+part-went A u s (PART v n d) h = (rw (← eqb-true u v h) (then-after (λ s′. Like u s′ s) s _ (like-self u s) (part-like A u s n d)), refl)
 part-went A u s (COMMIT v ns) h = absurd (false≢true h)
 part-went A u s (ABORT v) h = absurd (false≢true h)
 part-went A u s (UPLOADS prefix b) h = absurd (false≢true h)

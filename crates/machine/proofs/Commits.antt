@@ -28,7 +28,7 @@ use Rattle.machine.proofs.MapLaws.{every-lookup, lookup-insert, lookup-
 use Rattle.machine.proofs.Fit.{lookup-kept, fit-listed}
 use Rattle.machine.proofs.Rules.{stored-requested, stored-not-root}
 use Rattle.machine.proofs.Traces.{cut, final-snoc}
-use Rattle.machine.proofs.Outcome.{Then, then-accept, then-else, then-given}
+use Rattle.machine.proofs.Outcome.{Then, then-accept, then-else, then-given, then-object, then-put}
 use Rattle.machine.proofs.KeepsValid.{next-valid, fresh-valid, final-valid}
 
 -- f tells what the last PART carried, and g the start, of each upload so far
@@ -109,19 +109,14 @@ module _ (A : ℕ) (s : State) (f : ℕ → ℕ → Option Bytes) (g : ℕ → O
   told k r out s′ h = then-accept (Told k) r out s′ h
 
   put-told : (t : ℕ) (p d : Bytes) → Then (Told Kind.other) (putAt A s t p d)
-  unfolding putAt
-  put-told t p d = then-else _ _ _ _ λ _. then-else _ _ _ _ λ _. told _ _ _ _ a
-
-  at-told : (p : Bytes) (k : Object → Outcome) → ((x : Object) → Then (Told Kind.looks) (k x)) → Then (Told Kind.looks) (objectAt s p k)
-  unfolding objectAt
-  at-told [] k h = h _
-  at-told (b ∷ p) k h = then-else _ _ _ _ λ _. then-given _ _ _ _ λ x _. h x
+  unfolding Told
+  put-told t p d = then-put (Told Kind.other) A s t p d λ _ _. a
 
   act-told : (c : Call) → Then (Told (kind c)) (act A s c)
   unfolding act
   act-told (PUT t p d) = then-else _ _ _ _ λ _. put-told t p d
-  act-told (GET p b) = at-told p _ λ x. then-else _ _ _ _ λ _. told _ _ _ _ a
-  act-told (HEAD p) = at-told p _ λ x. told _ _ _ _ a
+  act-told (GET p b) = then-object _ s p _ λ x. then-else _ _ _ _ λ _. told _ _ _ _ a
+  act-told (HEAD p) = then-object _ s p _ λ x. told _ _ _ _ a
   act-told (DELETE p) = then-else _ _ _ _ λ _. then-given _ _ _ _ λ x _. told _ _ _ _ a
   act-told (COPY t p q) = then-else _ _ _ _ λ _. then-given _ _ _ _ λ x _. put-told t q (x .content)
   act-told (LIST prefix suffix b) = then-else _ _ _ _ λ _. told _ _ _ _ a

@@ -12,9 +12,9 @@ use Rattle.order.specs.OrderLaws.{numbers, bytes}
 use Rattle.machine.specs.Map.{Map, byNumber, lookup, total, Every}
 use Rattle.machine.specs.Names.{Bytes, newPathOk, stampOk, requestPartOk, lastUploadNumber}
 use Rattle.machine.specs.Digest.{length-md5}
-use Rattle.machine.specs.State.{Object, Part, Upload, State, fresh, withoutObject, withUpload, withoutUpload, withNext, withPart, uploadLength, partsIn, held, counted}
-use Rattle.machine.specs.Calls.{Call, PUT, GET, HEAD, DELETE, COPY, LIST, INITIATE, PART, COMMIT, ABORT, UPLOADS, Answer, Outcome, refuse, accept}
-use Rattle.machine.specs.Steps.{fit, newUpload, newPart, putAt, objectAt, act, after, next}
+use Rattle.machine.specs.State.{Part, Upload, State, fresh, withoutObject, withUpload, withoutUpload, withNext, withPart, uploadLength, partsIn, held, counted}
+use Rattle.machine.specs.Calls.{Call, PUT, GET, HEAD, DELETE, COPY, LIST, INITIATE, PART, COMMIT, ABORT, UPLOADS, Answer, Outcome, accept}
+use Rattle.machine.specs.Steps.{fit, newUpload, newPart, putAt, act, next}
 use Rattle.machine.specs.Lists.{final}
 use Rattle.machine.specs.Valid.{ObjectOk, PartOk, UploadOk, Valid}
 use Rattle.machine.proofs.Options.{both}
@@ -23,7 +23,7 @@ use Rattle.machine.proofs.MapSums.{total-insert, total-remove, length-r
 use Rattle.machine.proofs.Fit.{fit-length}
 use Rattle.machine.proofs.Counts.{held-delete, held-abort, held-commit}
 use Rattle.machine.proofs.Rules.{new-stored, part-stored}
-use Rattle.machine.proofs.Outcome.{Then, then-accept, then-else, then-given}
+use Rattle.machine.proofs.Outcome.{Then, then-accept, then-else, then-given, then-object, then-put, then-after}
 
 -- the ceilings, each by itself
 pub record Counted (s : State) : Type 0 where
@@ -38,24 +38,18 @@ counts s h =
     let b = both _ _ (a .0) in
     record { paths = leb-true _ _ (b .0); opens = leb-true _ _ (b .1); parts = leb-true _ _ (a .1) }
 
--- `Then` a state that keeps the rules
-Kept : ℕ → Answer → Bytes → State → Type 0
-Kept A a out s = Valid A s
-
+-- accepted, and the state after keeps the rules
 abbrev Fine : ℕ → Outcome → Type 0
-Fine A o = Then (Kept A) o
+Fine A o = Then (λ a out s. Valid A s) o
 
 fine : (A : ℕ) (a : Answer) (out : Bytes) (s : State) → Valid A s → Fine A (accept a out s)
-unfolding Kept
-fine A a out s v = then-accept (Kept A) a out s v
+fine A a out s v = then-accept (λ a out s. Valid A s) a out s v
 
 put-fine : (A : ℕ) (s : State) (t : ℕ) (p d : Bytes) → stampOk t ≡ true → newPathOk p ≡ true → Valid A s → Fine A (putAt A s t p d)
-unfolding putAt
 put-fine A s t p d ht hp v =
-    then-else _ _ _ _ λ c.
-    then-else _ _ _ _ λ r.
+    then-put (λ a out s. Valid A s) A s t p d λ c r.
     let q = counts _ c in
-    fine _ _ _ _ (record {
+    record {
       objects = ascending-insert bytes p _ (s .O) (v .objects);
       object = every-insert bytes ObjectOk p _ (s .O) (record { path = new-stored p hp; stamp = ht; etag = length-md5 d }) (v .object);
       uploads = v .uploads;
@@ -66,12 +60,7 @@ put-fine A s t p d ht hp v =
       opens = q .opens;
       parts = q .parts;
       room = leb-true _ _ r;
-    })
-
-at-fine : (A : ℕ) (s : State) (p : Bytes) (k : Object → Outcome) → ((x : Object) → Fine A (k x)) → Fine A (objectAt s p k)
-unfolding objectAt
-at-fine A s [] k h = h _
-at-fine A s (b ∷ p) k h = then-else _ _ _ _ λ _. then-given _ _ _ _ λ x _. h x
+    }
 
 pub without-object-valid : (A : ℕ) (s : State) (p : Bytes) → Valid A s → Valid A (withoutObject s p)
 without-object-valid A s p v = record {
@@ -130,8 +119,8 @@ few m u x ns xs h e f = omega (arith, h, rw e at (total-remove numbers partsIn u
 act-fine : (A : ℕ) (s : State) (c : Call) → Valid A s → Fine A (act A s c)
 unfolding act
 act-fine A s (PUT t p d) v = then-else _ _ _ _ λ h. let b = both _ _ h in put-fine A s t p d (b .0) (b .1) v
-act-fine A s (GET p b) v = at-fine A s p _ λ x. then-else _ _ _ _ λ _. fine _ _ _ _ v
-act-fine A s (HEAD p) v = at-fine A s p _ λ x. fine _ _ _ _ v
+act-fine A s (GET p b) v = then-object _ s p _ λ x. then-else _ _ _ _ λ _. fine _ _ _ _ v
+act-fine A s (HEAD p) v = then-object _ s p _ λ x. fine _ _ _ _ v
 act-fine A s (DELETE p) v = then-else _ _ _ _ λ _. then-given _ _ _ _ λ x _. fine _ _ _ _ (without-object-valid A s p v)
 act-fine A s (COPY t p q) v =
     then-else _ _ _ _ λ h.
@@ -200,12 +189,7 @@ act-fine A s (ABORT u) v = then-given _ _ _ _ λ x e. fine _ _ _ _ (without-uplo
 act-fine A s (UPLOADS prefix b) v = then-else _ _ _ _ λ _. fine _ _ _ _ v
 
 pub next-valid : (A : ℕ) (s : State) (c : Call) → Valid A s → Valid A (next A s c)
-unfolding Kept Then
-next-valid A s c v = go (act A s c) (act-fine A s c v)
-  where
-    go : (o : Outcome) → Fine A o → Valid A (after s o)
-    go (refuse n) f = v
-    go (accept a out s′) f = f
+next-valid A s c v = then-after (Valid A) s (act A s c) v (act-fine A s c v)
 
 pub fresh-valid : (A : ℕ) → Valid A fresh
 unfolding held

@@ -5,13 +5,13 @@ use mathlib.Core.Path.{_≡_, refl, sym, ap, _∙_}
 use mathlib.Core.List.{List, [], _∷_, _++_}
 use native.Mathlib.Omega.{arith}
 use Rattle.machine.specs.Names.{Bytes}
-use Rattle.machine.specs.State.{Object, State}
+use Rattle.machine.specs.State.{State}
 use Rattle.machine.specs.Calls.{Call, PUT, GET, HEAD, DELETE, COPY, LIST, INITIATE, PART, COMMIT, ABORT, UPLOADS, Answer, nothing, metadata, etag, number, counts, Reply, Outcome, refuse, accept, lent}
-use Rattle.machine.specs.Steps.{putAt, objectAt, act, replyOf, after, reply, next}
+use Rattle.machine.specs.Steps.{putAt, act, replyOf, after, reply, next}
 use Rattle.machine.specs.Lists.{Trace, trace, final}
 use Rattle.machine.specs.Demand3.{calls}
 use Rattle.machine.proofs.Traces.{cut}
-use Rattle.machine.proofs.Outcome.{Then, then-accept, then-else, then-given}
+use Rattle.machine.proofs.Outcome.{Then, then-accept, then-else, then-given, then-object, then-put}
 
 module _ (A : ℕ) (s : State) where
   -- an accepted call answers no number and keeps N, or answers N and adds 1 to it
@@ -30,19 +30,14 @@ module _ (A : ℕ) (s : State) where
   gives a out s′ h = then-accept Gives a out s′ h
 
   put-gives : (t : ℕ) (p d : Bytes) → Then Gives (putAt A s t p d)
-  unfolding putAt Given
-  put-gives t p d = then-else _ _ _ _ λ _. then-else _ _ _ _ λ _. gives _ _ _ refl
-
-  at-gives : (p : Bytes) (k : Object → Outcome) → ((x : Object) → Then Gives (k x)) → Then Gives (objectAt s p k)
-  unfolding objectAt
-  at-gives [] k h = h _
-  at-gives (b ∷ p) k h = then-else _ _ _ _ λ _. then-given _ _ _ _ λ x _. h x
+  unfolding Given Gives
+  put-gives t p d = then-put Gives A s t p d λ _ _. refl
 
   act-gives : (c : Call) → Then Gives (act A s c)
   unfolding act Given
   act-gives (PUT t p d) = then-else _ _ _ _ λ _. put-gives t p d
-  act-gives (GET p b) = at-gives p _ λ x. then-else _ _ _ _ λ _. gives _ _ _ refl
-  act-gives (HEAD p) = at-gives p _ λ x. gives _ _ _ refl
+  act-gives (GET p b) = then-object _ s p _ λ x. then-else _ _ _ _ λ _. gives _ _ _ refl
+  act-gives (HEAD p) = then-object _ s p _ λ x. gives _ _ _ refl
   act-gives (DELETE p) = then-else _ _ _ _ λ _. then-given _ _ _ _ λ x _. gives _ _ _ refl
   act-gives (COPY t p q) = then-else _ _ _ _ λ _. then-given _ _ _ _ λ x _. put-gives t q (x .content)
   act-gives (LIST prefix suffix b) = then-else _ _ _ _ λ _. gives _ _ _ refl

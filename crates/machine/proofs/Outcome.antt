@@ -2,10 +2,14 @@
 -- Assumes nothing.
 use mathlib.Core.Path.{_≡_, refl}
 use mathlib.Core.Bool.{Bool, true, false}
+use mathlib.Core.List.{[], _∷_}
 use mathlib.Core.Option.{Option, none, some}
+use Prim.Native.Nat.{ℕ}
+use lib.Dec.{leb}
 use Rattle.machine.specs.Names.{Bytes}
-use Rattle.machine.specs.State.{State}
-use Rattle.machine.specs.Calls.{Answer, Refusal, Outcome, refuse, accept, _else_then_, given}
+use Rattle.machine.specs.State.{Object, State, withObject, held, counted}
+use Rattle.machine.specs.Calls.{Answer, nothing, Refusal, Outcome, refuse, accept, _else_then_, given}
+use Rattle.machine.specs.Steps.{plainObject, putAt, objectAt, after}
 
 -- Q holds where the outcome is accepted
 unfoldable pub Then : (Answer → Bytes → State → Type 0) → Outcome → Type 0
@@ -25,3 +29,22 @@ pub then-given : (Q : Answer → Bytes → State → Type 0) {X : Type 0} (o : O
 unfolding Then given
 then-given Q none n k h = tt
 then-given Q (some x) n k h = h x refl
+
+-- through what GET and HEAD find
+pub then-object : (Q : Answer → Bytes → State → Type 0) (s : State) (p : Bytes) (k : Object → Outcome) → ((x : Object) → Then Q (k x)) → Then Q (objectAt s p k)
+unfolding objectAt
+then-object Q s [] k h = h _
+then-object Q s (b ∷ p) k h = then-else _ _ _ _ λ _. then-given _ _ _ _ λ x _. h x
+
+-- through the step that PUT and COPY share
+pub then-put : (Q : Answer → Bytes → State → Type 0) (A : ℕ) (s : State) (t : ℕ) (p d : Bytes) →
+    (counted (withObject s p (plainObject t d)) ≡ true → leb (held (withObject s p (plainObject t d))) A ≡ true → Q nothing [] (withObject s p (plainObject t d))) →
+    Then Q (putAt A s t p d)
+unfolding putAt
+then-put Q A s t p d h = then-else _ _ _ _ λ c. then-else _ _ _ _ λ r. then-accept Q _ _ _ (h c r)
+
+-- what holds before a call and of every accepted outcome holds after it
+pub then-after : (P : State → Type 0) (s : State) (o : Outcome) → P s → Then (λ a out s′. P s′) o → P (after s o)
+unfolding Then
+then-after P s (refuse n) before h = before
+then-after P s (accept a out s′) before h = h

@@ -16,7 +16,7 @@ use Rattle.machine.specs.Digest.{md5, length-md5}
 use Rattle.machine.specs.Etags.{text}
 use Rattle.machine.specs.State.{Object, Upload, State, fresh, held, counted}
 use Rattle.machine.specs.Calls.{LIST, Answer, counts, nothing, given, _else_then_}
-use Rattle.machine.specs.Steps.{plainObject, putAt, objectAt, listed, listRecord, uploadRecord, write, act, replyOf, reply}
+use Rattle.machine.specs.Steps.{plainObject, putAt, objectAt, isListed, listed, listRecord, uploadRecord, write, act, replyOf, reply}
 use Rattle.machine.specs.Lists.{final}
 use Rattle.machine.specs.Marked.{a, xyz, m5}
 
@@ -53,7 +53,7 @@ pub list-digits : length (hex (md5 xyz)) ≡ 32
 list-digits = omega (arith, length-hex (md5 xyz), length-md5 xyz)
 
 m5-list : (b : Bytes) → reply 64 (final 64 fresh m5) (LIST [] [] b) ≡ replyOf b (write (counts 1 (length m5-record)) m5-record b (final 64 fresh m5))
-unfolding _else_then_ given act putAt objectAt counted held pathOk requestPathOk newPathOk stampOk listed begins ends m5-record
+unfolding _else_then_ given act putAt objectAt counted held pathOk requestPathOk newPathOk stampOk listed isListed begins ends m5-record
 m5-list b = refl
 
 -- "47 bytes of buffer suffice"

@@ -1,6 +1,6 @@
 -- Document 01's steps: what each call answers and does, its checks in checking order. Assumes nothing.
 use Prim.Native.Nat.{ℕ}
-use mathlib.Core.Bool.{_&&_}
+use mathlib.Core.Bool.{Bool, _&&_}
 use mathlib.Core.List.{List, [], _∷_, _++_}
 use mathlib.Core.Option.{Option, none, some}
 use lib.Dec.{leb}
@@ -65,8 +65,11 @@ abbrev pub joinedObject : Upload → List Part → Object
 joinedObject x xs = record { content = contents xs; created = x .started; etag = joined (md5 (digests xs)) (length xs) }
 
 -- LIST: "every path of O that begins with the prefix and whose rest after the prefix ends with the suffix"
+unfoldable pub isListed : (prefix suffix path : Bytes) → Bool
+isListed prefix suffix p = begins prefix p && ends suffix (drop (length prefix) p)
+
 unfoldable pub listed : (prefix suffix : Bytes) → Map Bytes Object → Map Bytes Object
-listed prefix suffix o = keep (λ p x. begins prefix p && ends suffix (drop (length prefix) p)) o
+listed prefix suffix o = keep (λ p x. isListed prefix suffix p) o
 
 -- "LIST writes for each path: its length (1 byte), the path, data length (4), created (8), etag text length (1), etag text."
 unfoldable pub listRecord : Bytes → Object → Bytes

@@ -12,7 +12,7 @@ use Rattle.machine.specs.Digest.{md5}
 use Rattle.machine.specs.Etags.{absent, plain, joined, text}
 use Rattle.machine.specs.State.{Object, State, fresh, held, counted}
 use Rattle.machine.specs.Calls.{Call, PUT, GET, HEAD, COPY, LIST, INITIATE, PART, COMMIT, ABORT, UPLOADS, nothing, metadata, etag, number, counts, Reply, badRequest, refuse, accept, given, _else_then_}
-use Rattle.machine.specs.Steps.{putAt, objectAt, listed, listRecord, openUnder, uploadRecord, FRESH, act, reply}
+use Rattle.machine.specs.Steps.{putAt, objectAt, isListed, listed, listRecord, openUnder, uploadRecord, FRESH, act, reply}
 use Rattle.machine.specs.Lists.{trace, final}
 use Rattle.machine.specs.Marked.{says, writes, refused, a, r, xyz, A, B, m7, m7-replies, replies}
 
@@ -57,7 +57,7 @@ listing prefix suffix = map (λ (e : Bytes × Object). e .0) (listed prefix suff
 
 pub listings : map (λ (e : Bytes × Bytes). listing (e .0) (e .1)) ((97 ∷ 98 ∷ [], 98 ∷ 99 ∷ []) ∷ ([], []) ∷ [])
     ≡ ((97 ∷ 98 ∷ 98 ∷ 99 ∷ []) ∷ []) ∷ ((97 ∷ 98 ∷ []) ∷ (97 ∷ 98 ∷ 98 ∷ 99 ∷ []) ∷ (97 ∷ 98 ∷ 99 ∷ []) ∷ []) ∷ []
-unfolding _else_then_ given act putAt counted held pathOk newPathOk stampOk listed begins ends
+unfolding _else_then_ given act putAt counted held pathOk newPathOk stampOk listed isListed begins ends
 listings = refl
 
 -- a record of LIST with a joined etag, byte for byte: "-256" after the digest's digits, here of two bytes
@@ -74,7 +74,7 @@ etag-texts = refl
 -- "parts seen by LIST": none is, nor by GET or HEAD; UPLOADS counts them
 pub parts-unlisted : replies 64 (m7 ++ LIST [] [] [] ∷ GET r [] ∷ HEAD r ∷ UPLOADS r (replicate 17 9) ∷ UPLOADS a [] ∷ [])
     ≡ m7-replies ++ says (counts 0 0) ∷ refused 3 ∷ refused 3 ∷ writes (counts 1 16) (1 ∷ 0 ∷ 0 ∷ 0 ∷ 1 ∷ 114 ∷ 7 ∷ 0 ∷ 0 ∷ 0 ∷ 0 ∷ 0 ∷ 0 ∷ 0 ∷ 2 ∷ 0 ∷ 9 ∷ []) ∷ says (counts 0 0) ∷ []
-unfolding _else_then_ given act objectAt counted held pathOk requestPathOk newPathOk stampOk numberOk requestPartOk listed openUnder begins uploadRecord le
+unfolding _else_then_ given act objectAt counted held pathOk requestPathOk newPathOk stampOk numberOk requestPartOk listed isListed openUnder begins uploadRecord le
 parts-unlisted = refl
 
 -- "COPY carrying a joined etag over": it is plain

@@ -1,8 +1,7 @@
 -- How a function that C calls meets its contract: by what the call of the store ensures. Assumes nothing.
 use Prim.Native.Nat.{ℕ}
 use mathlib.Core.Path.{_≡_, refl, sym, ap, _∙_}
-use mathlib.Core.List.{List, []}
-use lib.Dec.{eqb}
+use mathlib.Core.List.{[]}
 use lib.ListN.{length}
 use borrow.Author.Tests.{eq-eqb, ne-eqb}
 use Rattle.types.specs.declared.DoneAnswer.{DoneAnswer}
@@ -17,9 +16,9 @@ use Rattle.types.specs.declared.ListAnswer.{ListAnswer}
 use Rattle.types.specs.declared.ListAnswer.the-variants as list
 use Rattle.machine.specs.Names.{Bytes}
 use Rattle.machine.specs.Calls.{Call, Reply, lent}
-use Rattle.calls.specs.Answers.{refused, doneReply, getReply, partReply, initiateReply, listReply}
+use Rattle.calls.specs.Answers.{doneReply, getReply, partReply, initiateReply, listReply}
 use Rattle.calls.specs.Made.{Memory, meantReply, Made}
-use Rattle.reply.specs.Reply.{replyLength, replyOver}
+use Rattle.reply.specs.Reply.{replyOver}
 use Rattle.rathnodi.specs.Exported.{numbered, answerWith, replyAfter, Exported}
 use Rattle.rathnodi.proofs.Telling.{Telling, meant-over}
 

@@ -1,7 +1,6 @@
 // The calls on objects.
 use crate::REPLY_LEN;
 use types::Stamp;
-ghost use mathlib.Core.Path.{_≡_};
 ghost use mathlib.Core.List.{[]};
 ghost use Rattle.machine.specs.Calls.{PUT, GET, HEAD, DELETE, COPY, LIST};
 ghost use Rattle.calls.specs.Made.{memory, Made};

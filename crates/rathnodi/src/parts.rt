@@ -3,7 +3,6 @@ use crate::REPLY_LEN;
 use types::PartNumber;
 use types::Stamp;
 use types::UploadNumber;
-ghost use mathlib.Core.Path.{_≡_};
 ghost use mathlib.Core.List.{[]};
 ghost use Rattle.machine.specs.Calls.{INITIATE, PART, COMMIT, ABORT, UPLOADS};
 ghost use Rattle.calls.specs.Answers.{partList};

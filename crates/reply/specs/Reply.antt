@@ -1,6 +1,6 @@
 -- The reply: 48 bytes in which C gets metadata, numbers and counts. Assumes nothing.
 use Prim.Native.Nat.{ℕ}
-use mathlib.Core.List.{[], _∷_, _++_}
+use mathlib.Core.List.{_++_}
 use Rattle.number.specs.Number.{le}
 use Rattle.machine.specs.Names.{Bytes}
 use Rattle.machine.specs.Etags.{Etag, absent, plain, joined}

@@ -35,14 +35,22 @@ use types::UploadNumber;
 ghost use mathlib.Core.Path.{_≡_};
 ghost use lib.ListN.{length};
 
+// COMMIT of the list that the text says, at most 32 numbers.
 fn commit(tables: &mut [u8], arena: &mut [u8], upload: u32, text: &[u8]) -> DoneAnswer {
     let mut list = [0u8; 64];
     let n = part_list(text, &mut list);
     store::commit(tables, arena, UploadNumber(upload), &list[..n])
 }
 
-// The words that have an answer buffer.
-fn answered(tables: &[u8], arena: &[u8], word: usize, a: &[u8], b: &[u8], answer: &mut [u8]) {
+// GET, LIST or UPLOADS, over an answer buffer.
+fn get_list_or_uploads(
+    tables: &[u8],
+    arena: &[u8],
+    word: usize,
+    a: &[u8],
+    b: &[u8],
+    answer: &mut [u8],
+) {
     match word {
         GET => print_found(store::get(tables, arena, a, answer)),
         LIST => print_written(store::list(tables, arena, a, b, answer)),
@@ -50,8 +58,9 @@ fn answered(tables: &[u8], arena: &[u8], word: usize, a: &[u8], b: &[u8], answer
     }
 }
 
-fn answer_shown(tables: &[u8], arena: &[u8], word: usize, line: &[u8], answer: &mut [u8]) {
-    answered(tables, arena, word, field(line, 2), field(line, 3), answer);
+// The same, and the buffer behind the answer: GET's as text.
+fn call_and_show(tables: &[u8], arena: &[u8], word: usize, line: &[u8], answer: &mut [u8]) {
+    get_list_or_uploads(tables, arena, word, field(line, 2), field(line, 3), answer);
     print_buffer(answer, word == GET);
 }
 
@@ -62,24 +71,25 @@ fn dots() -> [u8; 512]
     [b'.'; 512]
 }
 
-fn answering(tables: &[u8], arena: &[u8], word: usize, line: &[u8]) {
+// The same, over a buffer as long as the line says.
+fn call_with_buffer(tables: &[u8], arena: &[u8], word: usize, line: &[u8]) {
     let mut space = dots();
     let n = front_len(true, line, 0, &space);
-    answer_shown(tables, arena, word, line, &mut space[..n]);
+    call_and_show(tables, arena, word, line, &mut space[..n]);
 }
 
 // The words that change nothing.
-fn reading(tables: &[u8], arena: &[u8], word: usize, line: &[u8]) {
+fn reading_call(tables: &[u8], arena: &[u8], word: usize, line: &[u8]) {
     match word {
         TABLES => print_front(tables, line),
         ARENA => print_front(arena, line),
         HEAD => print_found(store::head(tables, arena, field(line, 1))),
-        _ => answering(tables, arena, word, line),
+        _ => call_with_buffer(tables, arena, word, line),
     }
 }
 
 // PUT and COPY.
-fn stored(
+fn put_or_copy(
     tables: &mut [u8],
     arena: &mut [u8],
     word: usize,
@@ -95,7 +105,13 @@ fn stored(
 }
 
 // COMMIT and ABORT.
-fn ended(tables: &mut [u8], arena: &mut [u8], word: usize, upload: u32, list: &[u8]) -> DoneAnswer {
+fn commit_or_abort(
+    tables: &mut [u8],
+    arena: &mut [u8],
+    word: usize,
+    upload: u32,
+    list: &[u8],
+) -> DoneAnswer {
     if word == COMMIT {
         commit(tables, arena, upload, list)
     } else {
@@ -127,11 +143,11 @@ fn part(tables: &mut [u8], arena: &mut [u8], line: &[u8]) -> PartAnswer {
 }
 
 // The words that answer a result alone.
-fn done(tables: &mut [u8], arena: &mut [u8], word: usize, line: &[u8]) -> DoneAnswer {
+fn done_call(tables: &mut [u8], arena: &mut [u8], word: usize, line: &[u8]) -> DoneAnswer {
     if word == DELETE {
         store::delete(tables, arena, field(line, 1))
     } else if word <= COPY {
-        stored(
+        put_or_copy(
             tables,
             arena,
             word,
@@ -140,23 +156,25 @@ fn done(tables: &mut [u8], arena: &mut [u8], word: usize, line: &[u8]) -> DoneAn
             field(line, 3),
         )
     } else {
-        ended(tables, arena, word, upload(line), field(line, 2))
+        commit_or_abort(tables, arena, word, upload(line), field(line, 2))
     }
 }
 
-fn changing(tables: &mut [u8], arena: &mut [u8], word: usize, line: &[u8]) {
+// The words that may change memory.
+fn changing_call(tables: &mut [u8], arena: &mut [u8], word: usize, line: &[u8]) {
     match word {
         FRESH => print_result(store::fresh(tables, arena)),
         INITIATE => print_opened(initiate(tables, arena, line)),
         PART => print_stored(part(tables, arena, line)),
-        _ => print_done(done(tables, arena, word, line)),
+        _ => print_done(done_call(tables, arena, word, line)),
     }
 }
 
+// The call that the word says, with the line's fields; nothing for another word.
 pub fn run(tables: &mut [u8], arena: &mut [u8], word: usize, line: &[u8]) {
     if word <= UPLOADS {
-        reading(tables, arena, word, line);
+        reading_call(tables, arena, word, line);
     } else if word <= ABORT {
-        changing(tables, arena, word, line);
+        changing_call(tables, arena, word, line);
     }
 }

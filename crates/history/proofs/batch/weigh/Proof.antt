@@ -1,5 +1,4 @@
 -- `history::batch::weigh` meets its contract. Assumes nothing.
-use native.Mathlib.Omega.{arith}
 use borrow.Author.Needs.{needs}
 use Rattle.history.proofs.batch.weigh.Statement.{statement}
 use Rattle.history.proofs.batch.weigh.Tie as tie

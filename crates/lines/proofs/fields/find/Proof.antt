@@ -1,6 +1,6 @@
 -- `lines::fields::find` meets its contract. The invariant: i is within the text. Assumes nothing.
 use lib.ListN.{length}
-use Prim.Native.Nat.{_-_, _≤_, _+_}
+use Prim.Native.Nat.{_-_, _≤_}
 use native.Mathlib.Omega.{arith}
 use Rattle.lines.proofs.fields.find.Statement.{statement}
 use Rattle.lines.proofs.fields.find.Tie as tie

@@ -3,7 +3,7 @@ use mathlib.Core.Path.{ap, _∙_}
 use native.Mathlib.Omega.{arith}
 use borrow.Author.Needs.{needs}
 use Rattle.row.specs.declared.Head.{Head}
-use Rattle.lists.specs.Rows.{lists}
+use Rattle.machine.specs.Steps.{isListed}
 use Rattle.lists.proofs.RowLengths.{path-read}
 use Rattle.lists.proofs.paths.has_row.Statement.{statement}
 use Rattle.lists.proofs.paths.has_row.Tie as tie
@@ -37,7 +37,7 @@ returns c =
     let k = c .before .before .before .before .before .before .before in
     let a = k .args in
     let h = c .before .before .before .read-head in
-    c .has-path .ensures ∙ ap (lists (a .prefix .now) (a .suffix .now)) (path-read (a .tables .now) (a .at) (k .pre) (h .result .pathlen) (ap (λ (x : Head). x .pathlen) (h .ensures)))
+    c .has-path .ensures ∙ ap (isListed (a .prefix .now) (a .suffix .now)) (path-read (a .tables .now) (a .at) (k .pre) (h .result .pathlen) (ap (λ (x : Head). x .pathlen) (h .ensures)))
 
 pub has-row-spec : {M : Type 1} → statement M
 has-row-spec =

@@ -57,8 +57,9 @@ extern "C" {
 /* What a call returns. */
 enum {
     RATHNODI_OK = 0,
-    RATHNODI_NOT_A_STORE = 1,     /* a slice has the wrong length, or the memory is no store */
-    RATHNODI_BAD_REQUEST = 2,     /* a bad path, stamp, part number or part list; an upload that is not open */
+    RATHNODI_NOT_A_STORE = 1,     /* tables or reply of the wrong length; memory that is no store */
+    RATHNODI_BAD_REQUEST = 2,     /* a bad path, stamp, part number or part list; an upload that is not open; fresh: an
+                                   * arena over RATHNODI_ARENA_MAX */
     RATHNODI_NOT_FOUND = 3,       /* no object at that path */
     RATHNODI_TABLE_FULL = 4,      /* a ceiling of paths, uploads or parts */
     RATHNODI_ARENA_FULL = 5,      /* more data than the arena has bytes */

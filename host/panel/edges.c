@@ -113,6 +113,9 @@ static void start(void)
     accepted("put", good(PUT));
     accepted("initiate", good(INITIATE));
     accepted("part", good(PART));
+    /* No zeros in what a refusal must leave. */
+    memset(now.reply, 0xa5, sizeof now.reply);
+    mark();
 }
 
 static void wrong_lengths(void)
@@ -219,6 +222,19 @@ static void bad_arguments(void)
             RATHNODI_NOT_A_STORE);
 }
 
+/* The call writes so many bytes of its answer and leaves the rest. */
+static void rest_keeps(const char *what, int call, int written)
+{
+    memset(now.answer, 0x5a, sizeof now.answer);
+    mark();
+    accepted(what, good(call));
+    int kept = 1;
+    for (int i = written; i < ANSWER_LEN; i++) {
+        kept &= now.answer[1 + i] == 0x5a;
+    }
+    check(what, kept);
+}
+
 static void short_answers(void)
 {
     start();
@@ -242,14 +258,9 @@ static void short_answers(void)
     accepted("a list of nothing needs no room",
              rathnodi_list(STORE, BYTES("\xff no path"), BYTES(""), ANSWER, REPLY));
     answer_len = ANSWER_LEN;
-    memset(now.answer, 0x5a, sizeof now.answer);
-    mark();
-    accepted("list, more room", good(LIST));
-    int kept = 1;
-    for (int i = 47; i < ANSWER_LEN; i++) {
-        kept &= now.answer[1 + i] == 0x5a;
-    }
-    check("the rest of the answer keeps", kept);
+    rest_keeps("get, more room", GET, 3);
+    rest_keeps("list, more room", LIST, 47);
+    rest_keeps("uploads, more room", UPLOADS, 16);
 }
 
 /* The reply's bytes, by offset and through the struct. */

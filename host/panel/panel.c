@@ -88,7 +88,7 @@ static void say(const char *line)
 
 static void put(uint64_t stamp, const char *path, const uint8_t *data, size_t data_len, uint32_t expected)
 {
-    printf("  put       \"%s\", %zu bytes ", path, data_len);
+    printf("  put       \"%s\", %zu bytes, at %" PRIu64 " ", path, data_len, stamp);
     answered(rathnodi_put(STORE, stamp, TEXT(path), data, data_len), expected);
     printf("\n");
 }
@@ -123,7 +123,7 @@ static size_t get(const char *path, uint32_t expected)
 
 static void copy(uint64_t stamp, const char *source, const char *destination, uint32_t expected)
 {
-    printf("  copy      \"%s\" to \"%s\" ", source, destination);
+    printf("  copy      \"%s\" to \"%s\", at %" PRIu64 " ", source, destination, stamp);
     answered(rathnodi_copy(STORE, stamp, TEXT(source), TEXT(destination)), expected);
     printf("\n");
 }
@@ -137,7 +137,7 @@ static void delete(const char *path, uint32_t expected)
 
 static void list(const char *prefix, const char *suffix, size_t room, uint32_t expected)
 {
-    printf("  list      \"%s\"..\"%s\" ", prefix, suffix);
+    printf("  list      prefix \"%s\", suffix \"%s\", into %zu bytes ", prefix, suffix, room);
     if (!answered(rathnodi_list(STORE, TEXT(prefix), TEXT(suffix), answer, room, REPLY), expected)) {
         printf("\n");
         return;
@@ -162,7 +162,7 @@ static void list(const char *prefix, const char *suffix, size_t room, uint32_t e
 static uint32_t initiate(uint64_t stamp, const char *path, uint32_t expected)
 {
     uint32_t upload = 0;
-    printf("  initiate  \"%s\" ", path);
+    printf("  initiate  \"%s\", at %" PRIu64 " ", path, stamp);
     if (answered(rathnodi_initiate(STORE, stamp, TEXT(path), REPLY), expected)) {
         printf(", upload %" PRIu32, reply.upload);
         upload = reply.upload;
@@ -204,7 +204,7 @@ static void abort_upload(uint32_t upload, uint32_t expected)
 
 static void uploads(const char *prefix, uint32_t expected)
 {
-    printf("  uploads   \"%s\" ", prefix);
+    printf("  uploads   prefix \"%s\", into %zu bytes ", prefix, sizeof answer);
     if (!answered(rathnodi_uploads(STORE, TEXT(prefix), answer, sizeof answer, REPLY), expected)) {
         printf("\n");
         return;

@@ -14,13 +14,13 @@ use Rattle.row.specs.declared.Head.{Head}
 use Rattle.row.specs.Row.{Row, encodeRows, contentsOf, headAt, headOf}
 use Rattle.layout.specs.Memory.{rowsOf, Stands}
 use Rattle.layout.specs.RowCounts.{length-rows}
-use Rattle.find.specs.declared.Spot.{Spot}
+use Rattle.find.specs.declared.RowPlace.{RowPlace}
 use Rattle.find.specs.declared.Goal.{Goal}
-use Rattle.find.specs.Search.{reach, stopsAt, stopsOf, spotAt, sought, leads}
+use Rattle.find.specs.Search.{reach, stopsAt, stopsOf, rowPlaceAt, sought, leads}
 use Rattle.find.proofs.RowsAt.{At, Read, row-at, row-read}
 
-abbrev pub spot : ℕ → ℕ → ℕ → Spot
-spot row at base = record { row = row; at = at; base = base }
+abbrev pub rowPlace : ℕ → ℕ → ℕ → RowPlace
+rowPlace row at base = record { row = row; at = at; base = base }
 
 -- row i of the rows of s stands at `at`, its data at `base`
 pub record Reached (s : State) (i at base : ℕ) : Type 0 where
@@ -28,13 +28,13 @@ pub record Reached (s : State) (i at base : ℕ) : Type 0 where
   pub rows : at ≡ 18 + length (encodeRows (take i (rowsOf s)))
   pub contents : base ≡ length (contentsOf (take i (rowsOf s)))
 
-pub reached-spot : (s : State) (i at base : ℕ) → Reached s i at base → spot i at base ≡ spotAt (rowsOf s) i
-unfolding spotAt
-reached-spot s i at base k = λ j. spot i (k .rows j) (k .contents j)
+pub reached-place : (s : State) (i at base : ℕ) → Reached s i at base → rowPlace i at base ≡ rowPlaceAt (rowsOf s) i
+unfolding rowPlaceAt
+reached-place s i at base k = λ j. rowPlace i (k .rows j) (k .contents j)
 
-pub spot-reached : (s : State) (p : Spot) → p ≡ spotAt (rowsOf s) (p .row) → p .row ≤ length (rowsOf s) → Reached s (p .row) (p .at) (p .base)
-unfolding spotAt
-spot-reached s p e l = record { within = l; rows = ap (λ (q : Spot). q .at) e; contents = ap (λ (q : Spot). q .base) e }
+pub place-reached : (s : State) (p : RowPlace) → p ≡ rowPlaceAt (rowsOf s) (p .row) → p .row ≤ length (rowsOf s) → Reached s (p .row) (p .at) (p .base)
+unfolding rowPlaceAt
+place-reached s p e l = record { within = l; rows = ap (λ (q : RowPlace). q .at) e; contents = ap (λ (q : RowPlace). q .base) e }
 
 -- how many rows there can be
 pub rows-few : (t a : List ℕ) (s : State) → Stands t a s → length (rowsOf s) ≤ 528
@@ -90,11 +90,11 @@ module _ (t a : List ℕ) (s : State) (h : Stands t a s) (i at base : ℕ) (k : 
 -- The search --------------------------------------------------------------------------------------------------------------
 
 module _ (g : Goal) (rs : List Row) (i : ℕ) where
-  pub sought-end : length rs ≤ i → sought g rs i ≡ spotAt rs i
+  pub sought-end : length rs ≤ i → sought g rs i ≡ rowPlaceAt rs i
   unfolding sought reach
   sought-end l = rw (drop-of-length-le rs l, add-zero)
 
-  pub sought-here : (r : Row) → drop i rs ≡ r ∷ drop (i + 1) rs → stopsAt g (headOf r) ≡ true → sought g rs i ≡ spotAt rs i
+  pub sought-here : (r : Row) → drop i rs ≡ r ∷ drop (i + 1) rs → stopsAt g (headOf r) ≡ true → sought g rs i ≡ rowPlaceAt rs i
   unfolding sought reach
   sought-here r e q = rw (e, q, add-zero)
 
@@ -103,7 +103,7 @@ module _ (g : Goal) (rs : List Row) (i : ℕ) where
   sought-on r e q =
       let n = reach (stopsOf g) (drop (i + 1) rs) in
       let m : i + suc n ≡ i + 1 + n = omega arith in
-      rw (e, q) (ap (spotAt rs) m)
+      rw (e, q) (ap (rowPlaceAt rs) m)
 
 pub leads-none : (kind number : ℕ) (rs : List Row) (i : ℕ) → length rs ≤ i → leads kind number (drop i rs) ≡ false
 unfolding leads

@@ -9,10 +9,12 @@ use Rattle.machine.specs.Map.{byNumber, lookup, place}
 use Rattle.machine.specs.Names.{Bytes}
 use Rattle.machine.specs.State.{Upload, State}
 use Rattle.row.specs.Row.{Row, encodeRows, contentsOf}
-use Rattle.layout.specs.Memory.{objectRows, uploadRow, partRows, uploadRows}
+use Rattle.layout.specs.Memory.{objectRows, uploadRow, partRows, uploadRows, rowsOf}
 use Rattle.layout.specs.declared.Offset.{Offset}
 use Rattle.find.specs.declared.Place.{Place}
 use Rattle.find.specs.declared.Parts.{Parts}
+use Rattle.find.specs.declared.PassedParts.{PassedParts}
+use Rattle.find.specs.Search.{rowPlaceAt}
 
 module _ {X : Type 0} where
   abbrev pub isSome : Option X → Bool
@@ -71,6 +73,9 @@ uploadPlace s u = placeBehind (isSome (lookup byNumber u (s .U))) (beforeUpload 
 unfoldable pub partPlace : State → ℕ → Upload → ℕ → Place
 partPlace s u x n = placeBehind (isSome (lookup byNumber n (x .parts))) (beforePart s u x n)
 
--- how many parts an upload has, and what follows them
+-- how many parts an upload has, and what follows them: the place of a row, or its offset
+unfoldable pub passedParts : State → ℕ → Upload → PassedParts
+passedParts s u x = record { count = length (x .parts); next = rowPlaceAt (rowsOf s) (length (throughParts s u x)) }
+
 unfoldable pub partsOf : State → ℕ → Upload → Parts
 partsOf s u x = record { count = length (x .parts); at = behind (throughParts s u x) .at; base = behind (throughParts s u x) .base }

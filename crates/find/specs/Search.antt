@@ -8,7 +8,7 @@ use lib.ListN.{length, take, drop}
 use Rattle.row.specs.declared.Head.{Head}
 use Rattle.row.specs.Row.{Row, encodeRows, contentsOf, headOf}
 use Rattle.layout.specs.Rules.{uploadKind}
-use Rattle.find.specs.declared.Spot.{Spot}
+use Rattle.find.specs.declared.RowPlace.{RowPlace}
 use Rattle.find.specs.declared.Goal.{Goal}
 use Rattle.find.specs.declared.Goal.the-variants.{End, Upload, NextUpload, Part}
 
@@ -27,16 +27,17 @@ stopsAt (Part n) h = eqb (h .kind) uploadKind || leb n (h .number)
 abbrev pub stopsOf : Goal → Row → Bool
 stopsOf g r = stopsAt g (headOf r)
 
--- row i of rs, counted from 0
-unfoldable pub spotAt : List Row → ℕ → Spot
-spotAt rs i = record { row = i; at = 18 + length (encodeRows (take i rs)); base = length (contentsOf (take i rs)) }
+-- the place of row i of rs, counted from 0, or behind them all
+unfoldable pub rowPlaceAt : List Row → ℕ → RowPlace
+rowPlaceAt rs i = record { row = i; at = 18 + length (encodeRows (take i rs)); base = length (contentsOf (take i rs)) }
 
-abbrev pub Spotted : List Row → Spot → Type 0
-Spotted rs p = (p ≡ spotAt rs (p .row)) × (p .row ≤ length rs)
+-- p is the place of one of the rows rs, or behind them all
+abbrev pub IsRowPlace : List Row → RowPlace → Type 0
+IsRowPlace rs p = (p ≡ rowPlaceAt rs (p .row)) × (p .row ≤ length rs)
 
 -- the first row, from row i on, at which the search stops, or the end of the rows
-unfoldable pub sought : Goal → List Row → ℕ → Spot
-sought g rs i = spotAt rs (i + reach (stopsOf g) (drop i rs))
+unfoldable pub sought : Goal → List Row → ℕ → RowPlace
+sought g rs i = rowPlaceAt rs (i + reach (stopsOf g) (drop i rs))
 
 -- the first row is of this kind and has this number
 unfoldable pub leads : (kind number : ℕ) → List Row → Bool

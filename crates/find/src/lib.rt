@@ -4,14 +4,14 @@ use order::Order;
 use row::Head;
 ghost use mathlib.Core.Path.{_≡_};
 ghost use mathlib.Core.Bool.{true};
-ghost use Prim.Native.Nat.{_+_, _<_};
+ghost use Prim.Native.Nat.{ℕ, _+_, _<_};
 ghost use lib.ListN.{length, drop};
 ghost use mathlib.Core.Option.{some};
 ghost use Rattle.machine.specs.Map.{byNumber, lookup};
 ghost use Rattle.machine.specs.State.{Upload};
 ghost use Rattle.layout.specs.Memory.{whole, stateOf, rowsOf};
-ghost use Rattle.find.specs.Places.{isSome, behind, beforeUpload, objectPlace, uploadPlace, partPlace, partsOf};
-ghost use Rattle.find.specs.Search.{stopsAt, sought, spotAt, Spotted, leads};
+ghost use Rattle.find.specs.Places.{isSome, behind, beforeUpload, objectPlace, uploadPlace, partPlace, passedParts, partsOf};
+ghost use Rattle.find.specs.Search.{stopsAt, sought, rowPlaceAt, IsRowPlace, leads};
 
 // The offset of what was looked for, or where it would stand.
 pub struct Place {
@@ -25,6 +25,20 @@ pub struct Parts {
     pub count: usize,
     pub at: usize,
     pub base: usize,
+}
+
+// The place of a row: its number among the rows, counted from 0, where it begins in the tables, and where its data begin in
+// the arena.
+pub struct RowPlace {
+    pub row: usize,
+    pub at: usize,
+    pub base: usize,
+}
+
+// How many parts an upload has, and the place of the row behind them.
+pub struct PassedParts {
+    pub count: usize,
+    pub next: RowPlace,
 }
 
 // How many objects there are.
@@ -78,13 +92,6 @@ pub fn find_object(tables: &[u8], arena: &[u8], path: &[u8]) -> Place
     }
 }
 
-// A row, counted from 0, and its offset.
-struct Spot {
-    row: usize,
-    at: usize,
-    base: usize,
-}
-
 // Where a search along the rows stops: behind them all; at the upload with a number, or the first above it; at the next
 // upload; at the part with a number, the first above it, or the next upload.
 enum Goal {
@@ -116,13 +123,13 @@ fn stops(h: Head, goal: Goal) -> bool
 }
 
 // The row behind a row.
-fn row_behind(tables: &[u8], arena: &[u8], from: Spot) -> Spot
-    requires { ⌜ (whole (now tables) (now arena) ≡ true) × ((from ≡ spotAt (rowsOf (stateOf (now tables) (now arena))) (from .row)) × (from .row < length (rowsOf (stateOf (now tables) (now arena))))) ⌝ }
-    ensures { λ r. ⌜ r ≡ spotAt (rowsOf (stateOf (now (tables .entry)) (now (arena .entry)))) (from .row + 1) ⌝ }
+fn row_behind(tables: &[u8], arena: &[u8], from: RowPlace) -> RowPlace
+    requires { ⌜ (whole (now tables) (now arena) ≡ true) × ((from ≡ rowPlaceAt (rowsOf (stateOf (now tables) (now arena))) (from .row)) × (from .row < length (rowsOf (stateOf (now tables) (now arena))))) ⌝ }
+    ensures { λ r. ⌜ r ≡ rowPlaceAt (rowsOf (stateOf (now (tables .entry)) (now (arena .entry)))) (from .row + 1) ⌝ }
 {
     let at = from.at;
     let h = row::read_head(tables, at);
-    Spot {
+    RowPlace {
         row: from.row + 1,
         at: at + 36 + h.pathlen as usize,
         base: from.base + h.size as usize,
@@ -130,8 +137,8 @@ fn row_behind(tables: &[u8], arena: &[u8], from: Spot) -> Spot
 }
 
 // From a row on, the first row at which the search stops, or the end of the rows.
-fn seek(tables: &[u8], arena: &[u8], from: Spot, goal: Goal) -> Spot
-    requires { ⌜ (whole (now tables) (now arena) ≡ true) × Spotted (rowsOf (stateOf (now tables) (now arena))) from ⌝ }
+fn seek(tables: &[u8], arena: &[u8], from: RowPlace, goal: Goal) -> RowPlace
+    requires { ⌜ (whole (now tables) (now arena) ≡ true) × IsRowPlace (rowsOf (stateOf (now tables) (now arena))) from ⌝ }
     ensures { λ r. ⌜ r ≡ sought goal (rowsOf (stateOf (now (tables .entry)) (now (arena .entry)))) (from .row) ⌝ }
 {
     let rows = row_count(tables, arena);
@@ -141,18 +148,18 @@ fn seek(tables: &[u8], arena: &[u8], from: Spot, goal: Goal) -> Spot
     while row < rows {
         let h = row::read_head(tables, at);
         if stops(h, goal) {
-            return Spot { row, at, base };
+            return RowPlace { row, at, base };
         }
         at = at + 36 + h.pathlen as usize;
         base += h.size as usize;
         row += 1;
     }
-    Spot { row, at, base }
+    RowPlace { row, at, base }
 }
 
 // Whether a row of this kind with this number stands there.
-fn stands(tables: &[u8], arena: &[u8], here: Spot, kind: u8, number: u32) -> bool
-    requires { ⌜ (whole (now tables) (now arena) ≡ true) × Spotted (rowsOf (stateOf (now tables) (now arena))) here ⌝ }
+fn stands(tables: &[u8], arena: &[u8], here: RowPlace, kind: u8, number: u32) -> bool
+    requires { ⌜ (whole (now tables) (now arena) ≡ true) × IsRowPlace (rowsOf (stateOf (now tables) (now arena))) here ⌝ }
     ensures { λ r. ⌜ r ≡ leads kind number (drop (here .row) (rowsOf (stateOf (now (tables .entry)) (now (arena .entry))))) ⌝ }
 {
     if row_count(tables, arena) <= here.row {
@@ -163,11 +170,11 @@ fn stands(tables: &[u8], arena: &[u8], here: Spot, kind: u8, number: u32) -> boo
 }
 
 // The row of the upload with this number, or where it would stand.
-fn upload_row(tables: &[u8], arena: &[u8], upload: u32) -> Spot
+pub fn upload_row(tables: &[u8], arena: &[u8], upload: u32) -> RowPlace
     requires { ⌜ whole (now tables) (now arena) ≡ true ⌝ }
-    ensures { λ r. ⌜ r ≡ spotAt (rowsOf (stateOf (now (tables .entry)) (now (arena .entry)))) (length (beforeUpload (stateOf (now (tables .entry)) (now (arena .entry))) upload)) ⌝ }
+    ensures { λ r. ⌜ r ≡ rowPlaceAt (rowsOf (stateOf (now (tables .entry)) (now (arena .entry)))) (length (beforeUpload (stateOf (now (tables .entry)) (now (arena .entry))) upload)) ⌝ }
 {
-    let first = Spot {
+    let first = RowPlace {
         row: 0,
         at: 18,
         base: 0,
@@ -176,9 +183,9 @@ fn upload_row(tables: &[u8], arena: &[u8], upload: u32) -> Spot
 }
 
 // The row behind that of an open upload.
-fn parts_row(tables: &[u8], arena: &[u8], upload: u32) -> Spot
+fn parts_row(tables: &[u8], arena: &[u8], upload: u32) -> RowPlace
     requires { ⌜ (whole (now tables) (now arena) ≡ true) × (isSome (lookup byNumber upload (stateOf (now tables) (now arena) .U)) ≡ true) ⌝ }
-    ensures { λ r. ⌜ r ≡ spotAt (rowsOf (stateOf (now (tables .entry)) (now (arena .entry)))) (length (beforeUpload (stateOf (now (tables .entry)) (now (arena .entry))) upload) + 1) ⌝ }
+    ensures { λ r. ⌜ r ≡ rowPlaceAt (rowsOf (stateOf (now (tables .entry)) (now (arena .entry)))) (length (beforeUpload (stateOf (now (tables .entry)) (now (arena .entry))) upload) + 1) ⌝ }
 {
     let here = upload_row(tables, arena, upload);
     row_behind(tables, arena, here)
@@ -189,7 +196,7 @@ pub fn rows_end(tables: &[u8], arena: &[u8]) -> Offset
     requires { ⌜ whole (now tables) (now arena) ≡ true ⌝ }
     ensures { λ r. ⌜ r ≡ behind (rowsOf (stateOf (now (tables .entry)) (now (arena .entry)))) ⌝ }
 {
-    let first = Spot {
+    let first = RowPlace {
         row: 0,
         at: 18,
         base: 0,
@@ -230,16 +237,30 @@ pub fn find_part(tables: &[u8], arena: &[u8], upload: u32, number: u16) -> Place
     }
 }
 
+// How many parts the upload has whose row stands there, and the row behind them.
+pub fn pass_parts(tables: &[u8], arena: &[u8], here: RowPlace) -> PassedParts
+    requires { ⌜ (whole (now tables) (now arena) ≡ true) × ((here ≡ rowPlaceAt (rowsOf (stateOf (now tables) (now arena))) (here .row)) × (here .row < length (rowsOf (stateOf (now tables) (now arena))))) ⌝ }
+    ensures { λ r. ⌜ ((u : ℕ) (x : Upload) → here ≡ rowPlaceAt (rowsOf (stateOf (now (tables .entry)) (now (arena .entry)))) (length (beforeUpload (stateOf (now (tables .entry)) (now (arena .entry))) u)) → lookup byNumber u (stateOf (now (tables .entry)) (now (arena .entry)) .U) ≡ some x → r ≡ passedParts (stateOf (now (tables .entry)) (now (arena .entry))) u x) ⌝ }
+{
+    let first = row_behind(tables, arena, here);
+    let next = seek(tables, arena, first, Goal::NextUpload);
+    PassedParts {
+        count: next.row - first.row,
+        next,
+    }
+}
+
 // How many parts an open upload has, and the offset behind them.
 pub fn parts_end(tables: &[u8], arena: &[u8], upload: u32) -> Parts
     requires { ⌜ (whole (now tables) (now arena) ≡ true) × (isSome (lookup byNumber upload (stateOf (now tables) (now arena) .U)) ≡ true) ⌝ }
     ensures { λ r. ⌜ ((x : Upload) → lookup byNumber upload (stateOf (now (tables .entry)) (now (arena .entry)) .U) ≡ some x → r ≡ partsOf (stateOf (now (tables .entry)) (now (arena .entry))) upload x) ⌝ }
 {
-    let first = parts_row(tables, arena, upload);
-    let end = seek(tables, arena, first, Goal::NextUpload);
+    let here = upload_row(tables, arena, upload);
+    let parts = pass_parts(tables, arena, here);
+    let next = parts.next;
     Parts {
-        count: end.row - first.row,
-        at: end.at,
-        base: end.base,
+        count: parts.count,
+        at: next.at,
+        base: next.base,
     }
 }

@@ -33,14 +33,14 @@ module _ (s : State) (prefix : Bytes) (i : ℕ) (l : i < length (s .U)) where
   abbrev more : Map ℕ Upload
   more = cond (begins prefix (x .path)) ((u, x) ∷ []) []
 
-  abbrev pub here : Bytes
-  here = recordUnder prefix u (x .path) (x .started) (length (x .parts))
+  abbrev pub entryBytes : Bytes
+  entryBytes = recordUnder prefix u (x .path) (x .started) (length (x .parts))
 
   front-next : front s prefix (i + 1) ≡ front s prefix i ++ more
   unfolding openUnder
   front-next = ap (λ (n : ℕ). front s prefix n) (add-one i) ∙ keep-suc (λ n y. begins prefix (y .path)) blank i (s .U) l
 
-  pub bytes-next : frontBytes s prefix (i + 1) ≡ frontBytes s prefix i ++ here
+  pub bytes-next : frontBytes s prefix (i + 1) ≡ frontBytes s prefix i ++ entryBytes
   unfolding recordUnder recordOf uploadRecord
   bytes-next =
       ap (records uploadRecord) front-next
@@ -51,8 +51,8 @@ module _ (s : State) (prefix : Bytes) (i : ℕ) (l : i < length (s .U)) where
       go true = append-nil (uploadRecord u x)
       go false = refl
 
-  pub size-next : length (frontBytes s prefix (i + 1)) ≡ length (frontBytes s prefix i) + length here
-  size-next = ap length bytes-next ∙ length-append (frontBytes s prefix i) here
+  pub size-next : length (frontBytes s prefix (i + 1)) ≡ length (frontBytes s prefix i) + length entryBytes
+  size-next = ap length bytes-next ∙ length-append (frontBytes s prefix i) entryBytes
 
   pub count-next : length (front s prefix (i + 1)) ≡ length (front s prefix i) + cond (begins prefix (x .path)) 1 0
   count-next = ap length front-next ∙ length-append (front s prefix i) more ∙ ap (λ (n : ℕ). length (front s prefix i) + n) (go (begins prefix (x .path)))

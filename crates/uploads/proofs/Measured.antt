@@ -11,31 +11,32 @@ use Rattle.machine.specs.Map.{Map, records}
 use Rattle.machine.specs.Names.{Bytes}
 use Rattle.machine.specs.State.{Upload, State}
 use Rattle.machine.specs.Steps.{openUnder, uploadRecord}
+use Rattle.find.specs.declared.RowPlace.{RowPlace}
 use Rattle.uploads.specs.declared.rows.OpenUpload.{OpenUpload}
-use Rattle.uploads.specs.Rows.{rowOffset}
+use Rattle.uploads.specs.Rows.{uploadRowPlace}
 use Rattle.uploads.specs.Records.{recordUnder}
 use Rattle.uploads.proofs.UploadRows.{blank, Entry}
 use Rattle.uploads.proofs.RecordBytes.{length-under}
 use Rattle.uploads.proofs.Fronts.{front, frontBytes, size-next, count-next}
 
--- the first i uploads measured: the next row begins at `at`, and UPLOADS has so many records and bytes of them
-pub record Measured (s : State) (prefix : Bytes) (i at count size : ℕ) : Type 0 where
+-- the first i uploads measured: the next row stands at `here`, and UPLOADS has so many records and bytes of them
+pub record Measured (s : State) (prefix : Bytes) (i : ℕ) (here : RowPlace) (count size : ℕ) : Type 0 where
   pub within : i ≤ length (s .U)
-  pub rows : at ≡ rowOffset s i
+  pub rows : here ≡ uploadRowPlace s i
   pub counted : count ≡ length (front s prefix i)
   pub sized : size ≡ length (frontBytes s prefix i)
   pub few : count ≤ i
   pub small : size ≤ 143 * i
 
-pub measured-none : (s : State) (prefix : Bytes) (at : ℕ) → at ≡ rowOffset s 0 → Measured s prefix 0 at 0 0
+pub measured-none : (s : State) (prefix : Bytes) (here : RowPlace) → here ≡ uploadRowPlace s 0 → Measured s prefix 0 here 0 0
 unfolding openUnder
-measured-none s prefix at e = record { within = omega arith; rows = e; counted = refl; sized = refl; few = omega arith; small = omega arith }
+measured-none s prefix here e = record { within = omega arith; rows = e; counted = refl; sized = refl; few = omega arith; small = omega arith }
 
-pub measured-next : (t : List ℕ) (s : State) (prefix : Bytes) (i at count size : ℕ) (r : OpenUpload) (c k : ℕ) → Measured s prefix i at count size → i < length (s .U) → Entry t s i r
+pub measured-next : (t : List ℕ) (s : State) (prefix : Bytes) (i : ℕ) (here : RowPlace) (count size : ℕ) (r : OpenUpload) (c k : ℕ) → Measured s prefix i here count size → i < length (s .U) → Entry t s i r
     → let p = take (r .to - r .from) (drop (r .from) t) in
     c ≡ cond (begins prefix p) 1 0 → k ≡ cond (begins prefix p) (15 + length p) 0 → c ≤ 1 → k ≤ 143
     → Measured s prefix (i + 1) (r .next) (count + c) (size + k)
-measured-next t s prefix i at count size r c k w l e f g few small =
+measured-next t s prefix i here count size r c k w l e f g few small =
     let x = w .counted in
     let y = w .sized in
     let p = w .few in
@@ -52,8 +53,8 @@ measured-next t s prefix i at count size r c k w l e f g few small =
       small = omega arith;
     }
 
-pub measured-all : (s : State) (prefix : Bytes) (i at count size : ℕ) → Measured s prefix i at count size → length (s .U) ≤ i
+pub measured-all : (s : State) (prefix : Bytes) (i : ℕ) (here : RowPlace) (count size : ℕ) → Measured s prefix i here count size → length (s .U) ≤ i
     → (count ≡ length (openUnder prefix (s .U))) × (size ≡ length (records uploadRecord (openUnder prefix (s .U))))
-measured-all s prefix i at count size w l =
+measured-all s prefix i here count size w l =
     let e : take i (s .U) ≡ s .U = take-all i (s .U) l in
     (w .counted ∙ ap (λ (m : Map ℕ Upload). length (openUnder prefix m)) e, w .sized ∙ ap (λ (m : Map ℕ Upload). length (records uploadRecord (openUnder prefix m))) e)

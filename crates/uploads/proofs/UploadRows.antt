@@ -1,4 +1,4 @@
--- The row of an upload: what is read of it, and where the next upload's row begins. Assumes nothing.
+-- The row of an upload: what is read of it, and the place of the next upload's row. Assumes nothing.
 use Prim.Native.Nat.{ℕ, _+_, _-_, _≤_, _<_}
 use mathlib.Core.Path.{_≡_, refl, sym, ap, ap₂, _∙_}
 use mathlib.Core.Bool.{true, false≢true}
@@ -18,14 +18,17 @@ use Rattle.machine.proofs.MapScan.{lookup-key, place-key}
 use Rattle.machine.proofs.MapSums.{total-share}
 use Rattle.row.specs.declared.Head.{Head}
 use Rattle.row.specs.Row.{Row, encodeRows, headAt, headOf}
-use Rattle.layout.specs.Memory.{objectRows, uploadRow, partRows, uploadRows, Stands}
+use Rattle.layout.specs.Memory.{objectRows, uploadRow, partRows, uploadRows, rowsOf, Stands}
 use Rattle.layout.specs.TestLaws.{stored-path-length}
-use Rattle.find.specs.declared.Parts.{Parts}
-use Rattle.find.specs.Places.{isSome, beforeUpload, beforeParts, throughParts, afterUpload, uploadPlace, partsOf}
+use Rattle.find.specs.declared.RowPlace.{RowPlace}
+use Rattle.find.specs.declared.PassedParts.{PassedParts}
+use Rattle.find.specs.Places.{isSome, beforeUpload, beforeParts, throughParts, afterUpload, passedParts}
+use Rattle.find.specs.Search.{rowPlaceAt}
 use Rattle.find.proofs.RowsAt.{At, row-at}
 use Rattle.find.proofs.Splits.{upload-rows-append, upload-found}
+use Rattle.find.proofs.Answers.{place-behind}
 use Rattle.uploads.specs.declared.rows.OpenUpload.{OpenUpload}
-use Rattle.uploads.specs.Rows.{rowOffset, Told}
+use Rattle.uploads.specs.Rows.{uploadRowPlace, RowRead}
 
 abbrev pub blank : ℕ × Upload
 blank = (0, record { path = []; started = 0; parts = [] })
@@ -35,34 +38,31 @@ place-zero : (m : Map ℕ Upload) → place byNumber 0 m ≡ 0
 place-zero [] = refl
 place-zero (e ∷ m) = cases (byNumber 0 (e .0)) (λ q. simp q) (λ q. simp q) (λ q. absurd (let n = above 0 (e .0) q in omega arith))
 
-pub first-offset : (s : State) → uploadPlace s 0 .at ≡ rowOffset s 0
-unfolding uploadPlace beforeUpload rowOffset
-first-offset s = ap (λ (n : ℕ). 18 + length (encodeRows (objectRows (s .O) ++ uploadRows (take n (s .U))))) (place-zero (s .U))
+pub first-place : (s : State) → rowPlaceAt (rowsOf s) (length (beforeUpload s 0)) ≡ uploadRowPlace s 0
+unfolding beforeUpload uploadRowPlace
+first-place s = ap (λ (n : ℕ). rowPlaceAt (rowsOf s) (length (objectRows (s .O) ++ uploadRows (take n (s .U))))) (place-zero (s .U))
 
 -- an open upload has few parts
-pub parts-fit : (t a : List ℕ) (s : State) (h : Stands t a s) (u : ℕ) → isSome (lookup byNumber u (s .U)) ≡ true → (r : Parts) → ((x : Upload) → lookup byNumber u (s .U) ≡ some x → r ≡ partsOf s u x) → r .count ≤ 256
-unfolding partsOf
-parts-fit t a s h u e r told = go (lookup byNumber u (s .U)) refl e
+pub parts-fit : (t a : List ℕ) (s : State) (h : Stands t a s) (u : ℕ) → isSome (lookup byNumber u (s .U)) ≡ true → (r : PassedParts) → ((x : Upload) → lookup byNumber u (s .U) ≡ some x → r ≡ passedParts s u x) → r .count ≤ 256
+unfolding passedParts
+parts-fit t a s h u e r passed = go (lookup byNumber u (s .U)) refl e
   where
     go : (o : Option Upload) → lookup byNumber u (s .U) ≡ o → isSome o ≡ true → r .count ≤ 256
     go none f is = absurd (false≢true is)
-    go (some x) f is = let n = h .valid .parts in omega (arith, ap (λ (p : Parts). p .count) (told x f), total-share numbers partsIn u x (s .U) f)
+    go (some x) f is = let n = h .valid .parts in omega (arith, ap (λ (p : PassedParts). p .count) (passed x f), total-share numbers partsIn u x (s .U) f)
 
 -- what is read of an upload's row, and of its parts'
-pub told : (t : List ℕ) (s : State) (at : ℕ) (x : Upload) (h : Head) (p : Parts) → h ≡ headAt (drop at t) → (lookup byNumber (h .number) (s .U) ≡ some x → p ≡ partsOf s (h .number) x)
-    → lookup byNumber (headAt (drop at t) .number) (s .U) ≡ some x
-    → Told t s at x (record { number = h .number; from = at + 36; to = at + 36 + h .pathlen; started = h .stamp; parts = p .count; next = p .at })
-unfolding partsOf
-told t s at x h p e q f =
-    let n : h .number ≡ headAt (drop at t) .number = ap (λ (y : Head). y .number) e in
-    let z = q (ap (λ (m : ℕ). lookup byNumber m (s .U)) n ∙ f) in
+pub row-read : (t : List ℕ) (s : State) (here : RowPlace) (x : Upload) (h : Head) (p : PassedParts) → h ≡ headAt (drop (here .at) t) → p ≡ passedParts s (headAt (drop (here .at) t) .number) x
+    → RowRead t s here x (record { number = h .number; from = here .at + 36; to = here .at + 36 + h .pathlen; started = h .stamp; parts = p .count; next = p .next })
+unfolding passedParts
+row-read t s here x h p e q =
     record {
-      number = n;
+      number = ap (λ (y : Head). y .number) e;
       from = refl;
-      to = ap (λ (y : Head). at + 36 + y .pathlen) e;
+      to = ap (λ (y : Head). here .at + 36 + y .pathlen) e;
       started = ap (λ (y : Head). y .stamp) e;
-      parts = ap (λ (y : Parts). y .count) z;
-      next = ap (λ (y : Parts). y .at) z ∙ ap (λ (m : ℕ). partsOf s m x .at) n;
+      parts = ap (λ (y : PassedParts). y .count) q;
+      next = ap (λ (y : PassedParts). y .next) q;
     }
 
 -- r is the upload at i, as its row and its parts' rows tell it
@@ -74,9 +74,12 @@ pub record Entry (t : List ℕ) (s : State) (i : ℕ) (r : OpenUpload) : Type 0 
   pub short : length (getD (s .U) i blank .1 .path) ≤ 128
   pub started : r .started ≡ getD (s .U) i blank .1 .started
   pub parts : r .parts ≡ length (getD (s .U) i blank .1 .parts)
-  pub next : r .next ≡ rowOffset s (i + 1)
+  pub next : r .next ≡ uploadRowPlace s (i + 1)
 
-module _ (t a : List ℕ) (s : State) (h : Stands t a s) (i at : ℕ) (here : at ≡ rowOffset s i) (l : i < length (s .U)) where
+module _ (t a : List ℕ) (s : State) (h : Stands t a s) (i : ℕ) (here : RowPlace) (e : here ≡ uploadRowPlace s i) (l : i < length (s .U)) where
+  abbrev at : ℕ
+  at = here .at
+
   abbrev u : ℕ
   u = getD (s .U) i blank .0
 
@@ -102,15 +105,18 @@ module _ (t a : List ℕ) (s : State) (h : Stands t a s) (i at : ℕ) (here : at
       ∙ ap (λ (rs : List Row). objectRows (s .O) ++ rs) (upload-rows-append (take i (s .U)) ((u, x) ∷ []))
       ∙ rw append-nil (simp append-assoc))
 
-  place-is : at ≡ 18 + length (encodeRows (beforeUpload s u))
-  unfolding rowOffset
-  place-is = here ∙ ap (λ (rs : List Row). 18 + length (encodeRows rs)) (sym before-is)
+  place-is : here ≡ rowPlaceAt (rowsOf s) (length (beforeUpload s u))
+  unfolding uploadRowPlace
+  place-is = e ∙ ap (λ (rs : List Row). rowPlaceAt (rowsOf s) (length rs)) (sym before-is)
+
+  at-is : at ≡ 18 + length (encodeRows (beforeUpload s u))
+  at-is = place-behind (rowsOf s) (beforeUpload s u) (uploadRow u x ∷ (partRows (x .parts) ++ afterUpload s u)) here (upload-found s u x found) place-is .at
 
   row-here : At t a s h (beforeUpload s u) (uploadRow u x) (partRows (x .parts) ++ afterUpload s u)
   row-here = row-at t a s h (beforeUpload s u) (uploadRow u x) (partRows (x .parts) ++ afterUpload s u) (upload-found s u x found)
 
   head-here : headAt (drop at t) ≡ headOf (uploadRow u x)
-  head-here = ap (λ (n : ℕ). headAt (drop n t)) place-is ∙ row-here .head
+  head-here = ap (λ (n : ℕ). headAt (drop n t)) at-is ∙ row-here .head
 
   number-here : headAt (drop at t) .number ≡ u
   number-here = ap (λ (y : Head). y .number) head-here
@@ -118,8 +124,8 @@ module _ (t a : List ℕ) (s : State) (h : Stands t a s) (i at : ℕ) (here : at
   length-here : headAt (drop at t) .pathlen ≡ length (x .path)
   length-here = ap (λ (y : Head). y .pathlen) head-here
 
-  pub row-inside : at + 36 + headAt (drop at t) .pathlen ≤ length t
-  row-inside = omega (arith, length-here, place-is, row-here .inside)
+  row-inside : at + 36 + headAt (drop at t) .pathlen ≤ length t
+  row-inside = omega (arith, length-here, at-is, row-here .inside)
 
   row-found : lookup byNumber (headAt (drop at t) .number) (s .U) ≡ some x
   row-found = ap (λ (n : ℕ). lookup byNumber n (s .U)) number-here ∙ found
@@ -127,16 +133,19 @@ module _ (t a : List ℕ) (s : State) (h : Stands t a s) (i at : ℕ) (here : at
   pub row-open : isSome (lookup byNumber (headAt (drop at t) .number) (s .U)) ≡ true
   row-open = ap isSome row-found
 
+  pub row-place : here ≡ rowPlaceAt (rowsOf s) (length (beforeUpload s (headAt (drop at t) .number)))
+  row-place = place-is ∙ ap (λ (n : ℕ). rowPlaceAt (rowsOf s) (length (beforeUpload s n))) (sym number-here)
+
   path-here : take (length (x .path)) (drop (at + 36) t) ≡ x .path
-  path-here = ap (λ (n : ℕ). take (length (x .path)) (drop (n + 36) t)) place-is ∙ row-here .path
+  path-here = ap (λ (n : ℕ). take (length (x .path)) (drop (n + 36) t)) at-is ∙ row-here .path
 
   path-short : length (x .path) ≤ 128
   path-short =
       let ok : UploadOk (s .N) u x = every-lookup numbers (UploadOk (s .N)) u x (s .U) (h .valid .upload) found in
       stored-path-length (x .path) (ok .path) .below
 
-  pub entry : (r : OpenUpload) → ((y : Upload) → lookup byNumber (headAt (drop at t) .number) (s .U) ≡ some y → Told t s at y r) → Entry t s i r
-  unfolding rowOffset partsOf
+  pub entry : (r : OpenUpload) → ((y : Upload) → lookup byNumber (headAt (drop at t) .number) (s .U) ≡ some y → RowRead t s here y r) → Entry t s i r
+  unfolding uploadRowPlace passedParts
   entry r is =
       let k = is x row-found in
       let n : r .to ≡ at + 36 + length (x .path) = k .to ∙ ap (λ (m : ℕ). at + 36 + m) length-here in
@@ -149,5 +158,5 @@ module _ (t a : List ℕ) (s : State) (h : Stands t a s) (i at : ℕ) (here : at
         short = path-short;
         started = k .started ∙ ap (λ (y : Head). y .stamp) head-here;
         parts = k .parts;
-        next = k .next ∙ ap (λ (m : ℕ). partsOf s m x .at) number-here ∙ ap (λ (rs : List Row). 18 + length (encodeRows rs)) through-is;
+        next = k .next ∙ ap (λ (m : ℕ). passedParts s m x .next) number-here ∙ ap (λ (rs : List Row). rowPlaceAt (rowsOf s) (length rs)) through-is;
       }

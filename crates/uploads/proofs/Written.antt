@@ -10,29 +10,30 @@ use Rattle.machine.specs.Map.{Map, records}
 use Rattle.machine.specs.Names.{Bytes}
 use Rattle.machine.specs.State.{Upload, State}
 use Rattle.machine.specs.Steps.{openUnder, uploadRecord}
+use Rattle.find.specs.declared.RowPlace.{RowPlace}
 use Rattle.uploads.specs.declared.rows.OpenUpload.{OpenUpload}
-use Rattle.uploads.specs.Rows.{rowOffset}
+use Rattle.uploads.specs.Rows.{uploadRowPlace}
 use Rattle.uploads.specs.Records.{recordUnder}
 use Rattle.uploads.proofs.UploadRows.{Entry}
-use Rattle.uploads.proofs.Fronts.{frontBytes, here, bytes-next, size-next, front-within}
+use Rattle.uploads.proofs.Fronts.{frontBytes, entryBytes, bytes-next, size-next, front-within}
 
--- the records of the first i uploads stand at the front of b, which was b₀: they take n bytes, and the next row begins at `at`
-pub record Written (s : State) (prefix : Bytes) (b₀ b : List ℕ) (i at n : ℕ) : Type 0 where
+-- the records of the first i uploads stand at the front of b, which was b₀: they take n bytes, and the next row stands at `here`
+pub record Written (s : State) (prefix : Bytes) (b₀ b : List ℕ) (i : ℕ) (here : RowPlace) (n : ℕ) : Type 0 where
   pub within : i ≤ length (s .U)
-  pub rows : at ≡ rowOffset s i
+  pub rows : here ≡ uploadRowPlace s i
   pub sized : n ≡ length (frontBytes s prefix i)
   pub bytes : b ≡ frontBytes s prefix i ++ drop n b₀
   pub same : length b ≡ length b₀
 
-pub written-none : (s : State) (prefix : Bytes) (b : List ℕ) (at : ℕ) → at ≡ rowOffset s 0 → Written s prefix b b 0 at 0
+pub written-none : (s : State) (prefix : Bytes) (b : List ℕ) (here : RowPlace) → here ≡ uploadRowPlace s 0 → Written s prefix b b 0 here 0
 unfolding openUnder
-written-none s prefix b at e = record { within = omega arith; rows = e; sized = refl; bytes = refl; same = refl }
+written-none s prefix b here e = record { within = omega arith; rows = e; sized = refl; bytes = refl; same = refl }
 
-module _ (t : List ℕ) (s : State) (prefix : Bytes) (b₀ b : List ℕ) (i at n : ℕ) (r : OpenUpload) (w : Written s prefix b₀ b i at n) (l : i < length (s .U)) (e : Entry t s i r) where
+module _ (t : List ℕ) (s : State) (prefix : Bytes) (b₀ b : List ℕ) (i : ℕ) (here : RowPlace) (n : ℕ) (r : OpenUpload) (w : Written s prefix b₀ b i here n) (l : i < length (s .U)) (e : Entry t s i r) where
   abbrev told : Bytes
   told = recordUnder prefix (r .number) (take (r .to - r .from) (drop (r .from) t)) (r .started) (r .parts)
 
-  told-is : told ≡ here s prefix i l
+  told-is : told ≡ entryBytes s prefix i l
   told-is = rw (e .path, e .number, e .started, e .parts)
 
   pub written-fits : length (records uploadRecord (openUnder prefix (s .U))) ≤ length b₀ → n + length told ≤ length b
@@ -53,9 +54,9 @@ module _ (t : List ℕ) (s : State) (prefix : Bytes) (b₀ b : List ℕ) (i at n
         same = omega arith;
       }
 
-pub written-all : (s : State) (prefix : Bytes) (b₀ b : List ℕ) (i at n : ℕ) → Written s prefix b₀ b i at n → length (s .U) ≤ i
+pub written-all : (s : State) (prefix : Bytes) (b₀ b : List ℕ) (i : ℕ) (here : RowPlace) (n : ℕ) → Written s prefix b₀ b i here n → length (s .U) ≤ i
     → b ≡ records uploadRecord (openUnder prefix (s .U)) ++ drop (length (records uploadRecord (openUnder prefix (s .U)))) b₀
-written-all s prefix b₀ b i at n w l =
+written-all s prefix b₀ b i here n w l =
     let e : take i (s .U) ≡ s .U = take-all i (s .U) l in
     w .bytes
     ∙ ap (λ (k : ℕ). frontBytes s prefix i ++ drop k b₀) (w .sized)

@@ -1,23 +1,25 @@
--- Where the rows of uploads begin, and what is told of one. Assumes nothing.
+-- Where the rows of uploads stand, and what is read of one. Assumes nothing.
 use Prim.Native.Nat.{ℕ, _+_}
 use mathlib.Core.Path.{_≡_}
 use mathlib.Core.List.{List, _++_}
 use lib.ListN.{length, take, drop}
 use Rattle.machine.specs.State.{Upload, State}
-use Rattle.row.specs.Row.{encodeRows, headAt}
-use Rattle.layout.specs.Memory.{objectRows, uploadRows}
-use Rattle.find.specs.Places.{partsOf}
+use Rattle.row.specs.Row.{headAt}
+use Rattle.layout.specs.Memory.{objectRows, uploadRows, rowsOf}
+use Rattle.find.specs.declared.RowPlace.{RowPlace}
+use Rattle.find.specs.Places.{passedParts}
+use Rattle.find.specs.Search.{rowPlaceAt}
 use Rattle.uploads.specs.declared.rows.OpenUpload.{OpenUpload}
 
--- where the row of the upload begins that has i before it: behind the objects, and those i with their parts
-unfoldable pub rowOffset : State → ℕ → ℕ
-rowOffset s i = 18 + length (encodeRows (objectRows (s .O) ++ uploadRows (take i (s .U))))
+-- the place of the row of the upload that has i before it: behind the objects, and those i with their parts
+unfoldable pub uploadRowPlace : State → ℕ → RowPlace
+uploadRowPlace s i = rowPlaceAt (rowsOf s) (length (objectRows (s .O) ++ uploadRows (take i (s .U))))
 
--- what is read of the upload x whose row stands at `at`
-pub record Told (t : List ℕ) (s : State) (at : ℕ) (x : Upload) (r : OpenUpload) : Type 0 where
-  pub number : r .number ≡ headAt (drop at t) .number
-  pub from : r .from ≡ at + 36
-  pub to : r .to ≡ at + 36 + headAt (drop at t) .pathlen
-  pub started : r .started ≡ headAt (drop at t) .stamp
+-- what is read of the upload x whose row stands there
+pub record RowRead (t : List ℕ) (s : State) (here : RowPlace) (x : Upload) (r : OpenUpload) : Type 0 where
+  pub number : r .number ≡ headAt (drop (here .at) t) .number
+  pub from : r .from ≡ here .at + 36
+  pub to : r .to ≡ here .at + 36 + headAt (drop (here .at) t) .pathlen
+  pub started : r .started ≡ headAt (drop (here .at) t) .stamp
   pub parts : r .parts ≡ length (x .parts)
-  pub next : r .next ≡ partsOf s (headAt (drop at t) .number) x .at
+  pub next : r .next ≡ passedParts s (headAt (drop (here .at) t) .number) x .next

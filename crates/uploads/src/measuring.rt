@@ -32,18 +32,18 @@ pub fn measure(tables: &[u8], arena: &[u8], prefix: &[u8]) -> Counts
     ensures { λ r. ⌜ (r .records ≡ length (openUnder (now (prefix .entry)) (stateOf (now (tables .entry)) (now (arena .entry)) .U))) × (r .bytes ≡ length (records uploadRecord (openUnder (now (prefix .entry)) (stateOf (now (tables .entry)) (now (arena .entry)) .U)))) ⌝ }
 {
     let uploads = crate::rows::open_count(tables, arena);
-    let mut at = crate::rows::first_row(tables, arena);
+    let mut here = crate::rows::first_row(tables, arena);
     let mut records: u32 = 0;
     let mut bytes: u32 = 0;
     let mut i: usize = 0;
     while i < uploads {
-        let u = crate::rows::read_upload(tables, arena, at);
+        let u = crate::rows::read_upload(tables, arena, here);
         let from = u.from;
         let to = u.to;
         let one = measure_one(&tables[from..to], prefix);
         records += one.records;
         bytes += one.bytes;
-        at = u.next;
+        here = u.next;
         i += 1;
     }
     Counts { records, bytes }

@@ -57,11 +57,11 @@ pub fn write(tables: &[u8], arena: &[u8], prefix: &[u8], answer: &mut [u8])
     ensures { λ _. ⌜ now (answer .exit) ≡ records uploadRecord (openUnder (now (prefix .entry)) (stateOf (now (tables .entry)) (now (arena .entry)) .U)) ++ drop (length (records uploadRecord (openUnder (now (prefix .entry)) (stateOf (now (tables .entry)) (now (arena .entry)) .U)))) (now (answer .entry)) ⌝ }
 {
     let uploads = crate::rows::open_count(tables, arena);
-    let mut at = crate::rows::first_row(tables, arena);
+    let mut here = crate::rows::first_row(tables, arena);
     let mut n: usize = 0;
     let mut i: usize = 0;
     while i < uploads {
-        let u = crate::rows::read_upload(tables, arena, at);
+        let u = crate::rows::read_upload(tables, arena, here);
         let from = u.from;
         let to = u.to;
         n = write_one(
@@ -73,7 +73,7 @@ pub fn write(tables: &[u8], arena: &[u8], prefix: &[u8], answer: &mut [u8])
             u.started,
             u.parts,
         );
-        at = u.next;
+        here = u.next;
         i += 1;
     }
 }

@@ -1,20 +1,15 @@
 -- `find::find_part` meets its contract: the search among the parts of an open upload. Assumes nothing.
-use Prim.Native.Nat.{_+_, _-_, _≤_}
+use Prim.Native.Nat.{_+_, _≤_}
 use native.Mathlib.Omega.{arith}
 use borrow.Author.Needs.{needs}
 use lib.ListN.{length}
 use Rattle.machine.specs.State.{State}
 use Rattle.layout.specs.Memory.{stateOf, rowsOf}
 use Rattle.find.specs.Places.{beforeUpload}
-use Rattle.find.specs.Search.{Spotted}
-use Rattle.find.proofs.Answers.{spotted, open-within, sought-spotted, found-part}
+use Rattle.find.specs.Search.{IsRowPlace}
+use Rattle.find.proofs.Answers.{is-row-place, open-within, sought-row-place, found-part}
 use Rattle.find.proofs.find_part.Statement.{statement}
 use Rattle.find.proofs.find_part.Tie as tie
-use Rattle.find.proofs.find_part.Reads as reads
-use Rattle.find.proofs.find_part.Lts as lts
-use Rattle.find.proofs.parts_row.Reads as parts-row-reads
-use Rattle.find.proofs.seek.Reads as seek-reads
-use Rattle.find.proofs.stands.Reads as stands-reads
 
 parts-row-requires : tie.Need-parts-row-requires
 parts-row-requires c κs = search needs
@@ -27,10 +22,10 @@ module _ (c : tie.After-parts-row) where
   abbrev s : State
   s = stateOf (start .args .tables .now) (start .args .arena .now)
 
-  first : Spotted (rowsOf s) (c .parts-row .result)
+  first : IsRowPlace (rowsOf s) (c .parts-row .result)
   first =
       let l : length (beforeUpload s (start .args .upload)) + 1 ≤ length (rowsOf s) = let l = open-within s (start .args .upload) (start .pre .1) in omega arith in
-      spotted (rowsOf s) (c .parts-row .result) _ (c .parts-row .ensures) l
+      is-row-place (rowsOf s) (c .parts-row .result) _ (c .parts-row .ensures) l
 
 seek-requires : tie.Need-seek-requires
 seek-requires c κs = (start c .pre .0, first c)
@@ -38,7 +33,7 @@ seek-requires c κs = (start c .pre .0, first c)
 stands-requires : tie.Need-stands-requires
 stands-requires c κs =
     let r = c .before in
-    (start r .pre .0, sought-spotted _ (rowsOf (s r)) (c .seek .result) (r .parts-row .result .row) (c .seek .ensures) (first r .1))
+    (start r .pre .0, sought-row-place _ (rowsOf (s r)) (c .seek .result) (r .parts-row .result .row) (c .seek .ensures) (first r .1))
 
 returns : tie.Need-returns
 returns c x f =

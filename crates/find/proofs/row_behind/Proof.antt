@@ -7,12 +7,9 @@ use lib.ListN.{length}
 use Rattle.machine.specs.State.{State}
 use Rattle.layout.specs.Memory.{stateOf, rowsOf, Stands}
 use Rattle.layout.specs.WholeLaws.{whole-stands}
-use Rattle.find.proofs.Walk.{Reached, Turn, reached-spot, spot-reached, rows-few, row-inside, row-turn}
+use Rattle.find.proofs.Walk.{Reached, Turn, reached-place, place-reached, rows-few, row-inside, row-turn}
 use Rattle.find.proofs.row_behind.Statement.{statement}
 use Rattle.find.proofs.row_behind.Tie as tie
-use Rattle.find.proofs.row_behind.Reads as reads
-use Rattle.find.proofs.row_behind.Lts as lts
-use Rattle.row.proofs.read_head.Reads as read-head-reads
 
 module _ (c : tie.After-shared-slice-known2) where
   abbrev start : tie.Start
@@ -34,7 +31,7 @@ module _ (c : tie.After-shared-slice-known2) where
   more = start .pre .1 .1
 
   reached : Reached s (start .args .from .row) (start .args .from .at) (start .args .from .base)
-  reached = spot-reached s (start .args .from) (start .pre .1 .0) (let m = more in omega arith)
+  reached = place-reached s (start .args .from) (start .pre .1 .0) (let m = more in omega arith)
 
 turn : (c : tie.After-read-head) → let k = c .before in Turn (t k) (a k) (s k) (start k .args .from .row) (start k .args .from .at) (start k .args .from .base) (c .read-head .result)
 turn c =
@@ -68,7 +65,7 @@ add-t11 c = let z = turn (c .before .before .before .before) .arena-inside in om
 returns : tie.Need-returns
 returns c =
     let r = c .before .before .before .before in
-    reached-spot (s (r .before)) _ _ _ (turn r .next)
+    reached-place (s (r .before)) _ _ _ (turn r .next)
 
 pub row-behind-spec : {M : Type 1} → statement M
 row-behind-spec =

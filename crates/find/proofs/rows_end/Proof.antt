@@ -1,14 +1,11 @@
 -- `find::rows_end` meets its contract: the search passes every row. Assumes nothing.
 use Rattle.layout.specs.Memory.{stateOf, rowsOf}
-use Rattle.find.proofs.Answers.{first-spotted, end-answer}
+use Rattle.find.proofs.Answers.{first-row-place, end-answer}
 use Rattle.find.proofs.rows_end.Statement.{statement}
 use Rattle.find.proofs.rows_end.Tie as tie
-use Rattle.find.proofs.rows_end.Reads as reads
-use Rattle.find.proofs.rows_end.Lts as lts
-use Rattle.find.proofs.seek.Reads as seek-reads
 
 seek-requires : tie.Need-seek-requires
-seek-requires c κs = let k = c .before .before in (k .pre, first-spotted (rowsOf (stateOf (k .args .tables .now) (k .args .arena .now))))
+seek-requires c κs = let k = c .before .before in (k .pre, first-row-place (rowsOf (stateOf (k .args .tables .now) (k .args .arena .now))))
 
 returns : tie.Need-returns
 returns c = end-answer _ (c .seek .result) (c .seek .ensures)

@@ -10,14 +10,9 @@ use Rattle.row.specs.Row.{headOf}
 use Rattle.layout.specs.Memory.{stateOf, rowsOf, Stands}
 use Rattle.layout.specs.WholeLaws.{whole-stands}
 use Rattle.find.specs.Search.{sought, stopsAt}
-use Rattle.find.proofs.Walk.{Reached, Turn, reached-spot, spot-reached, row-inside, row-turn, sought-end, sought-here, sought-on}
+use Rattle.find.proofs.Walk.{Reached, Turn, reached-place, place-reached, row-inside, row-turn, sought-end, sought-here, sought-on}
 use Rattle.find.proofs.seek.Statement.{statement}
 use Rattle.find.proofs.seek.Tie as tie
-use Rattle.find.proofs.seek.Reads as reads
-use Rattle.find.proofs.seek.Lts as lts
-use Rattle.find.proofs.row_count.Reads as row-count-reads
-use Rattle.find.proofs.stops.Reads as stops-reads
-use Rattle.row.proofs.read_head.Reads as read-head-reads
 
 abbrev Inv-loop : tie.InvT-loop
 Inv-loop tables arena goal rows row₀ at₀ base₀ row at base =
@@ -30,7 +25,7 @@ row-count-requires : tie.Need-row-count-requires Inv-loop μ-loop
 row-count-requires c κs = search needs
 
 loop-holds : tie.Need-loop-holds Inv-loop μ-loop
-loop-holds c = let k = c .before .before .before in (spot-reached _ (k .args .from) (k .pre .1 .0) (k .pre .1 .1), refl)
+loop-holds c = let k = c .before .before .before in (place-reached _ (k .args .from) (k .pre .1 .0) (k .pre .1 .1), refl)
 
 -- in the loop: memory stands for its state, and the count is that of its rows
 module _ (c : tie.At-loop Inv-loop μ-loop) where
@@ -77,7 +72,7 @@ returns : tie.Need-returns Inv-loop μ-loop
 returns c =
     let r = c .before .before in
     let k = r .before .before in
-    reached-spot (s k) _ _ _ (k .loop .inv .0)
+    reached-place (s k) _ _ _ (k .loop .inv .0)
     ∙ sym (k .loop .inv .1 ∙ sought-here _ _ _ (turn r .row) (turn r .here) (sym (told (c .before)) ∙ c .if1 .taken))
 
 add-at : tie.Need-add-at Inv-loop μ-loop
@@ -111,7 +106,7 @@ loop-again c =
 returns-2 : tie.Need-returns-2 Inv-loop μ-loop
 returns-2 c =
     let k = c .before in
-    reached-spot (s k) _ _ _ (k .loop .inv .0)
+    reached-place (s k) _ _ _ (k .loop .inv .0)
     ∙ sym (k .loop .inv .1 ∙ sought-end _ _ _ (let n = c .loop-test .left in omega (arith, counted k)))
 
 pub seek-spec : {M : Type 1} → statement M

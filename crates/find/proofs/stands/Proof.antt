@@ -13,13 +13,9 @@ use Rattle.row.specs.declared.Head.{Head}
 use Rattle.layout.specs.Memory.{stateOf, rowsOf, Stands}
 use Rattle.layout.specs.WholeLaws.{whole-stands}
 use Rattle.find.specs.Search.{leads}
-use Rattle.find.proofs.Walk.{Reached, spot-reached, row-inside, row-turn, leads-none, leads-row}
+use Rattle.find.proofs.Walk.{Reached, place-reached, row-inside, row-turn, leads-none, leads-row}
 use Rattle.find.proofs.stands.Statement.{statement}
 use Rattle.find.proofs.stands.Tie as tie
-use Rattle.find.proofs.stands.Reads as reads
-use Rattle.find.proofs.stands.Lts as lts
-use Rattle.find.proofs.row_count.Reads as row-count-reads
-use Rattle.row.proofs.read_head.Reads as read-head-reads
 
 row-count-requires : tie.Need-row-count-requires
 row-count-requires c κs = search needs
@@ -53,7 +49,7 @@ module _ (c : tie.Else1) where
   more = let l = c .if1 .left in omega (arith, c .before .before .row-count .ensures)
 
   reached : Reached s (start .args .here .row) (start .args .here .at) (start .args .here .base)
-  reached = spot-reached s (start .args .here) (start .pre .1 .0) (start .pre .1 .1)
+  reached = place-reached s (start .args .here) (start .pre .1 .0) (start .pre .1 .1)
 
 read-head-requires : tie.Need-read-head-requires
 read-head-requires c κs =

@@ -1,14 +1,11 @@
 -- `find::upload_row` meets its contract: the search stops where the upload stands or would stand. Assumes nothing.
 use Rattle.layout.specs.Memory.{stateOf, rowsOf}
-use Rattle.find.proofs.Answers.{first-spotted, upload-answer}
+use Rattle.find.proofs.Answers.{first-row-place, upload-answer}
 use Rattle.find.proofs.upload_row.Statement.{statement}
 use Rattle.find.proofs.upload_row.Tie as tie
-use Rattle.find.proofs.upload_row.Reads as reads
-use Rattle.find.proofs.upload_row.Lts as lts
-use Rattle.find.proofs.seek.Reads as seek-reads
 
 seek-requires : tie.Need-seek-requires
-seek-requires c κs = let k = c .before .before in (k .pre, first-spotted (rowsOf (stateOf (k .args .tables .now) (k .args .arena .now))))
+seek-requires c κs = let k = c .before .before in (k .pre, first-row-place (rowsOf (stateOf (k .args .tables .now) (k .args .arena .now))))
 
 returns : tie.Need-returns
 returns c =

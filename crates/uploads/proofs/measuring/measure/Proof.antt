@@ -8,16 +8,16 @@ use lib.ListN.{length}
 use Rattle.machine.specs.State.{State}
 use Rattle.layout.specs.Memory.{stateOf, Stands}
 use Rattle.layout.specs.WholeLaws.{whole-stands}
-use Rattle.uploads.proofs.UploadRows.{Entry, row-inside, row-open, entry}
+use Rattle.uploads.proofs.UploadRows.{Entry, row-open, row-place, entry}
 use Rattle.uploads.proofs.Measured.{Measured, measured-none, measured-next, measured-all}
 use Rattle.uploads.proofs.measuring.measure.Statement.{statement}
 use Rattle.uploads.proofs.measuring.measure.Tie as tie
 
 abbrev Inv-loop : tie.InvT-loop
-Inv-loop tables arena prefix uploads at₀ records₀ bytes₀ i₀ at records bytes i = Measured (stateOf tables arena) prefix i at records bytes
+Inv-loop tables arena prefix uploads here₀ records₀ bytes₀ i₀ here records bytes i = Measured (stateOf tables arena) prefix i here records bytes
 
 abbrev μ-loop : tie.MeasureT-loop
-μ-loop tables arena prefix uploads at₀ records₀ bytes₀ i₀ at records bytes i = uploads - i
+μ-loop tables arena prefix uploads here₀ records₀ bytes₀ i₀ here records bytes i = uploads - i
 
 open-count-requires : tie.Need-open-count-requires Inv-loop μ-loop
 open-count-requires c κs = search needs
@@ -59,15 +59,15 @@ read-upload-requires : tie.Need-read-upload-requires Inv-loop μ-loop
 read-upload-requires c κs =
     let k = c .before in (
       start k .pre,
-      row-inside (t k) (a k) (s k) (stands k) (k .loop .i) (k .loop .at) (k .loop .inv .rows) (more c),
-      row-open (t k) (a k) (s k) (stands k) (k .loop .i) (k .loop .at) (k .loop .inv .rows) (more c),
+      row-open (t k) (a k) (s k) (stands k) (k .loop .i) (k .loop .here) (k .loop .inv .rows) (more c),
+      row-place (t k) (a k) (s k) (stands k) (k .loop .i) (k .loop .here) (k .loop .inv .rows) (more c),
     )
 
 -- the upload whose row was read
 read : (c : tie.After-read-upload Inv-loop μ-loop) → let k = c .before .before in Entry (t k) (s k) (k .loop .i) (c .read-upload .result)
 read c =
     let k = c .before .before in
-    entry (t k) (a k) (s k) (stands k) (k .loop .i) (k .loop .at) (k .loop .inv .rows) (more (c .before)) (c .read-upload .result) (c .read-upload .ensures)
+    entry (t k) (a k) (s k) (stands k) (k .loop .i) (k .loop .here) (k .loop .inv .rows) (more (c .before)) (c .read-upload .result) (c .read-upload .ensures)
 
 sub-measure-one : tie.Need-sub-measure-one Inv-loop μ-loop
 sub-measure-one c = let e = read c in omega arith
@@ -95,16 +95,16 @@ loop-less c = omega arith
 
 loop-again : tie.Need-loop-again Inv-loop μ-loop
 loop-again c =
-    let m = c .before .before in
+    let m = c .before .before .before in
     let r = m .before .before in
     let k = r .before .before in
     let o = m .measure-one .ensures in
-    measured-next (t k) (s k) (start k .args .prefix .now) (k .loop .i) (k .loop .at) (k .loop .records) (k .loop .bytes) (r .read-upload .result) _ _ (k .loop .inv) (more (r .before)) (read r) (o .0) (o .1) (o .2) (o .3)
+    measured-next (t k) (s k) (start k .args .prefix .now) (k .loop .i) (k .loop .here) (k .loop .records) (k .loop .bytes) (r .read-upload .result) _ _ (k .loop .inv) (more (r .before)) (read r) (o .0) (o .1) (o .2) (o .3)
 
 returns : tie.Need-returns Inv-loop μ-loop
 returns c =
     let k = c .before in
-    measured-all (s k) (start k .args .prefix .now) (k .loop .i) (k .loop .at) (k .loop .records) (k .loop .bytes) (k .loop .inv) (let n = c .loop-test .left in omega (arith, counted k))
+    measured-all (s k) (start k .args .prefix .now) (k .loop .i) (k .loop .here) (k .loop .records) (k .loop .bytes) (k .loop .inv) (let n = c .loop-test .left in omega (arith, counted k))
 
 pub measure-spec : {M : Type 1} → statement M
 measure-spec =

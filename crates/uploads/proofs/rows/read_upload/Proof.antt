@@ -1,76 +1,88 @@
 -- `uploads::rows::read_upload` meets its contract: the row's head, and the search behind the parts. Assumes nothing.
-use Prim.Native.Nat.{ℕ}
-use mathlib.Core.Path.{_≡_, ap, _∙_}
-use mathlib.Core.Bool.{true}
+use Prim.Native.Nat.{ℕ, _+_, _≤_, _<_}
+use mathlib.Core.Path.{_≡_}
 use mathlib.Core.List.{List}
 use native.Mathlib.Omega.{arith}
 use borrow.Author.Needs.{needs}
-use lib.ListN.{drop}
-use Rattle.machine.specs.Map.{byNumber, lookup}
+use lib.ListN.{length, drop}
 use Rattle.machine.specs.State.{State}
-use Rattle.row.specs.declared.Head.{Head}
 use Rattle.row.specs.Row.{headAt}
-use Rattle.layout.specs.Memory.{stateOf, Stands}
+use Rattle.layout.specs.Memory.{stateOf, rowsOf, Stands}
 use Rattle.layout.specs.WholeLaws.{whole-stands}
-use Rattle.find.specs.Places.{isSome}
-use Rattle.uploads.proofs.UploadRows.{parts-fit, told}
+use Rattle.find.specs.declared.RowPlace.{RowPlace}
+use Rattle.find.specs.Search.{rowPlaceAt}
+use Rattle.find.proofs.Answers.{open-row-place}
+use Rattle.find.proofs.Walk.{Reached, place-reached, row-inside, row-turn}
+use Rattle.uploads.proofs.UploadRows.{parts-fit, row-read}
 use Rattle.uploads.proofs.rows.read_upload.Statement.{statement}
 use Rattle.uploads.proofs.rows.read_upload.Tie as tie
 
-module _ (c : tie.After-read-head) where
+module _ (c : tie.After-shared-slice-known2) where
   abbrev start : tie.Start
-  start = c .before .before .before
+  start = c .before .before
 
   abbrev t : List ℕ
   t = start .args .tables .now
 
+  abbrev a : List ℕ
+  a = start .args .arena .now
+
   abbrev s : State
-  s = stateOf t (start .args .arena .now)
+  s = stateOf t a
 
-  stands : Stands t (start .args .arena .now) s
-  stands = whole-stands _ _ (λ j. c .before .before .shared-slice-known .given j .fits) (start .pre .0)
+  abbrev here : RowPlace
+  here = start .args .here
 
-  same : c .read-head .result .number ≡ headAt (drop (start .args .at) t) .number
-  same = ap (λ (h : Head). h .number) (c .read-head .ensures)
+  -- the number of the upload whose row stands here
+  abbrev number : ℕ
+  number = headAt (drop (here .at) t) .number
 
-  is-open : isSome (lookup byNumber (c .read-head .result .number) (s .U)) ≡ true
-  is-open = ap (λ (n : ℕ). isSome (lookup byNumber n (s .U))) same ∙ start .pre .2
+  stands : Stands t a s
+  stands = whole-stands t a (λ j. c .before .shared-slice-known .given j .fits) (start .pre .0)
+
+  a-row : (here ≡ rowPlaceAt (rowsOf s) (here .row)) × (here .row < length (rowsOf s))
+  a-row = open-row-place s number here (start .pre .2) (start .pre .1)
+
+  reached : Reached s (here .row) (here .at) (here .base)
+  reached = place-reached s here (a-row .0) (let l = a-row .1 in omega arith)
+
+  head-inside : here .at + 36 ≤ length t
+  head-inside = row-inside t a s stands (here .row) (here .at) (here .base) reached (a-row .1)
+
+path-inside : (c : tie.After-read-head) → let k = c .before in here k .at + 36 + c .read-head .result .pathlen ≤ length (t k)
+path-inside c =
+    let k = c .before in
+    row-turn (t k) (a k) (s k) (stands k) (here k .row) (here k .at) (here k .base) (reached k) (a-row k .1) (c .read-head .result) (c .read-head .ensures) .inside
 
 read-head-requires : tie.Need-read-head-requires
-read-head-requires c κs = search needs
+read-head-requires c κs = let z = head-inside c in omega arith
 
-parts-end-requires : tie.Need-parts-end-requires
-parts-end-requires c κs = (start c .pre .0, is-open c)
+pass-parts-requires : tie.Need-pass-parts-requires
+pass-parts-requires c κs = let k = c .before in (start k .pre .0, a-row k)
 
 add-from : tie.Need-add-from
-add-from c = search needs
+add-from c = let z = path-inside (c .before .before .before) in omega arith
 
-cast-t7 : tie.Need-cast-t7
-cast-t7 c = search needs
+cast-t8 : tie.Need-cast-t8
+cast-t8 c = search needs
 
-add-t8 : tie.Need-add-t8
-add-t8 c = search needs
+add-t9 : tie.Need-add-t9
+add-t9 c = let z = path-inside (c .before .before .before .before) in omega arith
 
-cast-t9 : tie.Need-cast-t9
-cast-t9 c =
-    let k = c .before .before in
-    let h = k .before in
-    omega (arith, parts-fit (t h) _ (s h) (stands h) _ (is-open h) _ (k .parts-end .ensures))
+cast-t10 : tie.Need-cast-t10
+cast-t10 c =
+    let p = c .before .before .before .before in
+    let k = p .before .before in
+    omega (arith, parts-fit (t k) (a k) (s k) (stands k) (number k) (start k .pre .1) (p .pass-parts .result) (λ x. p .pass-parts .ensures (number k) x (start k .pre .2)))
 
 returns : tie.Need-returns
 returns c x f =
-    let k = c .before .before in
-    let h = k .before in
-    told (t h) (s h) (start h .args .at) x (h .read-head .result) (k .parts-end .result) (h .read-head .ensures) (k .parts-end .ensures x) f
+    let p = c .before .before .before .before in
+    let h = p .before in
+    let k = h .before in
+    row-read (t k) (s k) (here k) x (h .read-head .result) (p .pass-parts .result) (h .read-head .ensures) (p .pass-parts .ensures (number k) x (start k .pre .2) f)
 
 pub read-upload-spec : {M : Type 1} → statement M
 read-upload-spec =
     tie.close
-    (tie.spec
-    read-head-requires
-    parts-end-requires
-    add-from
-    cast-t7
-    add-t8
-    cast-t9
-    returns)
+    (tie.spec read-head-requires pass-parts-requires add-from cast-t8 add-t9 cast-t10 returns)

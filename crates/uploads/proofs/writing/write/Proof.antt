@@ -8,16 +8,16 @@ use lib.ListN.{length}
 use Rattle.machine.specs.State.{State}
 use Rattle.layout.specs.Memory.{stateOf, Stands}
 use Rattle.layout.specs.WholeLaws.{whole-stands}
-use Rattle.uploads.proofs.UploadRows.{Entry, row-inside, row-open, entry}
+use Rattle.uploads.proofs.UploadRows.{Entry, row-open, row-place, entry}
 use Rattle.uploads.proofs.Written.{Written, written-none, written-fits, written-next, written-all}
 use Rattle.uploads.proofs.writing.write.Statement.{statement}
 use Rattle.uploads.proofs.writing.write.Tie as tie
 
 abbrev Inv-loop : tie.InvT-loop
-Inv-loop tables arena prefix answer₀ uploads at₀ n₀ i₀ answer at n i = Written (stateOf tables arena) prefix answer₀ answer i at n
+Inv-loop tables arena prefix answer₀ uploads here₀ n₀ i₀ answer here n i = Written (stateOf tables arena) prefix answer₀ answer i here n
 
 abbrev μ-loop : tie.MeasureT-loop
-μ-loop tables arena prefix answer₀ uploads at₀ n₀ i₀ answer at n i = uploads - i
+μ-loop tables arena prefix answer₀ uploads here₀ n₀ i₀ answer here n i = uploads - i
 
 open-count-requires : tie.Need-open-count-requires Inv-loop μ-loop
 open-count-requires c κs = search needs
@@ -55,15 +55,15 @@ read-upload-requires : tie.Need-read-upload-requires Inv-loop μ-loop
 read-upload-requires c κs =
     let k = c .before in (
       start k .pre .0,
-      row-inside (t k) (a k) (s k) (stands k) (k .loop .i) (k .loop .at) (k .loop .inv .rows) (more c),
-      row-open (t k) (a k) (s k) (stands k) (k .loop .i) (k .loop .at) (k .loop .inv .rows) (more c),
+      row-open (t k) (a k) (s k) (stands k) (k .loop .i) (k .loop .here) (k .loop .inv .rows) (more c),
+      row-place (t k) (a k) (s k) (stands k) (k .loop .i) (k .loop .here) (k .loop .inv .rows) (more c),
     )
 
 -- the upload whose row was read
 read : (c : tie.After-read-upload Inv-loop μ-loop) → let k = c .before .before in Entry (t k) (s k) (k .loop .i) (c .read-upload .result)
 read c =
     let k = c .before .before in
-    entry (t k) (a k) (s k) (stands k) (k .loop .i) (k .loop .at) (k .loop .inv .rows) (more (c .before)) (c .read-upload .result) (c .read-upload .ensures)
+    entry (t k) (a k) (s k) (stands k) (k .loop .i) (k .loop .here) (k .loop .inv .rows) (more (c .before)) (c .read-upload .result) (c .read-upload .ensures)
 
 sub-write-one : tie.Need-sub-write-one Inv-loop μ-loop
 sub-write-one c = let e = read (c .before) in omega arith
@@ -79,7 +79,7 @@ write-one-requires c κs =
     let r = c .before .before in
     let k = r .before .before in
     let e = read r in
-    (rw (e .path) (e .short), written-fits (t k) (s k) (start k .args .prefix .now) (start k .args .answer .now) (k .loop .answer) (k .loop .i) (k .loop .at) (k .loop .n) (r .read-upload .result) (k .loop .inv) (more (r .before)) e (start k .pre .1))
+    (rw (e .path) (e .short), written-fits (t k) (s k) (start k .args .prefix .now) (start k .args .answer .now) (k .loop .answer) (k .loop .i) (k .loop .here) (k .loop .n) (r .read-upload .result) (k .loop .inv) (more (r .before)) e (start k .pre .1))
 
 add-i : tie.Need-add-i Inv-loop μ-loop
 add-i c = omega arith
@@ -89,11 +89,11 @@ loop-less c = omega arith
 
 loop-again : tie.Need-loop-again Inv-loop μ-loop
 loop-again c =
-    let m = c .before .before in
+    let m = c .before .before .before in
     let r = m .before .before .before in
     let k = r .before .before in
     let o = m .write-one .ensures in
-    written-next (t k) (s k) (start k .args .prefix .now) (start k .args .answer .now) (k .loop .answer) (k .loop .i) (k .loop .at) (k .loop .n) (r .read-upload .result) (k .loop .inv) (more (r .before)) (read r) _ _ (o .0) (o .1) (search needs)
+    written-next (t k) (s k) (start k .args .prefix .now) (start k .args .answer .now) (k .loop .answer) (k .loop .i) (k .loop .here) (k .loop .n) (r .read-upload .result) (k .loop .inv) (more (r .before)) (read r) _ _ (o .0) (o .1) (search needs)
 
 same-length : tie.Need-same-length Inv-loop μ-loop
 same-length c = let z = c .before .loop .inv .same in search needs
@@ -101,7 +101,7 @@ same-length c = let z = c .before .loop .inv .same in search needs
 returns : tie.Need-returns Inv-loop μ-loop
 returns c =
     let k = c .before in
-    written-all (s k) (start k .args .prefix .now) (start k .args .answer .now) (k .loop .answer) (k .loop .i) (k .loop .at) (k .loop .n) (k .loop .inv) (let n = c .loop-test .left in omega (arith, counted k))
+    written-all (s k) (start k .args .prefix .now) (start k .args .answer .now) (k .loop .answer) (k .loop .i) (k .loop .here) (k .loop .n) (k .loop .inv) (let n = c .loop-test .left in omega (arith, counted k))
 
 pub write-spec : {M : Type 1} → statement M
 write-spec =

@@ -7,6 +7,8 @@ LIB = $(LIB_DIR)/librathnodi.a
 HOST_CFLAGS = -std=c11 -O2 -Wall -Wextra -Werror -pedantic -Iinclude
 
 .PHONY: run host-test bench install FORCE
+# One rt at a time, also under make -j.
+.NOTPARALLEL:
 
 # The panel's short shift.
 run: target/host/panel

@@ -1,21 +1,14 @@
--- Laws for callers whose buffer is `live`, then free bytes: what a write of a field, a rotation and a splice within `live` leave. Each takes what
+-- Laws for callers whose buffer is `live`, then free bytes: what a rotation and a splice within `live` leave. Each takes what
 -- the callee ensures. With an empty y a splice inserts, with an empty src it removes. Assumes nothing.
 use mathlib.Core.Path.{_≡_, refl, sym, ap, _∙_}
 use mathlib.Core.List.{List, _++_, append-assoc}
 use Prim.Native.Nat.{ℕ, _+_, _-_}
 use native.Mathlib.Omega.{arith}
 use lib.ListN.{length, drop, length-append}
-use Rattle.number.proofs.Fields.{over, field-written}
 use Rattle.buffer.specs.Buffer.{spliced, rotated}
 use Rattle.buffer.proofs.Parts.{rotated-parts, spliced-parts}
 
 module _ (b b′ live live′ free : List ℕ) (told : b ≡ live ++ free) where
-  pub written-live : (x old new y : List ℕ) (at n : ℕ) → live ≡ x ++ (old ++ y) → live′ ≡ x ++ (new ++ y) → length x ≡ at → length old ≡ n → b′ ≡ over b at new n
-      → b′ ≡ live′ ++ free
-  written-live x old new y at n p q place width e =
-      let t : b ≡ x ++ (old ++ (y ++ free)) = told ∙ ap (λ (s : List ℕ). s ++ free) p ∙ simp append-assoc in
-      field-written b x old (y ++ free) at n t place width b′ new e ∙ sym (ap (λ (s : List ℕ). s ++ free) q ∙ simp append-assoc)
-
   pub rotated-live : (x y z w : List ℕ) (at left right : ℕ) → live ≡ x ++ (y ++ (z ++ w)) → live′ ≡ x ++ (z ++ (y ++ w)) → length x ≡ at → length y ≡ left → length z ≡ right
       → b′ ≡ rotated b at left right → b′ ≡ live′ ++ free
   rotated-live x y z w at l r p q place first second e =

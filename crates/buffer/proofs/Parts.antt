@@ -2,9 +2,9 @@
 -- after it. For `copy_at` it is `field-written`, of crate number. Assumes nothing.
 use mathlib.Core.Path.{_≡_, sym, ap, ap₂, _∙_}
 use mathlib.Core.List.{List, _++_, append-assoc}
-use Prim.Native.Nat.{ℕ, _+_, _-_, _≤_}
+use Prim.Native.Nat.{ℕ, _+_, _-_}
 use native.Mathlib.Omega.{arith}
-use lib.ListN.{length, take, drop, length-append, length-drop}
+use lib.ListN.{length, take, drop, length-append}
 use Rattle.number.proofs.Fields.{field-take, field-drop, field-read}
 use Rattle.buffer.specs.Buffer.{spliced, rotated}
 
@@ -41,9 +41,3 @@ module _ (b x y z w : List ℕ) (at n m : ℕ) (told : b ≡ x ++ (y ++ (z ++ w)
       let q : used - (at + n) ≡ m = omega arith in
       let t : take (used - (at + n)) (drop (at + n) b) ≡ z = ap (λ (k : ℕ). take k (drop (at + n) b)) q ∙ two in
       e ∙ ap₂ (λ (u v : List ℕ). u ++ (src ++ (v ++ drop (used - n + length src) b))) before t
-
-  -- the free bytes behind are then fewer or more by what src and y differ
-  pub spliced-free : (src : List ℕ) (used : ℕ) → at + n + m ≡ used → length src ≤ length w + n → length (drop (used - n + length src) b) + length src ≡ length w + n
-  spliced-free src used end room =
-      let k : length b ≡ at + n + m + length w = omega (arith, ap length told, length-append x (y ++ (z ++ w)), length-append y (z ++ w), length-append z w) in
-      omega (arith, length-drop (used - n + length src) b)

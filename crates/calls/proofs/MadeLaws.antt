@@ -13,7 +13,7 @@ use Rattle.layout.specs.StandsLaws.{stands-state, stands-whole}
 use Rattle.calls.specs.Answers.{refused}
 use Rattle.calls.specs.Made.{Memory, wholeMemory, stateIn, outcome, resultOf, meantReply, meantState, Made}
 
-one-not-zero : _≡_ {A = ℕ} 1 0 → ⊥
+pub one-not-zero : _≡_ {A = ℕ} 1 0 → ⊥
 one-not-zero e = omega arith
 
 -- refusal 1: memory that is not whole

@@ -1,5 +1,6 @@
 -- Document 01's number and values for each answer of the code. Assumes nothing.
 use Prim.Native.Nat.{ℕ, _+_, _*_}
+use mathlib.Core.Path.{_≡_}
 use mathlib.Core.List.{List, [], _∷_}
 use Rattle.md5.specs.Md5.{bytesOf}
 use Rattle.types.specs.declared.Etag.{Etag}
@@ -32,33 +33,38 @@ metadataOf m = metadata (m .length) (m .created .0) (etagOf (m .etag))
 abbrev pub refused : ℕ → Bytes → Reply
 refused n b = record { result = n; answer = nothing; buffer = b }
 
-abbrev pub accepted : Answer → Bytes → Reply
-accepted a b = record { result = 0; answer = a; buffer = b }
+abbrev pub success : Answer → Bytes → Reply
+success a b = record { result = 0; answer = a; buffer = b }
 
 -- PUT, DELETE, COPY, COMMIT and ABORT
 abbrev pub doneReply : DoneAnswer → Reply
 doneReply (done.Refused n) = refused n []
-doneReply done.Done = accepted nothing []
+doneReply done.Done = success nothing []
+
+-- "Success is 0.": a refusal has another number, so `Done` alone says that the call was done
+abbrev pub WellNumbered : DoneAnswer → Type 0
+WellNumbered (done.Refused n) = n ≡ 0 → ⊥
+WellNumbered done.Done = Unit {0}
 
 -- GET and HEAD; b is what the answer buffer holds
 abbrev pub getReply : GetAnswer → Bytes → Reply
 getReply (get.Refused n) b = refused n b
-getReply (get.Found m) b = accepted (metadataOf m) b
+getReply (get.Found m) b = success (metadataOf m) b
 
 -- PART
 abbrev pub partReply : PartAnswer → Reply
 partReply (part.Refused n) = refused n []
-partReply (part.Stored e) = accepted (etag (etagOf e)) []
+partReply (part.Stored e) = success (etag (etagOf e)) []
 
 -- INITIATE
 abbrev pub initiateReply : InitiateAnswer → Reply
 initiateReply (initiate.Refused n) = refused n []
-initiateReply (initiate.Opened u) = accepted (number (u .0)) []
+initiateReply (initiate.Opened u) = success (number (u .0)) []
 
 -- LIST and UPLOADS
 abbrev pub listReply : ListAnswer → Bytes → Reply
 listReply (list.Refused n) b = refused n b
-listReply (list.Written c) b = accepted (counts (c .records) (c .bytes)) b
+listReply (list.Written c) b = success (counts (c .records) (c .bytes)) b
 
 -- "a part list goes as 16-bit numbers, low byte first, and an odd byte left over makes it unfit": 0 is no part's number
 unfoldable pub partList : Bytes → List ℕ

@@ -20,7 +20,7 @@ use Rattle.layout.specs.WholeLaws.{whole-stands}
 use Rattle.find.specs.declared.Place.{Place}
 use Rattle.find.specs.Places.{isSome, uploadPlace}
 use Rattle.find.proofs.Found.{is-some, is-none}
-use Rattle.calls.specs.Answers.{partList, accepted}
+use Rattle.calls.specs.Answers.{partList, success}
 use Rattle.calls.specs.Made.{Memory, memory, stateIn, outcome, resultOf, Made}
 use Rattle.calls.proofs.MadeLaws.{done}
 use Rattle.calls.proofs.Judging.{result-pass, result-stop, passed, result-found, result-missing, was-found}
@@ -130,7 +130,7 @@ module _ (t a : List ℕ) (u : ℕ) (list : Bytes) (w : whole t a ≡ true) (n :
       }
 
   pub commit-made : byte.Bytes t → (t′ a′ : List ℕ) → ((k : Joinable t a u list) → Stands t′ a′ (joinedState (stateOf t a) u (partList list) (k .listed)))
-      → length t′ ≡ length t → length a′ ≡ length a → Made (COMMIT u (partList list)) (memory t a) (accepted nothing []) (memory t′ a′)
+      → length t′ ≡ length t → length a′ ≡ length a → Made (COMMIT u (partList list)) (memory t a) (success nothing []) (memory t′ a′)
   unfolding commit-ready
   commit-made b t′ a′ h l l′ =
-      done (COMMIT u (partList list)) (memory t a) (memory t′ a′) (accepted nothing []) nothing [] _ w (commit-accepted (memory t a) u (partList list) zero-result) refl (h (commit-ready b)) l l′
+      done (COMMIT u (partList list)) (memory t a) (memory t′ a′) (success nothing []) nothing [] _ w (commit-accepted (memory t a) u (partList list) zero-result) refl (h (commit-ready b)) l l′

@@ -12,7 +12,7 @@ ghost use Rattle.machine.specs.Calls.{COMMIT};
 ghost use Rattle.machine.specs.Fits.{member, fits};
 ghost use Rattle.layout.specs.Memory.{whole, stateOf};
 ghost use Rattle.find.specs.Places.{isSome};
-ghost use Rattle.calls.specs.Answers.{doneReply, partList};
+ghost use Rattle.calls.specs.Answers.{WellNumbered, doneReply, partList};
 ghost use Rattle.calls.specs.Made.{memory, outcome, resultOf, Made};
 ghost use Rattle.commits.specs.Numbers.{firstNumbers, numberFits};
 
@@ -96,7 +96,7 @@ fn commit_judge(tables: &[u8], arena: &[u8], upload: UploadNumber, list: &[u8]) 
 }
 
 pub fn commit(tables: &mut [u8], arena: &mut [u8], upload: UploadNumber, list: &[u8]) -> DoneAnswer
-    ensures { λ r. ⌜ Made (COMMIT (upload .0) (partList (now (list .entry)))) (memory (now (tables .entry)) (now (arena .entry))) (doneReply r) (memory (now (tables .exit)) (now (arena .exit))) ⌝ }
+    ensures { λ r. ⌜ Made (COMMIT (upload .0) (partList (now (list .entry)))) (memory (now (tables .entry)) (now (arena .entry))) (doneReply r) (memory (now (tables .exit)) (now (arena .exit))) × WellNumbered r ⌝ }
 {
     if !scan::whole(tables, arena) {
         return DoneAnswer::Refused(1);

@@ -31,7 +31,7 @@ use Rattle.find.proofs.RowsAt.{At, row-at}
 use Rattle.find.proofs.Found.{is-some, is-none}
 use Rattle.edit.specs.Objects.{plainWith}
 use Rattle.edit_copy.specs.Copy.{contentIn, contentAt, Copiable}
-use Rattle.calls.specs.Answers.{accepted}
+use Rattle.calls.specs.Answers.{success}
 use Rattle.calls.specs.Made.{Memory, memory, stateIn, outcome, resultOf, Made}
 use Rattle.calls.proofs.MadeLaws.{done}
 use Rattle.calls.proofs.Judging.{result-pass, result-stop, passed, result-found, result-missing, was-found}
@@ -121,9 +121,6 @@ module _ (m : Memory) (t : ℕ) (p q : Bytes) where
 
   -- result 0
   module _ (zero-result : resultOf (outcome (COPY t p q) m) ≡ 0) where
-    after-copy : State
-    after-copy = withObject (stateIn m) q (plainObject t (contentAt (stateIn m) p))
-
     first : (stampOk t && requestPathOk p && newPathOk q ≡ true) × (outcome (COPY t p q) m ≡ sourceOutcome A (stateIn m) t p q)
     unfolding outcome act sourceOutcome
     first = passed (stampOk t && requestPathOk p && newPathOk q) badRequest (sourceOutcome A (stateIn m) t p q) zero-result
@@ -166,7 +163,7 @@ module _ (tables arena p q : List ℕ) (t : ℕ) (digest : Digest) (w : whole ta
       }
 
   pub copy-made : (t′ a′ : List ℕ) → Stands t′ a′ (withObject (stateOf tables arena) q (plainWith t digest (contentAt (stateOf tables arena) p)))
-      → length t′ ≡ length tables → length a′ ≡ length arena → Made (COPY t p q) (memory tables arena) (accepted nothing []) (memory t′ a′)
+      → length t′ ≡ length tables → length a′ ≡ length arena → Made (COPY t p q) (memory tables arena) (success nothing []) (memory t′ a′)
   copy-made t′ a′ h l l′ =
-      done (COPY t p q) (memory tables arena) (memory t′ a′) (accepted nothing []) nothing [] _ w (copy-accepted (memory tables arena) t p q zero-result) refl
+      done (COPY t p q) (memory tables arena) (memory t′ a′) (success nothing []) nothing [] _ w (copy-accepted (memory tables arena) t p q zero-result) refl
       (subst (λ (y : Object). Stands t′ a′ (withObject (stateOf tables arena) q y)) (plain-is t _ digest e) h) l l′

@@ -12,7 +12,7 @@ ghost use Rattle.machine.specs.Calls.{COPY};
 ghost use Rattle.layout.specs.Memory.{whole, stateOf};
 ghost use Rattle.find.specs.Places.{isSome};
 ghost use Rattle.edit_copy.specs.Copy.{contentAt};
-ghost use Rattle.calls.specs.Answers.{doneReply};
+ghost use Rattle.calls.specs.Answers.{WellNumbered, doneReply};
 ghost use Rattle.copies.specs.Source.{sourceOutcome};
 ghost use Rattle.calls.specs.Made.{memory, outcome, resultOf, Made};
 
@@ -65,7 +65,7 @@ pub fn copy(
     source: &[u8],
     destination: &[u8],
 ) -> DoneAnswer
-    ensures { λ r. ⌜ Made (COPY (stamp .0) (now (source .entry)) (now (destination .entry))) (memory (now (tables .entry)) (now (arena .entry))) (doneReply r) (memory (now (tables .exit)) (now (arena .exit))) ⌝ }
+    ensures { λ r. ⌜ Made (COPY (stamp .0) (now (source .entry)) (now (destination .entry))) (memory (now (tables .entry)) (now (arena .entry))) (doneReply r) (memory (now (tables .exit)) (now (arena .exit))) × WellNumbered r ⌝ }
 {
     if !scan::whole(tables, arena) {
         return DoneAnswer::Refused(1);

@@ -20,7 +20,7 @@ pub record Committed (A : ℕ) (before : Trace) (u : ℕ) (ns : List ℕ) (r : R
 
 -- The run from FRESH with calls and answers t, which leaves memory m.
 pub record Demand3 (A : ℕ) (t : Trace) (m : Memory) : Type 0 where
-  -- "all answers, all answer buffers and the final state equal those of document 01's machine"
+  -- Demand 3: "all answers, all answer buffers and the final state equal those of document 01's machine"
   pub answers : t ≡ trace A fresh (calls t)
   pub state : stateIn m ≡ final A fresh (calls t)
   -- "Memory that a list of calls from FRESH leaves is whole", and is that state's encoding, followed by free bytes

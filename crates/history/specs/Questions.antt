@@ -37,7 +37,7 @@ SameReads m m′ = (c : Call) (r r′ : Reply) (n n′ : Memory) → isLook (kin
 
 -- "Can weighings of an aborted upload turn up in a later record?" ----------------------------------------------------------
 
--- the call names the upload
+-- the call is a PART, a COMMIT or an ABORT of the upload
 abbrev pub names : (upload : ℕ) → Call → Bool
 names u (PUT t p d) = false
 names u (GET p b) = false

@@ -1,19 +1,18 @@
 -- The rows of parts in listed order: as many as the list has numbers, each encodable. Assumes nothing.
 use Prim.Native.Nat.{ℕ, suc, _/_}
 use mathlib.Core.Path.{_≡_, refl, sym, ap, _∙_, subst}
-use mathlib.Core.List.{List, [], _∷_, _++_}
+use mathlib.Core.List.{List, [], _∷_}
 use mathlib.Core.Option.{some}
 use native.Mathlib.Omega.{arith}
 use lib.ListN.{length, take, drop}
 use Rattle.order.specs.OrderLaws.{numbers}
 use Rattle.machine.specs.Map.{Map, byNumber, remove, place}
 use Rattle.machine.specs.State.{Part}
-use Rattle.machine.specs.Steps.{fit, contents}
+use Rattle.machine.specs.Steps.{fit}
 use Rattle.machine.proofs.Options.{none-some}
 use Rattle.machine.proofs.MapPlaces.{split-found}
 use Rattle.machine.proofs.Fit.{fit-cons}
 use Rattle.row.specs.RowLaws.{EncodableAll}
-use Rattle.row.specs.Row.{contentsOf}
 use Rattle.layout.specs.Memory.{partRows}
 use Rattle.calls.specs.Answers.{partList}
 use Rattle.join_order.specs.Region.{listedRows, ListedAt, orderedTables}
@@ -37,14 +36,6 @@ listed-encodable (n ∷ ns) m ys f h =
     let here = subst (λ (l : Map ℕ Part). EncodableAll (partRows l)) (split-found numbers n (c .0) m (c .2)) h in
     subst (λ (l : List Part). EncodableAll (listedRows (n ∷ ns) l)) (c .4)
     (encodable-head (n, c .0) zs (encodable-append-right xs ((n, c .0) ∷ zs) here), listed-encodable ns (remove byNumber n m) (c .1) (c .3) (encodable-remove n (c .0) m (c .2) h))
-
--- the data of rows in listed order
-pub listed-contents : (ns : List ℕ) (ys : List Part) → length ns ≡ length ys → contentsOf (listedRows ns ys) ≡ contents ys
-unfolding listedRows contentsOf
-listed-contents [] [] e = refl
-listed-contents [] (y ∷ ys) e = absurd (omega arith)
-listed-contents (n ∷ ns) [] e = absurd (omega arith)
-listed-contents (n ∷ ns) (y ∷ ys) e = ap (λ (l : List ℕ). y .content ++ l) (listed-contents ns ys (omega arith))
 
 module _ (t a : List ℕ) (at base : ℕ) (list : List ℕ) (k : ListedAt t a at base list) where
   pub half : length list / 2 ≡ length (k .listed)

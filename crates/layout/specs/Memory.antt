@@ -7,7 +7,7 @@ use lib.Dec.{leb, eqb}
 use lib.ListN.{length, getD, drop}
 use Rattle.machine.specs.Map.{Map, total}
 use Rattle.machine.specs.Names.{Bytes}
-use Rattle.machine.specs.Etags.{Etag, absent, plain, joined}
+use Rattle.machine.specs.Etags.{Etag, absent, plain, joined, countOf, digestOf}
 use Rattle.machine.specs.State.{Object, Part, Upload, State, partsIn}
 use Rattle.machine.specs.Valid.{Valid}
 use Rattle.row.specs.Fields.{fields, numbersAt}
@@ -18,21 +18,13 @@ use Rattle.layout.specs.Rules.{plainKind, joinedKind, uploadKind, partKi
 
 -- The rows of a state ------------------------------------------------------------------------------------------------------
 
+-- the kind of an object's row, by its etag
 abbrev pub kindOf : Etag → ℕ
 kindOf absent = plainKind
 kindOf (plain digest) = plainKind
 kindOf (joined digest count) = joinedKind
 
-abbrev pub digestOf : Etag → Bytes
-digestOf absent = zeros
-digestOf (plain digest) = digest
-digestOf (joined digest count) = digest
-
-abbrev pub countOf : Etag → ℕ
-countOf absent = 0
-countOf (plain digest) = 0
-countOf (joined digest count) = count
-
+-- the row of an object, of an upload, and of a part
 abbrev pub objectRow : Bytes → Object → Row
 objectRow p x =
     record { number = 0; stamp = x .created; kind = kindOf (x .etag); count = countOf (x .etag); digest = digestOf (x .etag); path = p; content = x .content }
@@ -43,6 +35,7 @@ uploadRow u x = record { number = u; stamp = x .started; kind = uploadKind; coun
 abbrev pub partRow : ℕ → Part → Row
 partRow n y = record { number = n; stamp = 0; kind = partKind; count = 0; digest = y .digest; path = []; content = y .content }
 
+-- the rows of a map
 unfoldable pub objectRows : Map Bytes Object → List Row
 objectRows [] = []
 objectRows (e ∷ m) = objectRow (e .0) (e .1) ∷ objectRows m
@@ -51,6 +44,7 @@ unfoldable pub partRows : Map ℕ Part → List Row
 partRows [] = []
 partRows (e ∷ m) = partRow (e .0) (e .1) ∷ partRows m
 
+-- each upload, and its parts behind it
 unfoldable pub uploadRows : Map ℕ Upload → List Row
 uploadRows [] = []
 uploadRows (e ∷ m) = uploadRow (e .0) (e .1) ∷ (partRows (e .1 .parts) ++ uploadRows m)

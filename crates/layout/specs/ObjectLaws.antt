@@ -10,13 +10,13 @@ use lib.ListN.{length, length-append}
 use Rattle.order.specs.Order.{byBytes}
 use Rattle.machine.specs.Map.{Map, Above, Ascending, Every}
 use Rattle.machine.specs.Names.{Bytes, storedPathOk}
-use Rattle.machine.specs.Etags.{Etag, absent, plain, joined}
+use Rattle.machine.specs.Etags.{Etag, absent, plain, joined, countOf, digestOf}
 use Rattle.machine.specs.State.{Object}
 use Rattle.machine.specs.Valid.{EtagOk, ObjectOk}
 use Rattle.row.specs.Row.{Row, contentsOf}
 use Rattle.row.specs.RowLaws.{Encodable, EncodableAll, Follows}
 use Rattle.layout.specs.Rules.{isLess, objectRule, objectOk, objectNext}
-use Rattle.layout.specs.Memory.{objectRow, objectRows, objectOf, objectsOf, etagOf, kindOf, digestOf, countOf}
+use Rattle.layout.specs.Memory.{objectRow, objectRows, objectOf, objectsOf, etagOf, kindOf}
 use Rattle.layout.specs.TestLaws.{all-true, true-all, stored-path-length, stamp-range, stamp-ok}
 
 is-less : (o : Ordering) → isLess o ≡ true → o ≡ Ordering·lt

@@ -82,8 +82,12 @@ partRule m h =
     ∷ storedPartOk (h .number)
     ∷ [])
 
+-- a row behind the objects: an upload's or a part's
+unfoldable pub entryRule : (N : ℕ) → Mark → Head → (digest path : List ℕ) → Bool
+entryRule N m h digest path = cond (eqb (h .kind) uploadKind) (uploadRule N m h digest path) (partRule m h)
+
 unfoldable pub entryOk : (N : ℕ) → Mark → Row → Bool
-entryOk N m r = cond (eqb (r .kind) uploadKind) (uploadRule N m (headOf r) (r .digest) (r .path)) (partRule m (headOf r))
+entryOk N m r = entryRule N m (headOf r) (r .digest) (r .path)
 
 unfoldable pub markAfter : Mark → Head → Mark
 markAfter m h = cond (eqb (h .kind) uploadKind) (record { upload = h .number; part = 0 }) (record { upload = m .upload; part = h .number })

@@ -16,7 +16,7 @@ use Rattle.machine.specs.Valid.{PartOk, UploadOk}
 use Rattle.row.specs.Row.{Row, contentsOf}
 use Rattle.row.specs.RowLaws.{Encodable, EncodableAll, Follows, encodable-append, contents-append}
 use Rattle.layout.specs.declared.Mark.{Mark}
-use Rattle.layout.specs.Rules.{uploadKind, zeros, uploadRule, partRule, entryOk, markAfter, entryNext}
+use Rattle.layout.specs.Rules.{uploadKind, zeros, uploadRule, partRule, entryRule, entryOk, markAfter, entryNext}
 use Rattle.layout.specs.Memory.{uploadRow, partRow, partRows, uploadRows, Nest, partOf, uploadOf, nest, opens}
 use Rattle.layout.specs.TestLaws.{all-true, true-all, stored-path-length, stamp-range, stamp-ok, stored-part-range}
 
@@ -47,7 +47,7 @@ record PartIs (m : Mark) (r : Row) : Type 0 where
 
 module _ (N : ℕ) (m : Mark) (r : Row) (e : entryOk N m r ≡ true) where
   upload-is : eqb (r .kind) uploadKind ≡ true → UploadIs N m r
-  unfolding entryOk uploadRule
+  unfolding entryOk entryRule uploadRule
   upload-is k =
       let h = all-true _ (rw k at e) in
       record {
@@ -62,7 +62,7 @@ module _ (N : ℕ) (m : Mark) (r : Row) (e : entryOk N m r ≡ true) where
       }
 
   part-is : eqb (r .kind) uploadKind ≡ false → PartIs m r
-  unfolding entryOk partRule
+  unfolding entryOk entryRule partRule
   part-is k =
       let h = all-true _ (rw k at e) in
       record {
@@ -214,7 +214,7 @@ upload-rows-encodable N (e ∷ us) n l v =
 
 follow-parts : (N : ℕ) (m : Mark) (ps : Map ℕ Part) (rs : List Row) → 1 ≤ m .upload → Above byNumber (m .part) ps → Ascending byNumber ps → Every PartOk ps
     → ((m′ : Mark) → m′ .upload ≡ m .upload → Follows Mark (entryOk N) entryNext m′ rs) → Follows Mark (entryOk N) entryNext m (partRows ps ++ rs)
-unfolding partRows entryOk partRule markAfter
+unfolding partRows entryOk entryRule partRule markAfter
 follow-parts N m [] rs o h a v k = k m refl
 follow-parts N m (e ∷ ps) rs o h a v k = (
   true-all _ (
@@ -240,7 +240,7 @@ follow-parts N m (e ∷ ps) rs o h a v k = (
 )
 
 pub upload-rows-follow : (N : ℕ) (m : Mark) (us : Map ℕ Upload) → Above byNumber (m .upload) us → Ascending byNumber us → Every (UploadOk N) us → Follows Mark (entryOk N) entryNext m (uploadRows us)
-unfolding uploadRows entryOk uploadRule markAfter
+unfolding uploadRows entryOk entryRule uploadRule markAfter
 upload-rows-follow N m [] h a v = tt
 upload-rows-follow N m (e ∷ us) h a v =
     let o = v .0 in (

@@ -25,7 +25,7 @@ use Rattle.layout.specs.Memory.{objectRows, Stands}
 use Rattle.layout.specs.ObjectLaws.{object-back}
 use Rattle.find.proofs.RowsAt.{At, row-at}
 use Rattle.find.proofs.ObjectAt.{blank, entry, row, front, rest, split, next-front}
-use Rattle.lists.specs.Rows.{textAt, recordAt, rowBytes}
+use Rattle.lists.specs.Rows.{textAt, recordAt, listedBytes}
 
 module _ (t a : List ℕ) (s : State) (h : Stands t a s) (i at : ℕ) (here : at ≡ 18 + length (encodeRows (objectRows (take i (s .O))))) (l : i < length (s .O)) where
   row-here : At t a s h (front s i) (row s i) (rest s i)
@@ -73,8 +73,8 @@ module _ (t a : List ℕ) (s : State) (h : Stands t a s) (i at : ℕ) (here : at
     unfolding listed
     listed-next = ap (λ (n : ℕ). listed prefix suffix (take n (s .O))) (add-one i) ∙ keep-suc (λ p x. isListed prefix suffix p) blank i (s .O) l
 
-    pub bytes-next : records listRecord (listed prefix suffix (take (i + 1) (s .O))) ≡ records listRecord m ++ rowBytes prefix suffix (drop at t)
-    unfolding rowBytes
+    pub bytes-next : records listRecord (listed prefix suffix (take (i + 1) (s .O))) ≡ records listRecord m ++ listedBytes prefix suffix (drop at t)
+    unfolding listedBytes
     bytes-next =
         ap (records listRecord) listed-next
         ∙ records-append listRecord m more
@@ -105,7 +105,7 @@ unfolding encodeRows objectRows listed
 walked-none s prefix suffix = record { within = omega arith; rows = refl; counted = refl; sized = refl; few = omega arith; small = omega arith }
 
 pub walked-next : (t a : List ℕ) (s : State) (h : Stands t a s) (prefix suffix : Bytes) (i at count size n c k : ℕ) → Walked s prefix suffix i at count size → i < length (s .O)
-    → n ≡ headAt (drop at t) .pathlen → c ≡ cond (isListed prefix suffix (pathAt (drop at t))) 1 0 → k ≡ length (rowBytes prefix suffix (drop at t)) → c ≤ 1 → k ≤ 307
+    → n ≡ headAt (drop at t) .pathlen → c ≡ cond (isListed prefix suffix (pathAt (drop at t))) 1 0 → k ≡ length (listedBytes prefix suffix (drop at t)) → c ≤ 1 → k ≤ 307
     → Walked s prefix suffix (i + 1) (at + 36 + n) (count + c) (size + k)
 walked-next t a s h prefix suffix i at count size n c k w l e f g few small =
     let x = w .counted in
@@ -116,7 +116,7 @@ walked-next t a s h prefix suffix i at count size n c k w l e f g few small =
       within = omega arith;
       rows = omega (arith, row-next t a s h i at (w .rows) l);
       counted = omega (arith, count-next t a s h i at (w .rows) l prefix suffix);
-      sized = omega (arith, ap length (bytes-next t a s h i at (w .rows) l prefix suffix), length-append (records listRecord (listed prefix suffix (take i (s .O)))) (rowBytes prefix suffix (drop at t)));
+      sized = omega (arith, ap length (bytes-next t a s h i at (w .rows) l prefix suffix), length-append (records listRecord (listed prefix suffix (take i (s .O)))) (listedBytes prefix suffix (drop at t)));
       few = omega arith;
       small = omega arith;
     }

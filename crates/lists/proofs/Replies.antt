@@ -14,7 +14,7 @@ use Rattle.machine.specs.Steps.{act, listed, replyOf}
 use Rattle.machine.proofs.Records.{write-fits, write-short}
 use Rattle.layout.specs.Memory.{whole, stateOf}
 use Rattle.layout.specs.WholeLaws.{whole-stands}
-use Rattle.calls.specs.Answers.{listReply, accepted}
+use Rattle.calls.specs.Answers.{listReply, success}
 use Rattle.calls.specs.Made.{memory, outcome, Made}
 use Rattle.reads.proofs.Reading.{reads, write-keeps}
 use Rattle.lists.specs.Rows.{listing}
@@ -38,7 +38,7 @@ module _ (t a prefix suffix b : List ℕ) where
   pub list-written : (b′ : List ℕ) (c : Counts) → c .records ≡ length (listed prefix suffix (s .O)) → c .bytes ≡ length out → c .bytes ≤ length b → b′ ≡ out ++ drop (length out) b
       → listReply (Written c) b′ ≡ replyOf b (outcome (LIST prefix suffix b) (memory t a))
   unfolding outcome act
-  list-written b′ c e f l q = ap₂ accepted (ap₂ counts e f) q ∙ sym (write-fits told out b s (omega arith))
+  list-written b′ c e f l q = ap₂ success (ap₂ counts e f) q ∙ sym (write-fits told out b s (omega arith))
 
   -- the contract
   pub made-list : number.Bytes t → whole t a ≡ true → (r : Reply) → r ≡ replyOf b (outcome (LIST prefix suffix b) (memory t a)) → Made (LIST prefix suffix b) (memory t a) r (memory t a)

@@ -17,7 +17,7 @@ use Rattle.machine.specs.Etags.{text}
 use Rattle.row.specs.Row.{headAt, digestAt, pathAt}
 use Rattle.layout.specs.Memory.{etagOf}
 use Rattle.machine.specs.Steps.{isListed}
-use Rattle.lists.specs.Rows.{textAt, recordAt, rowBytes}
+use Rattle.lists.specs.Rows.{textAt, recordAt, listedBytes}
 
 pub text-plain : (kind count : ℕ) (d : List ℕ) → kind ≡ 0 → length d ≡ 16 → 32 ≡ length (text (etagOf kind d count))
 unfolding text
@@ -50,12 +50,12 @@ module _ (t : List ℕ) (at : ℕ) (room : at + 36 + headAt (drop at t) .pathlen
 
 -- what is measured of a row that LIST has not, and of one that it has
 module _ (prefix suffix x : List ℕ) where
-  pub none-measured : isListed prefix suffix (pathAt x) ≡ false → (_≡_ {A = ℕ} 0 (cond (isListed prefix suffix (pathAt x)) 1 0)) × (0 ≡ length (rowBytes prefix suffix x))
-  unfolding rowBytes
+  pub none-measured : isListed prefix suffix (pathAt x) ≡ false → (_≡_ {A = ℕ} 0 (cond (isListed prefix suffix (pathAt x)) 1 0)) × (0 ≡ length (listedBytes prefix suffix x))
+  unfolding listedBytes
   none-measured e = (rw e, rw e)
 
-  pub one-measured : (n : ℕ) → isListed prefix suffix (pathAt x) ≡ true → n ≡ length (recordAt x) → (_≡_ {A = ℕ} 1 (cond (isListed prefix suffix (pathAt x)) 1 0)) × (n ≡ length (rowBytes prefix suffix x))
-  unfolding rowBytes
+  pub one-measured : (n : ℕ) → isListed prefix suffix (pathAt x) ≡ true → n ≡ length (recordAt x) → (_≡_ {A = ℕ} 1 (cond (isListed prefix suffix (pathAt x)) 1 0)) × (n ≡ length (listedBytes prefix suffix x))
+  unfolding listedBytes
   one-measured n e l = (rw e, rw e l)
 
 -- LIST's test of a path

@@ -15,7 +15,7 @@ use Rattle.machine.specs.Steps.{isListed, listed, listRecord}
 use Rattle.machine.proofs.MapKeep.{keep-append, records-append}
 use Rattle.row.specs.Row.{encodeRows, headAt, pathAt}
 use Rattle.layout.specs.Memory.{objectRows, Stands}
-use Rattle.lists.specs.Rows.{recordAt, rowBytes, listing}
+use Rattle.lists.specs.Rows.{recordAt, listedBytes, listing}
 use Rattle.lists.proofs.ObjectRows.{row-next, bytes-next}
 use Rattle.lists.proofs.Front.{front-grows}
 
@@ -25,15 +25,15 @@ over-none b to = sym (append-assoc (take to b) [] (drop (to + 0) b) ∙ ap (λ (
 -- a row that LIST has not, and one that it has
 module _ (prefix suffix x b : List ℕ) (to : ℕ) where
   abbrev bytes : Bytes
-  bytes = rowBytes prefix suffix x
+  bytes = listedBytes prefix suffix x
 
   pub none-written : isListed prefix suffix (pathAt x) ≡ false → (to ≡ to + length bytes) × (b ≡ over b to bytes (length bytes))
-  unfolding rowBytes
+  unfolding listedBytes
   none-written e = (rw e (sym (add-zero to)), rw e (over-none b to))
 
   module _ (e : isListed prefix suffix (pathAt x) ≡ true) where
     row-is : bytes ≡ recordAt x
-    unfolding rowBytes
+    unfolding listedBytes
     row-is = rw e
 
     pub one-room : to + length bytes ≤ length b → to + length (recordAt x) ≤ length b
@@ -73,18 +73,18 @@ unfolding encodeRows objectRows listed
 written-none s prefix suffix b = record { within = omega arith; rows = refl; place = refl; front = refl; same = refl }
 
 module _ (t a : List ℕ) (s : State) (h : Stands t a s) (prefix suffix : Bytes) (b₀ b : List ℕ) (i at to : ℕ) (w : Written s prefix suffix b₀ b i at to) (l : i < length (s .O)) where
-  next-bytes : bytesOf prefix suffix (take (i + 1) (s .O)) ≡ bytesOf prefix suffix (take i (s .O)) ++ rowBytes prefix suffix (drop at t)
+  next-bytes : bytesOf prefix suffix (take (i + 1) (s .O)) ≡ bytesOf prefix suffix (take i (s .O)) ++ listedBytes prefix suffix (drop at t)
   next-bytes = bytes-next t a s h i at (w .rows) l prefix suffix
 
-  next-length : length (bytesOf prefix suffix (take (i + 1) (s .O))) ≡ to + length (rowBytes prefix suffix (drop at t))
-  next-length = let p = w .place in omega (arith, ap length next-bytes, length-append (bytesOf prefix suffix (take i (s .O))) (rowBytes prefix suffix (drop at t)))
+  next-length : length (bytesOf prefix suffix (take (i + 1) (s .O))) ≡ to + length (listedBytes prefix suffix (drop at t))
+  next-length = let p = w .place in omega (arith, ap length next-bytes, length-append (bytesOf prefix suffix (take i (s .O))) (listedBytes prefix suffix (drop at t)))
 
   -- room for the row's record
-  pub written-room : length (listing prefix suffix s) ≤ length b₀ → to + length (rowBytes prefix suffix (drop at t)) ≤ length b
+  pub written-room : length (listing prefix suffix s) ≤ length b₀ → to + length (listedBytes prefix suffix (drop at t)) ≤ length b
   written-room room = let p = w .same in omega (arith, next-length, bytes-fewer prefix suffix (i + 1) (s .O))
 
   pub written-next : (n r : ℕ) (b₁ : List ℕ) → n ≡ headAt (drop at t) .pathlen
-      → (r ≡ to + length (rowBytes prefix suffix (drop at t))) × (b₁ ≡ over b to (rowBytes prefix suffix (drop at t)) (length (rowBytes prefix suffix (drop at t))))
+      → (r ≡ to + length (listedBytes prefix suffix (drop at t))) × (b₁ ≡ over b to (listedBytes prefix suffix (drop at t)) (length (listedBytes prefix suffix (drop at t))))
       → length b₁ ≡ length b → Written s prefix suffix b₀ b₁ (i + 1) (at + 36 + n) r
   written-next n r b₁ e told same =
       record {
@@ -92,7 +92,7 @@ module _ (t a : List ℕ) (s : State) (h : Stands t a s) (prefix suffix : Bytes)
         rows = omega (arith, row-next t a s h i at (w .rows) l);
         place = told .0 ∙ sym next-length;
         front =
-            front-grows b₀ b b₁ (bytesOf prefix suffix (take i (s .O))) (rowBytes prefix suffix (drop at t)) to (w .place) (w .front) (told .1)
+            front-grows b₀ b b₁ (bytesOf prefix suffix (take i (s .O))) (listedBytes prefix suffix (drop at t)) to (w .place) (w .front) (told .1)
             ∙ ap (λ (y : List ℕ). y ++ drop (length y) b₀) (sym next-bytes);
         same = same ∙ w .same;
       }

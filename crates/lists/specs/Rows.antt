@@ -21,8 +21,8 @@ unfoldable pub recordAt : List ℕ → Bytes
 recordAt t = headAt t .pathlen ∷ pathAt t ++ (le 4 (headAt t .size) ++ (le 8 (headAt t .stamp) ++ length (textAt t) ∷ textAt t))
 
 -- what LIST writes for that row
-unfoldable pub rowBytes : (prefix suffix : Bytes) (t : List ℕ) → Bytes
-rowBytes prefix suffix t = cond (isListed prefix suffix (pathAt t)) (recordAt t) []
+unfoldable pub listedBytes : (prefix suffix : Bytes) (t : List ℕ) → Bytes
+listedBytes prefix suffix t = cond (isListed prefix suffix (pathAt t)) (recordAt t) []
 
 -- all that LIST writes
 abbrev pub listing : (prefix suffix : Bytes) → State → Bytes

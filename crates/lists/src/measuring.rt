@@ -9,7 +9,7 @@ ghost use Rattle.machine.specs.Etags.{text};
 ghost use Rattle.machine.specs.Steps.{isListed, listed};
 ghost use Rattle.row.specs.Row.{headAt, pathAt};
 ghost use Rattle.layout.specs.Memory.{whole, stateOf, etagOf};
-ghost use Rattle.lists.specs.Rows.{rowBytes, listing};
+ghost use Rattle.lists.specs.Rows.{listedBytes, listing};
 
 // How long the text of an etag is.
 pub fn text_length(kind: u8, count: u16) -> u32
@@ -25,7 +25,7 @@ pub fn text_length(kind: u8, count: u16) -> u32
 fn measure_row(tables: &[u8], at: usize, prefix: &[u8], suffix: &[u8]) -> Counts
     requires { ⌜ at + 36 + headAt (drop at (now tables)) .pathlen ≤ length (now tables) ⌝ }
     ensures { λ r. ⌜ (r .records ≡ cond (isListed (now (prefix .entry)) (now (suffix .entry)) (pathAt (drop at (now (tables .entry))))) 1 0)
-        × (r .bytes ≡ length (rowBytes (now (prefix .entry)) (now (suffix .entry)) (drop at (now (tables .entry)))))
+        × (r .bytes ≡ length (listedBytes (now (prefix .entry)) (now (suffix .entry)) (drop at (now (tables .entry)))))
         × (r .records ≤ 1)
         × (r .bytes ≤ 307) ⌝ }
 {

@@ -6,7 +6,7 @@ ghost use mathlib.Core.List.{_++_};
 ghost use lib.ListN.{length, take, drop};
 ghost use Rattle.row.specs.Row.{headAt};
 ghost use Rattle.layout.specs.Memory.{whole, stateOf};
-ghost use Rattle.lists.specs.Rows.{rowBytes, listing};
+ghost use Rattle.lists.specs.Rows.{listedBytes, listing};
 
 // What it writes for the row at `at`, over the answer buffer from `to` on; the answer is where it ends.
 fn write_row(
@@ -17,9 +17,9 @@ fn write_row(
     answer: &mut [u8],
     to: usize,
 ) -> usize
-    requires { ⌜ (at + 36 + headAt (drop at (now tables)) .pathlen ≤ length (now tables)) × (to + length (rowBytes (now prefix) (now suffix) (drop at (now tables))) ≤ length (now answer)) ⌝ }
-    ensures { λ r. ⌜ (r ≡ to + length (rowBytes (now (prefix .entry)) (now (suffix .entry)) (drop at (now (tables .entry)))))
-        × (now (answer .exit) ≡ take to (now (answer .entry)) ++ rowBytes (now (prefix .entry)) (now (suffix .entry)) (drop at (now (tables .entry))) ++ drop (to + length (rowBytes (now (prefix .entry)) (now (suffix .entry)) (drop at (now (tables .entry))))) (now (answer .entry))) ⌝ }
+    requires { ⌜ (at + 36 + headAt (drop at (now tables)) .pathlen ≤ length (now tables)) × (to + length (listedBytes (now prefix) (now suffix) (drop at (now tables))) ≤ length (now answer)) ⌝ }
+    ensures { λ r. ⌜ (r ≡ to + length (listedBytes (now (prefix .entry)) (now (suffix .entry)) (drop at (now (tables .entry)))))
+        × (now (answer .exit) ≡ take to (now (answer .entry)) ++ listedBytes (now (prefix .entry)) (now (suffix .entry)) (drop at (now (tables .entry))) ++ drop (to + length (listedBytes (now (prefix .entry)) (now (suffix .entry)) (drop at (now (tables .entry))))) (now (answer .entry))) ⌝ }
 {
     if !crate::paths::has_row(tables, at, prefix, suffix) {
         return to;

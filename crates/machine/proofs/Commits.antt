@@ -25,7 +25,7 @@ use Rattle.machine.specs.Fits.{isThere, allFound, listedParts}
 use Rattle.machine.specs.Demand3.{Kind, kind, accepted, _or_, carries, carried, lastPart, lastParts, opens, opened, startOf, concat, joinedFrom, Leaves, calls, CommitsJoin}
 use Rattle.machine.proofs.Options.{both}
 use Rattle.machine.proofs.MapLaws.{every-lookup, lookup-insert, lookup-insert-other}
-use Rattle.machine.proofs.Fit.{lookup-kept, fit-listed}
+use Rattle.machine.proofs.Fit.{lookup-kept, fit-listed, fit-once, fit-all}
 use Rattle.machine.proofs.Rules.{stored-requested, stored-not-root}
 use Rattle.machine.proofs.Traces.{cut, final-snoc}
 use Rattle.machine.proofs.Outcome.{Then, then-accept, then-else, then-given, then-object, then-put}
@@ -233,6 +233,8 @@ commit-leaves A s u ns t v a =
           parts = w .parts;
           of-upload = a .start u x e;
           sent = w .told;
+          once = fit-once ns (x .parts) xs (o .sorted) f;
+          all = λ n d q. fit-all ns (x .parts) xs (o .sorted) f n (newPart d) (a .parts u x e n ∙ ap (mapped newPart) q);
           there = h;
           read = λ b g. got A s′ (x .path) (joinedFrom (x .started) (w .parts)) b (o .path) h g;
         }

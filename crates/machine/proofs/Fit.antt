@@ -166,6 +166,21 @@ fit-listed ns m xs a h =
     let e : some xs ≡ some (listedParts m ns) = sym h ∙ fits-fit ns m a f in
     (fitting ns m f .all, cc)
 
+-- a list that fits names no number twice, and each part
+pub fit-once : (ns : List ℕ) (m : Map ℕ Part) (xs : List Part) → Ascending byNumber m → fit ns m ≡ some xs → distinct ns ≡ true
+fit-once ns m xs a h = fitting ns m (fit-fits ns m xs a h) .once
+
+pub fit-all : (ns : List ℕ) (m : Map ℕ Part) (xs : List Part) → Ascending byNumber m → fit ns m ≡ some xs → (k : ℕ) (x : Part) → lookup byNumber k m ≡ some x → member k ns ≡ true
+fit-all [] [] xs a h k x e = absurd (none-some e)
+fit-all [] (y ∷ m) xs a h k x e = absurd (none-some h)
+fit-all (n ∷ ns) m xs a h k x e =
+    let c = fit-cons n ns m xs h in
+    go (ℕ-discrete k n) (fit-all ns (remove byNumber n m) (c .1) (ascending-remove numbers n m a) (c .3) k x)
+  where
+    go : Dec (k ≡ n) → (lookup byNumber k (remove byNumber n m) ≡ some x → member k ns ≡ true) → member k (n ∷ ns) ≡ true
+    go (yes q) others = rw (eq-eqb k n q)
+    go (no d) others = rw (ne-eqb k n d) (others (lookup-remove-other numbers k n m a d ∙ e))
+
 -- COMMIT's list, by the test
 pub fit-test : (ns : List ℕ) (m : Map ℕ Part) → Ascending byNumber m → fit ns m ≡ cond (fits ns m) (some (listedParts m ns)) none
 fit-test ns m a = go (fits ns m) refl (fit ns m) refl

@@ -1,10 +1,9 @@
 -- Finite maps: the entries that pass a test, and the bytes written for them.
 -- Assumes nothing.
-use Prim.Native.Nat.{ℕ, suc, _≤_, _<_, Ordering}
+use Prim.Native.Nat.{ℕ, suc, _<_, Ordering}
 use mathlib.Core.Path.{_≡_, refl, sym, ap, _∙_}
 use mathlib.Core.List.{List, [], _∷_, _++_, append-assoc}
 use mathlib.Core.Bool.{Bool, true, false, cond}
-use native.Mathlib.Omega.{arith}
 use lib.ListN.{take, length, getD}
 use lib.Seq.{take-suc}
 use Rattle.order.specs.OrderLaws.{Lawful}
@@ -24,14 +23,6 @@ module _ {K X : Type 0} (f : K → X → Bool) where
   pub keep-suc : (d : K × X) (i : ℕ) (m : Map K X) → i < length m →
       keep f (take (suc i) m) ≡ keep f (take i m) ++ cond (f (getD m i d .0) (getD m i d .1)) (getD m i d ∷ []) []
   keep-suc d i m h = ap (keep f) (take-suc m i d h) ∙ keep-append (take i m) (getD m i d ∷ [])
-
-  pub keep-length : (m : Map K X) → length (keep f m) ≤ length m
-  keep-length [] = omega arith
-  keep-length (e ∷ m) = go (f (e .0) (e .1)) (keep-length m)
-    where
-      go : (b : Bool) → length (keep f m) ≤ length m → length (cond b (e ∷ keep f m) (keep f m)) ≤ suc (length m)
-      go true h = omega arith
-      go false h = omega arith
 
 module _ {K X : Type 0} (g : K → X → List ℕ) where
   pub records-append : (m n : Map K X) → records g (m ++ n) ≡ records g m ++ records g n

@@ -1,35 +1,16 @@
 -- Finite maps as lists cut at the place of a key: insert and remove there.
 -- Assumes nothing.
-use Prim.Native.Nat.{ℕ, zero, suc, _≤_, _<_, Ordering}
+use Prim.Native.Nat.{suc, _<_, Ordering}
 use mathlib.Core.Path.{_≡_, refl, sym, ap}
 use mathlib.Core.List.{[], _∷_, _++_}
 use mathlib.Core.Option.{none, some}
-use native.Mathlib.Nat.{le-of-suc-le-suc, not-suc-le-zero}
 use native.Mathlib.Omega.{arith}
-use lib.ListN.{take, drop, length, getD}
+use lib.ListN.{take, drop, length}
 use Rattle.order.specs.OrderLaws.{cases, Lawful}
-use Rattle.machine.specs.Map.{Map, lookup, insert, remove, place, Above}
+use Rattle.machine.specs.Map.{Map, lookup, insert, remove, place}
 use Rattle.machine.proofs.Options.{none-some}
-use Rattle.machine.proofs.MapSplits.{Below}
 
 module _ {K X : Type 0} {cmp : K → K → Ordering} (L : Lawful cmp) where
-  pub place-length : (k : K) (m : Map K X) → place cmp k m ≤ length m
-  place-length k [] = omega arith
-  place-length k (e ∷ m) = cases (cmp k (e .0)) (λ q. simp q (omega arith)) (λ q. simp q (omega arith)) (λ q. simp q (omega (arith, place-length k m)))
-
-  -- what stands before the place is below k; where k is not there, what stands from it on is above k
-  pub below-place : (k : K) (m : Map K X) → Below cmp k (take (place cmp k m) m)
-  below-place k [] = tt
-  below-place k (e ∷ m) = cases (cmp k (e .0)) (λ q. rw q tt) (λ q. rw q tt) (λ q. rw q (q, below-place k m))
-
-  pub above-place : (k : K) (m : Map K X) → lookup cmp k m ≡ none → Above cmp k (drop (place cmp k m) m)
-  above-place k [] h = tt
-  above-place k (e ∷ m) h =
-      cases (cmp k (e .0))
-      (λ q. rw q q)
-      (λ q. absurd (none-some (sym (simp q at h))))
-      (λ q. rw q (above-place k m (simp q at h)))
-
   -- where k is there, it stands at its place
   pub place-found : (k : K) (w : X) (m : Map K X) → lookup cmp k m ≡ some w → place cmp k m < length m
   place-found k w [] h = absurd (none-some h)
@@ -46,14 +27,6 @@ module _ {K X : Type 0} {cmp : K → K → Ordering} (L : Lawful cmp) where
       (λ q. absurd (none-some (simp q at h)))
       (λ q. let n : some (e .1) ≡ some w = simp q at h in let p : e .1 ≡ w = cc in simp q (λ i. (sym (L .alike k (e .0) q) i, p i) ∷ m))
       (λ q. simp q (ap (λ (r : Map K X). e ∷ r) (split-found k w m (simp q at h))))
-
-  pub getD-place : (d : K × X) (k : K) (w : X) (m : Map K X) → lookup cmp k m ≡ some w → getD m (place cmp k m) d ≡ (k, w)
-  getD-place d k w [] h = absurd (none-some h)
-  getD-place d k w (e ∷ m) h =
-      cases (cmp k (e .0))
-      (λ q. absurd (none-some (simp q at h)))
-      (λ q. let n : some (e .1) ≡ some w = simp q at h in let p : e .1 ≡ w = cc in simp q (λ i. (sym (L .alike k (e .0) q) i, p i)))
-      (λ q. simp q (getD-place d k w m (simp q at h)))
 
   pub insert-new : (k : K) (v : X) (m : Map K X) → lookup cmp k m ≡ none → insert cmp k v m ≡ take (place cmp k m) m ++ (k, v) ∷ drop (place cmp k m) m
   insert-new k v [] h = refl
@@ -78,18 +51,3 @@ module _ {K X : Type 0} {cmp : K → K → Ordering} (L : Lawful cmp) where
       (λ q. let n : none ≡ some w = simp q at h in cc)
       (λ q. simp q)
       (λ q. simp q (ap (λ (r : Map K X). e ∷ r) (remove-old k w m (simp q at h))))
-
-  -- a search in a part of the list
-  pub lookup-take : (k : K) (i : ℕ) (m : Map K X) → place cmp k m < i → lookup cmp k (take i m) ≡ lookup cmp k m
-  lookup-take k zero m h = absurd (not-suc-le-zero h)
-  lookup-take k (suc i) [] h = refl
-  lookup-take k (suc i) (e ∷ m) h = cases (cmp k (e .0)) (λ q. simp q) (λ q. simp q) (λ q. simp q (lookup-take k i m (le-of-suc-le-suc (simp q at h))))
-
-  pub lookup-drop : (k : K) (i : ℕ) (m : Map K X) → i ≤ place cmp k m → lookup cmp k (drop i m) ≡ lookup cmp k m
-  lookup-drop k zero m h = refl
-  lookup-drop k (suc i) [] h = refl
-  lookup-drop k (suc i) (e ∷ m) h =
-      cases (cmp k (e .0))
-      (λ q. absurd (not-suc-le-zero (simp q at h)))
-      (λ q. absurd (not-suc-le-zero (simp q at h)))
-      (λ q. simp q (lookup-drop k i m (le-of-suc-le-suc (simp q at h))))

@@ -1,14 +1,14 @@
 -- Finite maps as lists cut in two or three: what stands before a key, the key's entry, what stands behind it.
 -- Assumes nothing.
 use Prim.Native.Nat.{_+_, Ordering, Ordering·lt, Ordering·gt}
-use mathlib.Core.Path.{_≡_, refl, ap, _∙_}
+use mathlib.Core.Path.{_≡_, refl, _∙_}
 use mathlib.Core.List.{[], _∷_, _++_}
-use mathlib.Core.Option.{none, some}
+use mathlib.Core.Option.{some}
 use native.Mathlib.Omega.{arith}
 use lib.ListN.{length}
 use Rattle.order.specs.OrderLaws.{Lawful}
-use Rattle.machine.specs.Map.{Map, lookup, insert, remove, place, Above, Ascending}
-use Rattle.machine.proofs.MapLaws.{lookup-above, above-chain}
+use Rattle.machine.specs.Map.{Map, lookup, insert, place, Above, Ascending}
+use Rattle.machine.proofs.MapLaws.{above-chain}
 
 -- every key of m is below k
 module _ {K X : Type 0} (cmp : K → K → Ordering) where
@@ -22,14 +22,6 @@ module _ {K X : Type 0} {cmp : K → K → Ordering} (L : Lawful cmp) where
   lookup-append k [] b h = refl
   lookup-append k (e ∷ a) b h = rw (h .0) (lookup-append k a b (h .1))
 
-  pub insert-append : (k : K) (v : X) (a b : Map K X) → Below cmp k a → insert cmp k v (a ++ b) ≡ a ++ insert cmp k v b
-  insert-append k v [] b h = refl
-  insert-append k v (e ∷ a) b h = rw (h .0) (ap (λ (r : Map K X). e ∷ r) (insert-append k v a b (h .1)))
-
-  pub remove-append : (k : K) (a b : Map K X) → Below cmp k a → remove cmp k (a ++ b) ≡ a ++ remove cmp k b
-  remove-append k [] b h = refl
-  remove-append k (e ∷ a) b h = rw (h .0) (ap (λ (r : Map K X). e ∷ r) (remove-append k a b (h .1)))
-
   pub place-append : (k : K) (a b : Map K X) → Below cmp k a → place cmp k (a ++ b) ≡ length a + place cmp k b
   place-append k [] b h = omega arith
   place-append k (e ∷ a) b h = rw (h .0) (omega (arith, place-append k a b (h .1)))
@@ -38,24 +30,6 @@ module _ {K X : Type 0} {cmp : K → K → Ordering} (L : Lawful cmp) where
   pub insert-above : (k : K) (v : X) (m : Map K X) → Above cmp k m → insert cmp k v m ≡ (k, v) ∷ m
   insert-above k v [] h = refl
   insert-above k v (e ∷ m) h = rw h
-
-  pub remove-above : (k : K) (m : Map K X) → Above cmp k m → remove cmp k m ≡ m
-  remove-above k [] h = refl
-  remove-above k (e ∷ m) h = rw h
-
-  pub place-above : (k : K) (m : Map K X) → Above cmp k m → place cmp k m ≡ 0
-  place-above k [] h = refl
-  place-above k (e ∷ m) h = rw h
-
-  -- k is not there: m is a ++ b
-  pub lookup-between : (k : K) (a b : Map K X) → Below cmp k a → Above cmp k b → lookup cmp k (a ++ b) ≡ none
-  lookup-between k a b h g = lookup-append k a b h ∙ lookup-above L k b g
-
-  pub place-between : (k : K) (a b : Map K X) → Below cmp k a → Above cmp k b → place cmp k (a ++ b) ≡ length a
-  place-between k a b h g = omega (arith, place-append k a b h, place-above k b g)
-
-  pub insert-between : (k : K) (v : X) (a b : Map K X) → Below cmp k a → Above cmp k b → insert cmp k v (a ++ b) ≡ a ++ (k, v) ∷ b
-  insert-between k v a b h g = insert-append k v a b h ∙ ap (λ (r : Map K X). a ++ r) (insert-above k v b g)
 
   -- k is there: m is a ++ (k, w) ∷ b
   pub lookup-at : (k : K) (w : X) (a b : Map K X) → Below cmp k a → lookup cmp k (a ++ (k, w) ∷ b) ≡ some w
@@ -66,23 +40,7 @@ module _ {K X : Type 0} {cmp : K → K → Ordering} (L : Lawful cmp) where
       let q : place cmp k ((k, w) ∷ b) ≡ 0 = rw (L .self k) in
       omega (arith, place-append k a ((k, w) ∷ b) h)
 
-  pub insert-at : (k : K) (v w : X) (a b : Map K X) → Below cmp k a → insert cmp k v (a ++ (k, w) ∷ b) ≡ a ++ (k, v) ∷ b
-  insert-at k v w a b h = insert-append k v a ((k, w) ∷ b) h ∙ rw (L .self k)
-
-  pub remove-at : (k : K) (w : X) (a b : Map K X) → Below cmp k a → remove cmp k (a ++ (k, w) ∷ b) ≡ a ++ b
-  remove-at k w a b h = remove-append k a ((k, w) ∷ b) h ∙ rw (L .self k)
-
-  -- an ascending map, cut
-  pub ascending-left : (a b : Map K X) → Ascending cmp (a ++ b) → Ascending cmp a
-  ascending-left [] b s = tt
-  ascending-left (e ∷ []) b s = (tt, tt)
-  ascending-left (e ∷ f ∷ a) b s = (s .0, ascending-left (f ∷ a) b (s .1))
-
-  pub ascending-right : (a b : Map K X) → Ascending cmp (a ++ b) → Ascending cmp b
-  ascending-right [] b s = s
-  ascending-right (e ∷ a) b s = ascending-right a b (s .1)
-
-  -- what stands before a key of an ascending map is below it, what stands behind is above it
+  -- what stands before a key of an ascending map is below it
   above-middle : (j k : K) (w : X) (a b : Map K X) → Ascending cmp (a ++ (k, w) ∷ b) → Above cmp j (a ++ (k, w) ∷ b) → cmp j k ≡ Ordering·lt
   above-middle j k w [] b s h = h
   above-middle j k w (e ∷ a) b s h = above-middle j k w a b (s .1) (above-chain L j (e .0) (a ++ (k, w) ∷ b) h (s .0))
@@ -90,6 +48,3 @@ module _ {K X : Type 0} {cmp : K → K → Ordering} (L : Lawful cmp) where
   pub below-middle : (k : K) (w : X) (a b : Map K X) → Ascending cmp (a ++ (k, w) ∷ b) → Below cmp k a
   below-middle k w [] b s = tt
   below-middle k w (e ∷ a) b s = (L .under (e .0) k (above-middle (e .0) k w a b (s .1) (s .0)), below-middle k w a b (s .1))
-
-  pub above-behind : (k : K) (w : X) (a b : Map K X) → Ascending cmp (a ++ (k, w) ∷ b) → Above cmp k b
-  above-behind k w a b s = ascending-right a ((k, w) ∷ b) s .0

@@ -1,22 +1,13 @@
 -- Finite maps: counts and sums over the values.
 -- Assumes nothing.
 use Prim.Native.Nat.{ℕ, _+_, _≤_, Ordering}
-use mathlib.Core.Path.{_≡_, refl, sym, ap, _∙_}
-use mathlib.Core.List.{[], _∷_, _++_}
+use mathlib.Core.Path.{_≡_, refl}
+use mathlib.Core.List.{[], _∷_}
 use mathlib.Core.Option.{some}
 use native.Mathlib.Omega.{arith}
-use lib.ListN.{length, take, drop, take-append-drop}
+use lib.ListN.{length}
 use Rattle.order.specs.OrderLaws.{cases, Lawful}
 use Rattle.machine.specs.Map.{Map, lookup, insert, remove, total, owed}
-
--- over lists set end to end, and over a list cut in two
-module _ {K X : Type 0} (f : X → ℕ) where
-  pub total-append : (m n : Map K X) → total f (m ++ n) ≡ total f m + total f n
-  total-append [] n = omega arith
-  total-append (e ∷ m) n = omega (arith, total-append m n)
-
-  pub total-cut : (i : ℕ) (m : Map K X) → total f m ≡ total f (take i m) + total f (drop i m)
-  total-cut i m = ap (total f) (sym (take-append-drop i m)) ∙ total-append (take i m) (drop i m)
 
 pub length-total : {K X : Type 0} (m : Map K X) → total (λ (x : X). 1) m ≡ length m
 length-total [] = refl

@@ -1,6 +1,6 @@
--- The lengths of LIST's and UPLOADS' records, and document 01's LIST after M5.
+-- The length of LIST's record, and document 01's LIST after M5.
 -- Assumes nothing.
-use Prim.Native.Nat.{ℕ, _+_, _≤_, _<_}
+use Prim.Native.Nat.{_+_, _≤_, _<_}
 use mathlib.Core.Path.{_≡_, refl, _∙_}
 use mathlib.Core.List.{[], _∷_, _++_, append-nil}
 use native.Mathlib.Omega.{arith}
@@ -14,19 +14,15 @@ use Rattle.text.specs.TextLaws.{length-hex}
 use Rattle.machine.specs.Names.{Bytes, pathOk, requestPathOk, newPathOk, stampOk}
 use Rattle.machine.specs.Digest.{md5, length-md5}
 use Rattle.machine.specs.Etags.{text}
-use Rattle.machine.specs.State.{Object, Upload, State, fresh, held, counted}
+use Rattle.machine.specs.State.{Object, State, fresh, held, counted}
 use Rattle.machine.specs.Calls.{LIST, Answer, counts, nothing, given, _else_then_}
-use Rattle.machine.specs.Steps.{plainObject, putAt, objectAt, isListed, listed, listRecord, uploadRecord, write, act, replyOf, reply}
+use Rattle.machine.specs.Steps.{plainObject, putAt, objectAt, isListed, listed, listRecord, write, act, replyOf, reply}
 use Rattle.machine.specs.Lists.{final}
 use Rattle.machine.specs.Marked.{a, xyz, m5}
 
 pub length-listRecord : (p : Bytes) (x : Object) → length (listRecord p x) ≡ 14 + length p + length (text (x .etag))
 unfolding listRecord
 length-listRecord p x = simp (length-append, length-le) (omega arith)
-
-pub length-uploadRecord : (u : ℕ) (x : Upload) → length (uploadRecord u x) ≡ 15 + length (x .path)
-unfolding uploadRecord
-length-uploadRecord u x = simp (length-append, length-le) (omega arith)
 
 -- the reply where the bytes fit the buffer, and where they do not
 pub write-fits : (x : Answer) (out b : Bytes) (s : State) → length out ≤ length b → replyOf b (write x out b s) ≡ record { result = 0; answer = x; buffer = out ++ drop (length out) b }

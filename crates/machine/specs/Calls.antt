@@ -29,7 +29,7 @@ pub data Answer : Type 0 where
   number : ℕ → Answer
   counts : (records bytes : ℕ) → Answer
 
--- what a caller gets: "the result number, metadata, numbers, counts and every byte of the answer buffer"
+-- what a caller gets: "the result number, metadata (PART's etag with it), numbers, counts and every byte of the answer buffer"
 pub record Reply : Type 0 where
   pub result : ℕ
   pub answer : Answer

@@ -13,6 +13,7 @@ use Rattle.machine.specs.Digest.{md5}
 use Rattle.machine.specs.Etags.{joined}
 use Rattle.machine.specs.State.{Object, State, fresh}
 use Rattle.machine.specs.Calls.{Call, PUT, GET, HEAD, DELETE, COPY, LIST, INITIATE, PART, COMMIT, ABORT, UPLOADS, Answer, nothing, metadata, etag, number, counts, Reply}
+use Rattle.machine.specs.Fits.{member, distinct}
 use Rattle.machine.specs.Steps.{about, reply}
 use Rattle.machine.specs.Lists.{Trace, trace, final}
 
@@ -105,14 +106,17 @@ concat (d ∷ ds) = d ++ concat ds
 abbrev pub joinedFrom : (stamp : ℕ) → List Bytes → Object
 joinedFrom t ds = record { content = concat ds; created = t; etag = joined (md5 (concat (map md5 ds))) (length ds) }
 
--- what a COMMIT after these calls and replies leaves in a state: at the upload's path, "joined in listed order, for each part the bytes of
--- the last accepted PART before it with that upload and part number"; and so a GET of that path answers
+-- What an accepted COMMIT after these calls and replies leaves in a state. Demand 3: at the upload's path, "joined in listed order, for each
+-- part the bytes of the last accepted PART before it with that upload and part number"; and so a GET of that path answers.
 pub record Leaves (A : ℕ) (before : Trace) (u : ℕ) (ns : List ℕ) (s : State) : Type 0 where
   pub stamp : ℕ
   pub path : Bytes
   pub parts : List Bytes
   pub of-upload : startOf u before ≡ some (stamp, path)
   pub sent : lastParts u before ns ≡ some parts
+  -- "the list must name every part of the upload exactly one time"
+  pub once : distinct ns ≡ true
+  pub all : (n : ℕ) (content : Bytes) → lastPart u n before ≡ some content → member n ns ≡ true
   pub there : lookup byBytes path (s .O) ≡ some (joinedFrom stamp parts)
   pub read : (buffer : Bytes) → length (concat parts) ≤ length buffer →
       reply A s (GET path buffer) ≡ record { result = 0; answer = about (joinedFrom stamp parts); buffer = concat parts ++ drop (length (concat parts)) buffer }

@@ -7,7 +7,7 @@ pub mod Calls
 pub mod Steps
 pub mod Lists
 pub mod Valid
+pub mod Fits
+pub mod Demand3
 pub mod Marked
 pub mod Unmarked
-pub mod Demand3
-pub mod Fits

@@ -58,10 +58,12 @@ module _ {X : Type 0} (f : X → ℕ) where
   owed (some v) = f v
 
 module _ {X Y : Type 0} where
+  -- f of the value that is there
   abbrev pub mapped : (X → Y) → Option X → Option Y
   mapped f none = none
   mapped f (some x) = some (f x)
 
+  -- what f finds for the value that is there
   abbrev pub also : Option X → (X → Option Y) → Option Y
   also none f = none
   also (some x) f = f x

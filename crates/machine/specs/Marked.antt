@@ -11,7 +11,7 @@ use Rattle.machine.specs.Steps.{putAt, objectAt, act}
 use Rattle.machine.specs.Lists.{trace}
 
 -- an order: calls from FRESH over an arena, and what each answers
-pub record Row : Type 0 where
+pub record MarkedOrder : Type 0 where
   pub arena : ℕ
   pub calls : List Call
   pub replies : List Reply
@@ -60,7 +60,7 @@ m7 = INITIATE 7 r ∷ PART 1 2 B ∷ PART 1 1 A ∷ []
 abbrev pub m7-replies : List Reply
 m7-replies = says (number 1) ∷ says (etag (plain (md5 B))) ∷ says (etag (plain (md5 A))) ∷ []
 
-abbrev pub marked : List Row
+abbrev pub marked : List MarkedOrder
 marked =
     -- M1 GET "a": 3
     record { arena = 64; calls = GET a [] ∷ []; replies = refused 3 ∷ [] } ∷
@@ -117,6 +117,6 @@ marked =
 abbrev pub replies : (arena : ℕ) → List Call → List Reply
 replies arena cs = map (λ (e : Call × Reply). e .1) (trace arena fresh cs)
 
-pub marked-answered : map (λ (w : Row). replies (w .arena) (w .calls)) marked ≡ map (λ (w : Row). w .replies) marked
+pub marked-answered : map (λ (w : MarkedOrder). replies (w .arena) (w .calls)) marked ≡ map (λ (w : MarkedOrder). w .replies) marked
 unfolding _else_then_ given act putAt objectAt counted held pathOk requestPathOk newPathOk stampOk numberOk requestPartOk
 marked-answered = refl

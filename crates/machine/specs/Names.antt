@@ -20,7 +20,8 @@ abbrev pub apart : (before : ℕ) → Bytes → Bool
 apart before [] = true
 apart before (b ∷ p) = not (eqb before 47 && eqb b 47) && apart b p
 
--- "A path is 1 to 128 bytes, each from 33 to 126, with no two adjacent "/" and no "/" first": none where a "/" stands before it
+-- "A path is 1 to 128 bytes, each from 33 to 126 (decimal, as all numbers here), with no two adjacent "/" and no "/" first.": a "/" that
+-- stands before it is adjacent to one that is first
 unfoldable pub pathOk : Bytes → Bool
 pathOk p = leb 1 (length p) && leb (length p) 128 && visible p && apart 47 p
 
@@ -40,7 +41,7 @@ storedPathOk p = pathOk p
 unfoldable pub stampOk : ℕ → Bool
 stampOk t = leb 1 t && leb t 18446744073709551615
 
--- "A part number is 1 to 11,000"
+-- "A part number is 1 to 11,000 (004's limit)."
 unfoldable pub numberOk : ℕ → Bool
 numberOk n = leb 1 n && leb n 11000
 

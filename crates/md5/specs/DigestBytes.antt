@@ -3,9 +3,8 @@ use mathlib.Core.Path.{_≡_, refl}
 use mathlib.Core.List.{List}
 use Prim.Native.Nat.{ℕ}
 use lib.ListN.{length}
-use Rattle.number.specs.NumberLaws.{Bytes}
 use Rattle.md5.specs.Md5.{md5, bytesOf}
-use Rattle.md5.specs.Md5Laws.{length-bytesOf, bytes-bytesOf}
+use Rattle.md5.specs.Md5Laws.{length-bytesOf}
 
 -- the digest of m, sixteen bytes
 pub digestBytes : List ℕ → List ℕ
@@ -18,7 +17,3 @@ digestBytes-is m = refl
 pub length-digestBytes : (m : List ℕ) → length (digestBytes m) ≡ 16
 unfolding digestBytes
 length-digestBytes m = length-bytesOf (md5 m)
-
-pub bytes-digestBytes : (m : List ℕ) → Bytes (digestBytes m)
-unfolding digestBytes
-bytes-digestBytes m = bytes-bytesOf (md5 m)

@@ -12,7 +12,7 @@ use Rattle.layout.specs.Memory.{whole, stateOf, Stands}
 use Rattle.find.specs.declared.Place.{Place}
 use Rattle.find.specs.Places.{isSome, uploadPlace}
 use Rattle.find.proofs.Found.{is-some, is-none}
-use Rattle.calls.specs.Answers.{accepted}
+use Rattle.calls.specs.Answers.{success}
 use Rattle.calls.specs.Made.{memory, resultOf, outcome, Made}
 use Rattle.calls.proofs.Judging.{result-found, result-missing, was-found}
 use Rattle.calls.proofs.MadeLaws.{done}
@@ -39,5 +39,5 @@ module _ (t a : List ℕ) (u : ℕ) (w : whole t a ≡ true) (zero-result : resu
   unfolding outcome act
   abort-outcome = let x = was-found (lookup byNumber u (stateOf t a .U)) badRequest _ zero-result in x .2
 
-  pub abort-made : (t′ a′ : List ℕ) → Stands t′ a′ (withoutUpload (stateOf t a) u) → length t′ ≡ length t → length a′ ≡ length a → Made (ABORT u) (memory t a) (accepted nothing []) (memory t′ a′)
-  abort-made t′ a′ h l l′ = done (ABORT u) (memory t a) (memory t′ a′) (accepted nothing []) nothing [] (withoutUpload (stateOf t a) u) w abort-outcome refl h l l′
+  pub abort-made : (t′ a′ : List ℕ) → Stands t′ a′ (withoutUpload (stateOf t a) u) → length t′ ≡ length t → length a′ ≡ length a → Made (ABORT u) (memory t a) (success nothing []) (memory t′ a′)
+  abort-made t′ a′ h l l′ = done (ABORT u) (memory t a) (memory t′ a′) (success nothing []) nothing [] (withoutUpload (stateOf t a) u) w abort-outcome refl h l l′

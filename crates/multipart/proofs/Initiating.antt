@@ -25,7 +25,7 @@ use Rattle.layout.specs.Memory.{headerAt, whole, stateOf, Stands}
 use Rattle.layout.specs.WholeLaws.{whole-stands}
 use Rattle.layout.specs.StandsLaws.{header-back}
 use Rattle.edit.specs.Header.{headerOf}
-use Rattle.calls.specs.Answers.{accepted}
+use Rattle.calls.specs.Answers.{success}
 use Rattle.calls.specs.Made.{memory, resultOf, outcome, Made}
 use Rattle.calls.proofs.Judging.{pass, stop, passed}
 use Rattle.calls.proofs.MadeLaws.{done}
@@ -120,8 +120,8 @@ module _ (t a p : List ℕ) (b : Bytes t) (w : whole t a ≡ true) (stamp : ℕ)
         next-accepted e = rw e
 
     pub initiate-made : (header : Header) (t′ : List ℕ) → header ≡ headerAt t → Stands t′ a s′ → length t′ ≡ length t
-        → Made (INITIATE stamp p) (memory t a) (accepted (number (header .next)) []) (memory t′ a)
+        → Made (INITIATE stamp p) (memory t a) (success (number (header .next)) []) (memory t′ a)
     unfolding outcome
     initiate-made header t′ read h l =
         let n : header .next ≡ s .N = ap (λ (x : Header). x .next) (read ∙ header-is) in
-        done (INITIATE stamp p) (memory t a) (memory t′ a) (accepted (number (header .next)) []) (number (s .N)) [] s′ w act-is (ap (λ (i : ℕ). accepted (number i) []) n) h l refl
+        done (INITIATE stamp p) (memory t a) (memory t′ a) (success (number (header .next)) []) (number (s .N)) [] s′ w act-is (ap (λ (i : ℕ). success (number i) []) n) h l refl

@@ -38,7 +38,7 @@ use Rattle.find.proofs.RowsAt.{At, row-at}
 use Rattle.find.proofs.Found.{is-some, is-none}
 use Rattle.edit.specs.Header.{headerOf}
 use Rattle.edit_uploads.specs.Parts.{partWith, PartPuttable}
-use Rattle.calls.specs.Answers.{accepted}
+use Rattle.calls.specs.Answers.{success}
 use Rattle.calls.specs.Made.{memory, resultOf, outcome, Made}
 use Rattle.calls.proofs.Judging.{pass, stop, passed, result-found, result-missing, result-stop, was-found}
 use Rattle.calls.proofs.MadeLaws.{done}
@@ -247,12 +247,12 @@ module _ (t a d : List ℕ) (u n : ℕ) (digest : Digest) (w : whole t a ≡ tru
       }
 
   pub part-made : (t′ a′ : List ℕ) → ((x : Upload) → lookup byNumber u (stateOf t a .U) ≡ some x → Stands t′ a′ (withUpload (stateOf t a) u (withPart x n (partWith digest d))))
-      → length t′ ≡ length t → length a′ ≡ length a → Made (PART u n d) (memory t a) (accepted (etag (plain (bytesOf digest))) []) (memory t′ a′)
+      → length t′ ≡ length t → length a′ ≡ length a → Made (PART u n d) (memory t a) (success (etag (plain (bytesOf digest))) []) (memory t′ a′)
   unfolding outcome
   part-made t′ a′ g l l′ =
       let two = second (length a) (stateOf t a) u n d zero-result in
       let tag : bytesOf digest ≡ md5 d = ap bytesOf e ∙ sym (digestBytes-is d) in
-      done (PART u n d) (memory t a) (memory t′ a′) (accepted (etag (plain (bytesOf digest))) []) (etag (plain (md5 d))) [] _ w
+      done (PART u n d) (memory t a) (memory t′ a′) (success (etag (plain (bytesOf digest))) []) (etag (plain (md5 d))) [] _ w
       (act-is (length a) (stateOf t a) u n d zero-result)
-      (ap (λ (z : List ℕ). accepted (etag (plain z)) []) tag)
+      (ap (λ (z : List ℕ). success (etag (plain z)) []) tag)
       (subst (λ (y : Part). Stands t′ a′ (withUpload (stateOf t a) u (withPart (two .0) n y))) (part-is d digest e) (g (two .0) (two .1))) l l′

@@ -7,7 +7,7 @@ ghost use lib.ListN.{length};
 ghost use Rattle.machine.specs.Calls.{ABORT};
 ghost use Rattle.machine.specs.Steps.{act};
 ghost use Rattle.layout.specs.Memory.{whole, stateOf};
-ghost use Rattle.calls.specs.Answers.{doneReply};
+ghost use Rattle.calls.specs.Answers.{WellNumbered, doneReply};
 ghost use Rattle.calls.specs.Made.{memory, resultOf, Made};
 
 // ABORT's refusal over whole memory, 0 for none.
@@ -23,7 +23,7 @@ fn abort_judge(tables: &[u8], arena: &[u8], upload: UploadNumber) -> u8
 }
 
 pub fn abort(tables: &mut [u8], arena: &mut [u8], upload: UploadNumber) -> DoneAnswer
-    ensures { λ r. ⌜ Made (ABORT (upload .0)) (memory (now (tables .entry)) (now (arena .entry))) (doneReply r) (memory (now (tables .exit)) (now (arena .exit))) ⌝ }
+    ensures { λ r. ⌜ Made (ABORT (upload .0)) (memory (now (tables .entry)) (now (arena .entry))) (doneReply r) (memory (now (tables .exit)) (now (arena .exit))) × WellNumbered r ⌝ }
 {
     if !scan::whole(tables, arena) {
         return DoneAnswer::Refused(1);

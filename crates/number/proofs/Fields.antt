@@ -1,12 +1,11 @@
 -- The laws of bytes at a place after bytes are written over another: what a table of fields stands on. Assumes nothing.
 use mathlib.Core.Path.{_≡_, sym, ap, _∙_}
 use mathlib.Core.List.{List, _++_, append-assoc}
-use Prim.Native.Nat.{ℕ, _+_, _-_, _^_, _≤_, _<_}
+use Prim.Native.Nat.{ℕ, _+_, _-_, _≤_}
 use native.Mathlib.Omega.{arith}
 use lib.ListN.{length, take, drop, length-append, length-drop}
-use lib.Seq.{take-at, drop-at, drop-drop, drop-append-add, take-add, take-append-le, take-take, length-take-le}
-use Rattle.number.specs.Number.{le, fromLe}
-use Rattle.number.specs.NumberLaws.{length-le, fromLe-le}
+use lib.Seq.{take-at, drop-at, drop-drop, drop-append-add, take-add, length-take-le}
+use Rattle.number.specs.Number.{le}
 
 -- b with s over its n bytes from `at` on, as `put_u16`, `put_u32` and `put_u64` leave it, and buffer's `copy_at`
 abbrev pub over : List ℕ → ℕ → List ℕ → ℕ → List ℕ
@@ -29,47 +28,6 @@ module _ (b : List ℕ) (at : ℕ) (s : List ℕ) (n : ℕ) (len : length s ≡ 
   pub over-length : length (over b at s n) ≡ length b
   over-length = omega (arith, length-append (take at b ++ s) (drop (at + n) b), head-length, length-drop (at + n) b)
 
-  -- what was written
-  pub over-same : part (over b at s n) at n ≡ s
-  over-same =
-      let t : length (take at b) ≡ at = length-take-le at b (omega arith) in
-      ap (λ (l : List ℕ). take n (drop at l)) (append-assoc (take at b) s (drop (at + n) b))
-      ∙ ap (take n) (drop-at (take at b) (s ++ drop (at + n) b) at t)
-      ∙ take-at s (drop (at + n) b) n len
-
-  pub over-drop : (i : ℕ) → at + n ≤ i → drop i (over b at s n) ≡ drop i b
-  over-drop i h =
-      let q : i ≡ length (take at b ++ s) + (i - (at + n)) = omega (arith, head-length) in
-      let w : at + n + (i - (at + n)) ≡ i = omega arith in
-      ap (λ (k : ℕ). drop k (over b at s n)) q
-      ∙ drop-append-add (take at b ++ s) (drop (at + n) b) (i - (at + n))
-      ∙ drop-drop (i - (at + n)) (at + n) b
-      ∙ ap (λ (k : ℕ). drop k b) w
-
-  pub over-take : (i : ℕ) → i ≤ at → take i (over b at s n) ≡ take i b
-  over-take i h =
-      take-append-le i (take at b ++ s) (drop (at + n) b) (omega (arith, head-length))
-      ∙ take-append-le i (take at b) s (omega (arith, length-take-le at b (omega arith)))
-      ∙ take-take i at b h
-
-  -- bytes behind
-  pub over-after : (i k : ℕ) → at + n ≤ i → part (over b at s n) i k ≡ part b i k
-  over-after i k h = ap (take k) (over-drop i h)
-
-  -- bytes before
-  pub over-before : (i k : ℕ) → i + k ≤ at → part (over b at s n) i k ≡ part b i k
-  over-before i k h =
-      let q : i + k - i ≡ k = omega arith in
-      ap (λ (j : ℕ). take j (drop i (over b at s n))) (sym q)
-      ∙ sym (drop-take i (i + k) (over b at s n) (omega arith) (omega (arith, over-length)))
-      ∙ ap (drop i) (over-take (i + k) h)
-      ∙ drop-take i (i + k) b (omega arith) (omega arith)
-      ∙ ap (λ (j : ℕ). take j (drop i b)) q
-
--- a number is read as it was written
-pub get-put : (b : List ℕ) (at k v : ℕ) → at + k ≤ length b → v < 256 ^ k → fromLe (part (over b at (le k v) k) at k) ≡ v
-get-put b at k v room small = ap fromLe (over-same b at (le k v) k (length-le k v) room) ∙ fromLe-le k v small
-
 -- the same where the bytes of b are told in parts: x before the place, the n bytes there, and y behind
 module _ (b x old y : List ℕ) (at n : ℕ) (told : b ≡ x ++ (old ++ y)) (place : length x ≡ at) (width : length old ≡ n) where
   pub field-take : take at b ≡ x
@@ -91,10 +49,6 @@ module _ (b x old y : List ℕ) (at n : ℕ) (told : b ≡ x ++ (old ++ y)) (pla
       ∙ ap (λ (l : List ℕ). l ++ new ++ drop (at + n) b) field-take
       ∙ ap (λ (l : List ℕ). x ++ new ++ l) field-drop
       ∙ append-assoc x new y
-
--- a field that holds a number, read
-pub number-read : (b x y : List ℕ) (at k v r : ℕ) → b ≡ x ++ (le k v ++ y) → length x ≡ at → v < 256 ^ k → r ≡ fromLe (part b at k) → r ≡ v
-number-read b x y at k v r told place small e = e ∙ ap fromLe (field-read b x (le k v) y at k told place (length-le k v)) ∙ fromLe-le k v small
 
 -- fields written one behind the other from the front: y behind x
 pub front-next : (b b₁ b₂ x y : List ℕ) (at n : ℕ) → b₁ ≡ x ++ drop at b → length x ≡ at → b₂ ≡ over b₁ at y n → b₂ ≡ (x ++ y) ++ drop (at + n) b

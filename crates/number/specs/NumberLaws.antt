@@ -28,12 +28,6 @@ bytes-append [] ys h k i = k i
 bytes-append (x ∷ xs) ys h k zero = h 0
 bytes-append (x ∷ xs) ys h k (suc i) = bytes-append xs ys (λ j. h (suc j)) k i
 
-pub bytes-le : (width n : ℕ) → Bytes (le width n)
-unfolding le
-bytes-le zero n i = lit< tt
-bytes-le (suc k) n zero = mod-lt n (lit< tt)
-bytes-le (suc k) n (suc i) = bytes-le k (n / 256) i
-
 pub length-le : (width n : ℕ) → length (le width n) ≡ width
 unfolding le
 length-le zero n = refl

@@ -17,7 +17,7 @@ use Rattle.machine.proofs.Records.{write-fits}
 use Rattle.row.specs.Row.{headAt}
 use Rattle.layout.specs.Memory.{whole, stateOf}
 use Rattle.layout.specs.WholeLaws.{whole-stands}
-use Rattle.calls.specs.Answers.{metadataOf, getReply, accepted}
+use Rattle.calls.specs.Answers.{metadataOf, getReply, success}
 use Rattle.calls.specs.Made.{memory, outcome, Made}
 use Rattle.reads.proofs.Reading.{reads, write-keeps, object-keeps}
 use Rattle.reads.specs.declared.Named.{Named}
@@ -42,13 +42,13 @@ module _ (t a : List ℕ) (p : Bytes) (r : Named) (told : r ≡ namedIn (stateOf
     pub get-root : (b : Bytes) → getReply (Found m) b ≡ replyOf b (outcome (GET p b) (memory t a))
     unfolding outcome act
     get-root b =
-        ap (λ (x : Answer). accepted x b) about-root
+        ap (λ (x : Answer). success x b) about-root
         ∙ sym (ap (replyOf b) (named-root s p (λ x. write (about x) (x .content) b s) (sym told ∙ e)) ∙ write-fits (metadata 0 0 absent) [] b s (omega arith))
 
     pub head-root : getReply (Found m) [] ≡ replyOf [] (outcome (HEAD p) (memory t a))
     unfolding outcome act
     head-root =
-        ap (λ (x : Answer). accepted x []) about-root
+        ap (λ (x : Answer). success x []) about-root
         ∙ sym (ap (replyOf []) (named-root s p (λ x. accept (about x) [] s) (sym told ∙ e)))
 
   -- an object, whose row stands at `at`, with its data at `base`
@@ -74,7 +74,7 @@ module _ (t a : List ℕ) (p : Bytes) (r : Named) (told : r ≡ namedIn (stateOf
     unfolding outcome act
     head-found m q =
         let known : metadataOf m ≡ about (here .object) = q ∙ sym (stored-about t a at base data-inside) ∙ ap (λ (x : Object). about x) (here-stored t a bytes w p at base here) in
-        ap (λ (x : Answer). accepted x []) known
+        ap (λ (x : Answer). success x []) known
         ∙ sym (ap (replyOf []) (here .follows (λ x. accept (about x) [] s)))
 
 -- the contracts

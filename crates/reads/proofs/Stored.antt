@@ -22,7 +22,7 @@ use Rattle.machine.proofs.Records.{write-fits, write-short}
 use Rattle.row.specs.declared.Head.{Head}
 use Rattle.row.specs.Row.{headAt, digestAt, rowAt}
 use Rattle.layout.specs.Memory.{etagOf}
-use Rattle.calls.specs.Answers.{etagOf as etagIs, metadataOf, getReply, accepted}
+use Rattle.calls.specs.Answers.{etagOf as etagIs, metadataOf, getReply, success}
 use Rattle.reads.specs.Named.{metadataAt, storedAt}
 
 -- the digest, read by its words
@@ -81,4 +81,4 @@ module _ (t a : List ℕ) (at base : ℕ) (room : base + headAt (drop at t) .siz
         let x : Object = storedAt t a at base in
         let l : length (x .content) ≤ length b = omega (arith, size, stored-length) in
         let written : b′ ≡ x .content ++ drop (length (x .content)) b = e ∙ rw (stored-content (m .length) size, zero-add) in
-        ap₂ accepted (told ∙ sym stored-about) written ∙ sym (write-fits (about x) (x .content) b s l)
+        ap₂ success (told ∙ sym stored-about) written ∙ sym (write-fits (about x) (x .content) b s l)

@@ -3,7 +3,7 @@ use Prim.Native.Nat.{ℕ}
 use mathlib.Core.List.{_++_}
 use Rattle.number.specs.Number.{le}
 use Rattle.machine.specs.Names.{Bytes}
-use Rattle.machine.specs.Etags.{Etag, absent, plain, joined}
+use Rattle.machine.specs.Etags.{Etag, absent, plain, joined, countOf, digestOf}
 use Rattle.machine.specs.Calls.{Answer, nothing, metadata, etag, number, counts}
 
 -- "one more lent slice of a fixed length"
@@ -15,18 +15,6 @@ abbrev pub kindOf : Etag → ℕ
 kindOf absent = 0
 kindOf (plain digest) = 1
 kindOf (joined digest count) = 2
-
--- a joined etag's count
-abbrev pub countOf : Etag → ℕ
-countOf absent = 0
-countOf (plain digest) = 0
-countOf (joined digest count) = count
-
--- the sixteen bytes of an etag's digest
-abbrev pub digestOf : Etag → Bytes
-digestOf absent = le 16 0
-digestOf (plain digest) = digest
-digestOf (joined digest count) = digest
 
 -- the fields end to end, each with its offset; numbers are low byte first
 unfoldable pub fieldBytes : (created length upload records bytes kind count : ℕ) (digest : Bytes) → Bytes
@@ -45,7 +33,7 @@ fieldBytes created length upload records bytes kind count digest =
 abbrev pub fieldsWith : (created length upload records bytes : ℕ) → Etag → Bytes
 fieldsWith created length upload records bytes e = fieldBytes created length upload records bytes (kindOf e) (countOf e) (digestOf e)
 
--- the reply of an answer: "fields that are not the call's own are 0"
+-- the reply of an answer: fields that are not the call's own are 0
 unfoldable pub replyBytes : Answer → Bytes
 replyBytes nothing = fieldsWith 0 0 0 0 0 absent
 replyBytes (metadata length created e) = fieldsWith created length 0 0 0 e

@@ -99,10 +99,6 @@ module _ (t a : List ℕ) (b : Bytes t) (h : Inside t a) where
   unfolding headAt
   head-at = ap headFrom numbers-at
 
-  pub span-at : 36 + length (rowAt t a .path) ≡ spanAt t
-  unfolding rowAt spanAt
-  span-at = ap (λ (n : ℕ). 36 + n) length-pathAt
-
   length-digestAt : length (rowAt t a .digest) ≡ 16
   unfolding rowAt digestAt
   length-digestAt = length-take-le 16 (drop 20 t) (rw length-drop (omega (arith, h .head)))

@@ -13,9 +13,9 @@ use Rattle.row.specs.Row.{Row, rowAt, rowsAt}
 use Rattle.layout.specs.declared.Mark.{Mark}
 use Rattle.layout.specs.declared.Offset.{Offset}
 use Rattle.scan.specs.declared.Reading.the-variants.{Short, Fits}
-use Rattle.layout.specs.Rules.{uploadKind, entryOk, entryNext, markAfter}
+use Rattle.layout.specs.Rules.{entryRule, uploadKind, entryOk, entryNext, markAfter}
 use Rattle.layout.specs.Memory.{opens}
-use Rattle.scan.specs.Scan.{readingOf, past, entryRule, opensOne, entriesOk}
+use Rattle.scan.specs.Scan.{readingOf, past, opensOne, entriesOk}
 use borrow.Author.Tests.{not-true, not-false}
 use Rattle.scan.proofs.Turns.{digestPart, pathPart, head-of, digest-of, path-of, rest-tables, rest-arena, more, good-end, good-short, good-wrong, good-next}
 

@@ -13,7 +13,7 @@ use Rattle.scan.specs.declared.Reading.{Reading}
 use Rattle.scan.specs.declared.Reading.the-variants.{Short, Fits}
 use Rattle.scan.specs.declared.Scan.{Scan}
 use Rattle.scan.specs.declared.Scan.the-variants.{Bad, Good}
-use Rattle.layout.specs.Rules.{uploadKind, uploadRule, partRule, objectOk, objectNext, entryOk, entryNext, start}
+use Rattle.layout.specs.Rules.{uploadKind, objectOk, objectNext, entryOk, entryNext, start}
 use Rattle.layout.specs.Memory.{opens}
 
 -- the head of the row at the front of t, where the row is all in t and its data all in a
@@ -32,10 +32,6 @@ pastAll (suc n) o t = pastAll n (past o (headAt (drop (o .at) t))) t
 -- where n rows of objects from o on, behind one whose path is `last`, end, if they stand there by the rule
 unfoldable pub objectScan : ℕ → (last : List ℕ) → Offset → (t a : List ℕ) → Scan
 objectScan n last o t a = cond (good (List ℕ) objectOk objectNext n last (drop (o .at) t) (drop (o .base) a)) (Good (pastAll n o t)) Bad
-
--- the rule of the rows of uploads and parts, on what is read of a row
-unfoldable pub entryRule : (N : ℕ) → Mark → Head → (digest path : List ℕ) → Bool
-entryRule N m h digest path = cond (eqb (h .kind) uploadKind) (uploadRule N m h digest path) (partRule m h)
 
 -- 1 for the row of an upload
 unfoldable pub opensOne : Head → ℕ

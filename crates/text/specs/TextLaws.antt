@@ -8,7 +8,7 @@ use native.Mathlib.Omega.{arith}
 use lib.Dec.{ltb, lit<}
 use lib.ListN.{length, length-append}
 use borrow.Author.Tests.{lt-ltb, le-ltb, ltb-true, ltb-false}
-use Rattle.text.specs.Text.{hex, digits, decimal}
+use Rattle.text.specs.Text.{hex, digits}
 
 pub length-hex : (d : List ℕ) → length (hex d) ≡ 2 * length d
 unfolding hex
@@ -54,22 +54,3 @@ length-digits (suc k) most n lo hi =
     ap (λ (j : ℕ). length (digits j n)) (suc-add k (suc most))
     ∙ length-digits-more (k + suc most) n ten
     ∙ ap suc (length-digits k most (n / 10) (omega (arith, pow-suc 10 k)) (omega (arith, pow-suc 10 (suc k))))
-
--- a number has at least one digit, and one below 10 ^ (k + 1) at most k + 1
-pub length-digits-some : (most n : ℕ) → 1 ≤ length (digits (suc most) n)
-length-digits-some most n =
-    one-or-more n (λ h. omega (arith, length-digits-one most n h)) (λ h. omega (arith, length-digits-more most n h))
-
-pub length-digits-most : (k most n : ℕ) → n < 10 ^ suc k → length (digits most n) ≤ suc k
-unfolding digits
-length-digits-most k zero n hi = omega arith
-length-digits-most zero (suc most) n hi = omega (arith, length-digits-one most n (omega (arith, pow-suc 10 0, pow-zero 10)))
-length-digits-most (suc k) (suc most) n hi =
-    one-or-more n
-    (λ h. omega (arith, length-digits-one most n h))
-    (λ h. omega (arith, length-digits-more most n h, length-digits-most k most (n / 10) (omega (arith, pow-suc 10 (suc k)))))
-
--- a number of sixteen bits has one to five
-pub length-decimal : (n : ℕ) → n < 65536 → (1 ≤ length (decimal n)) × (length (decimal n) ≤ 5)
-unfolding decimal
-length-decimal n h = (length-digits-some 19 n, length-digits-most 4 20 n (omega arith))

@@ -16,7 +16,7 @@ use Rattle.machine.specs.Steps.{openUnder, uploadRecord, act, replyOf}
 use Rattle.machine.proofs.Records.{write-fits, write-short}
 use Rattle.layout.specs.Memory.{whole, stateOf}
 use Rattle.layout.specs.WholeLaws.{whole-stands}
-use Rattle.calls.specs.Answers.{listReply, accepted}
+use Rattle.calls.specs.Answers.{listReply, success}
 use Rattle.calls.specs.Made.{memory, outcome, Made}
 use Rattle.reads.proofs.Reading.{reads, write-keeps}
 
@@ -43,8 +43,8 @@ module _ (t a : List ℕ) (prefix b : Bytes) where
   all-written c b′ e h told =
       let m = e .0 in
       let n = e .1 in
-      ap₂ (λ (j k : ℕ). accepted (counts j k) b′) m n
-      ∙ ap (λ (y : Bytes). accepted (counts (length l) (length out)) y) told
+      ap₂ (λ (j k : ℕ). success (counts j k) b′) m n
+      ∙ ap (λ (y : Bytes). success (counts (length l) (length out)) y) told
       ∙ sym (write-fits (counts (length l) (length out)) out b s (omega arith))
 
   -- the contract

@@ -10,7 +10,7 @@ ghost use Rattle.machine.specs.State.{withObject};
 ghost use Rattle.machine.specs.Calls.{Call};
 ghost use Rattle.machine.specs.Steps.{plainObject};
 ghost use Rattle.layout.specs.Memory.{whole, stateOf, Stands};
-ghost use Rattle.calls.specs.Answers.{doneReply};
+ghost use Rattle.calls.specs.Answers.{WellNumbered, doneReply};
 ghost use Rattle.calls.specs.Made.{memory, outcome, resultOf, Made, MadeFresh};
 
 // FRESH: an empty store, whatever the slices hold.
@@ -51,7 +51,7 @@ pub fn put(
     path: &[u8],
     content: &[u8],
 ) -> DoneAnswer
-    ensures { λ r. ⌜ Made (Call.PUT (stamp .0) (now (path .entry)) (now (content .entry))) (memory (now (tables .entry)) (now (arena .entry))) (doneReply r) (memory (now (tables .exit)) (now (arena .exit))) ⌝ }
+    ensures { λ r. ⌜ Made (Call.PUT (stamp .0) (now (path .entry)) (now (content .entry))) (memory (now (tables .entry)) (now (arena .entry))) (doneReply r) (memory (now (tables .exit)) (now (arena .exit))) × WellNumbered r ⌝ }
 {
     if !scan::whole(tables, arena) {
         return DoneAnswer::Refused(1);
@@ -66,7 +66,7 @@ pub fn put(
 
 // DELETE: the object at path is taken out.
 pub fn delete(tables: &mut [u8], arena: &mut [u8], path: &[u8]) -> DoneAnswer
-    ensures { λ r. ⌜ Made (Call.DELETE (now (path .entry))) (memory (now (tables .entry)) (now (arena .entry))) (doneReply r) (memory (now (tables .exit)) (now (arena .exit))) ⌝ }
+    ensures { λ r. ⌜ Made (Call.DELETE (now (path .entry))) (memory (now (tables .entry)) (now (arena .entry))) (doneReply r) (memory (now (tables .exit)) (now (arena .exit))) × WellNumbered r ⌝ }
 {
     if !scan::whole(tables, arena) {
         return DoneAnswer::Refused(1);

@@ -5,7 +5,7 @@ use Rattle.number.specs.NumberLaws.{Bytes}
 use Rattle.machine.specs.Calls.{COMMIT}
 use Rattle.calls.specs.Answers.{partList}
 use Rattle.calls.specs.Made.{memory}
-use Rattle.calls.proofs.MadeLaws.{not-whole, judged}
+use Rattle.calls.proofs.MadeLaws.{one-not-zero, not-whole, judged}
 use Rattle.commits.proofs.Committing.{commit-ready, commit-made}
 use native.Mathlib.Omega.{arith}
 use borrow.Author.Needs.{needs}
@@ -24,7 +24,7 @@ same-length-2 c = search needs
 returns : tie.Need-returns
 returns c =
     let a = c .before .before .before .before .before .before .before .args in
-    not-whole (COMMIT (a .upload .0) (partList (a .list .now))) (memory (a .tables .now) (a .arena .now)) (sym (c .before .whole .ensures) ∙ not-true _ (c .if1 .taken))
+    (not-whole (COMMIT (a .upload .0) (partList (a .list .now))) (memory (a .tables .now) (a .arena .now)) (sym (c .before .whole .ensures) ∙ not-true _ (c .if1 .taken)), one-not-zero)
 
 commit-judge-requires : tie.Need-commit-judge-requires
 commit-judge-requires c κs =
@@ -41,7 +41,7 @@ returns-2 c =
     let a = c .before .before .before .before .before .before .before .before .before .before .before .args in
     let w = sym (c .before .before .before .before .before .whole .ensures) ∙ not-false _ (c .before .before .before .before .if1 .left) in
     let j = c .before .commit-judge in
-    judged (COMMIT (a .upload .0) (partList (a .list .now))) (memory (a .tables .now) (a .arena .now)) (j .result) w (j .ensures) (omega (arith, c .if2 .taken))
+    (judged (COMMIT (a .upload .0) (partList (a .list .now))) (memory (a .tables .now) (a .arena .now)) (j .result) w (j .ensures) (omega (arith, c .if2 .taken)), λ e. c .if2 .taken e)
 
 join-requires : tie.Need-join-requires
 join-requires c κs =
@@ -64,7 +64,7 @@ returns-3 c =
     let w = sym (c .before .before .before .before .before .before .before .before .before .before .before .before .whole .ensures) ∙ not-false _ (c .before .before .before .before .before .before .before .before .before .before .before .if1 .left) in
     let j = c .before .before .before .before .before .before .before .before .commit-judge in
     let e = c .before .before .before .before .join in
-    commit-made (a .tables .now) (a .arena .now) (a .upload .0) (a .list .now) w (j .result) (j .ensures) (omega (arith, c .before .before .before .before .before .before .before .if2 .left)) b (e .last .0) (e .last .1 .0) (e .ensures) (e .kept .0) (e .kept .1 .0)
+    (commit-made (a .tables .now) (a .arena .now) (a .upload .0) (a .list .now) w (j .result) (j .ensures) (omega (arith, c .before .before .before .before .before .before .before .if2 .left)) b (e .last .0) (e .last .1 .0) (e .ensures) (e .kept .0) (e .kept .1 .0), tt)
 
 pub commit-spec : {M : Type 1} → statement M
 commit-spec =

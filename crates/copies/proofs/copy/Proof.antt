@@ -4,7 +4,7 @@ use mathlib.Core.Path.{sym, _∙_}
 use borrow.Author.Tests.{not-true, not-false}
 use Rattle.machine.specs.Calls.{COPY}
 use Rattle.calls.specs.Made.{memory}
-use Rattle.calls.proofs.MadeLaws.{not-whole, judged}
+use Rattle.calls.proofs.MadeLaws.{one-not-zero, not-whole, judged}
 use Rattle.copies.proofs.Sources.{copy-there, copy-ready, copy-made}
 use borrow.Author.Needs.{needs}
 use Rattle.copies.proofs.copy.Statement.{statement}
@@ -22,7 +22,7 @@ same-length-2 c = search needs
 returns : tie.Need-returns
 returns c =
     let a = c .before .before .before .before .before .before .before .before .args in
-    not-whole (COPY (a .stamp .0) (a .source .now) (a .destination .now)) (memory (a .tables .now) (a .arena .now)) (sym (c .before .whole .ensures) ∙ not-true _ (c .if1 .taken))
+    (not-whole (COPY (a .stamp .0) (a .source .now) (a .destination .now)) (memory (a .tables .now) (a .arena .now)) (sym (c .before .whole .ensures) ∙ not-true _ (c .if1 .taken)), one-not-zero)
 
 copy-judge-requires : tie.Need-copy-judge-requires
 copy-judge-requires c κs =
@@ -37,7 +37,7 @@ same-length-4 c = search needs
 returns-2 : tie.Need-returns-2
 returns-2 c =
     let a = c .before .before .before .before .before .before .before .before .before .before .before .before .args in
-    judged (COPY (a .stamp .0) (a .source .now) (a .destination .now)) (memory (a .tables .now) (a .arena .now)) (c .before .copy-judge .result) (sym (c .before .before .before .before .before .whole .ensures) ∙ not-false _ (c .before .before .before .before .if1 .left)) (c .before .copy-judge .ensures) (c .if2 .taken)
+    (judged (COPY (a .stamp .0) (a .source .now) (a .destination .now)) (memory (a .tables .now) (a .arena .now)) (c .before .copy-judge .result) (sym (c .before .before .before .before .before .whole .ensures) ∙ not-false _ (c .before .before .before .before .if1 .left)) (c .before .copy-judge .ensures) (c .if2 .taken), c .if2 .taken)
 
 source-digest-requires : tie.Need-source-digest-requires
 source-digest-requires c κs =
@@ -67,7 +67,7 @@ returns-3 c =
     let w = sym (c .before .before .before .before .before .before .before .before .before .before .before .before .before .before .before .whole .ensures) ∙ not-false _ (c .before .before .before .before .before .before .before .before .before .before .before .before .before .before .if1 .left) in
     let d = c .before .before .before .before .before .before .before .source-digest in
     let e = c .before .before .before .before .copy-object in
-    copy-made (a .tables .now) (a .arena .now) (a .source .now) (a .destination .now) (a .stamp .0) (d .result) w (sym (c .before .before .before .before .before .before .before .before .before .before .before .copy-judge .ensures) ∙ c .before .before .before .before .before .before .before .before .before .before .if2 .left) (d .ensures) (e .last .0) (e .last .1 .0) (e .ensures) (e .kept .0) (e .kept .1 .0)
+    (copy-made (a .tables .now) (a .arena .now) (a .source .now) (a .destination .now) (a .stamp .0) (d .result) w (sym (c .before .before .before .before .before .before .before .before .before .before .before .copy-judge .ensures) ∙ c .before .before .before .before .before .before .before .before .before .before .if2 .left) (d .ensures) (e .last .0) (e .last .1 .0) (e .ensures) (e .kept .0) (e .kept .1 .0), tt)
 
 pub copy-spec : {M : Type 1} → statement M
 copy-spec =

@@ -2,7 +2,7 @@
 use mathlib.Core.Path.{sym, _∙_}
 use Rattle.names.proofs.Tests.{said-no, said-yes}
 use Rattle.calls.specs.Made.{memory}
-use Rattle.calls.proofs.MadeLaws.{not-whole, judged}
+use Rattle.calls.proofs.MadeLaws.{one-not-zero, not-whole, judged}
 use Rattle.machine.specs.Calls.{DELETE}
 use Rattle.writes.proofs.Deleting.{delete-there, delete-made}
 use borrow.Author.Needs.{needs}
@@ -23,7 +23,7 @@ returns c =
     let a = c .before .before .before .before .before .before .before .args in
     let m = memory (a .tables .now) (a .arena .now) in
     let k = DELETE (a .path .now) in
-    not-whole k m (said-no (c .before .whole .ensures) (c .if1 .taken))
+    (not-whole k m (said-no (c .before .whole .ensures) (c .if1 .taken)), one-not-zero)
 
 delete-judge-requires : tie.Need-delete-judge-requires
 delete-judge-requires c κs = said-yes (c .before .before .before .whole .ensures) (c .before .before .if1 .left)
@@ -40,7 +40,7 @@ returns-2 c =
     let m = memory (a .tables .now) (a .arena .now) in
     let k = DELETE (a .path .now) in
     let w = said-yes (c .before .before .before .before .before .whole .ensures) (c .before .before .before .before .if1 .left) in
-    judged k m (c .before .delete-judge .result) w (c .before .delete-judge .ensures) (c .if2 .taken)
+    (judged k m (c .before .delete-judge .result) w (c .before .delete-judge .ensures) (c .if2 .taken), c .if2 .taken)
 
 remove-object-requires : tie.Need-remove-object-requires
 remove-object-requires c κs =
@@ -60,7 +60,7 @@ returns-3 c =
     let w = said-yes (c .before .before .before .before .before .before .before .before .before .before .before .before .whole .ensures) (c .before .before .before .before .before .before .before .before .before .before .before .if1 .left) in
     let j = c .before .before .before .before .before .before .before .before .delete-judge in
     let o = c .before .before .before .before .remove-object in
-    delete-made (memory (a .tables .now) (a .arena .now)) (memory (o .last .0) (o .last .1 .0)) (a .path .now) (j .result) w (j .ensures) (c .before .before .before .before .before .before .before .if2 .left) (o .ensures) (o .kept .0) (o .kept .1 .0)
+    (delete-made (memory (a .tables .now) (a .arena .now)) (memory (o .last .0) (o .last .1 .0)) (a .path .now) (j .result) w (j .ensures) (c .before .before .before .before .before .before .before .if2 .left) (o .ensures) (o .kept .0) (o .kept .1 .0), tt)
 
 pub delete-spec : {M : Type 1} → statement M
 delete-spec =

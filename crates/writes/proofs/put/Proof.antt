@@ -2,7 +2,7 @@
 use mathlib.Core.Path.{sym, _∙_}
 use Rattle.names.proofs.Tests.{said-no, said-yes}
 use Rattle.calls.specs.Made.{memory}
-use Rattle.calls.proofs.MadeLaws.{not-whole, judged}
+use Rattle.calls.proofs.MadeLaws.{one-not-zero, not-whole, judged}
 use Rattle.machine.specs.Calls.{PUT}
 use Rattle.writes.proofs.Putting.{put-made}
 use borrow.Author.Needs.{needs}
@@ -23,7 +23,7 @@ returns c =
     let a = c .before .before .before .before .before .before .before .before .args in
     let m = memory (a .tables .now) (a .arena .now) in
     let k = PUT (a .stamp .0) (a .path .now) (a .content .now) in
-    not-whole k m (said-no (c .before .whole .ensures) (c .if1 .taken))
+    (not-whole k m (said-no (c .before .whole .ensures) (c .if1 .taken)), one-not-zero)
 
 put-judge-requires : tie.Need-put-judge-requires
 put-judge-requires c κs = said-yes (c .before .before .before .whole .ensures) (c .before .before .if1 .left)
@@ -40,7 +40,7 @@ returns-2 c =
     let m = memory (a .tables .now) (a .arena .now) in
     let k = PUT (a .stamp .0) (a .path .now) (a .content .now) in
     let w = said-yes (c .before .before .before .before .before .whole .ensures) (c .before .before .before .before .if1 .left) in
-    judged k m (c .before .put-judge .result) w (c .before .put-judge .ensures) (c .if2 .taken)
+    (judged k m (c .before .put-judge .result) w (c .before .put-judge .ensures) (c .if2 .taken), c .if2 .taken)
 
 put-done-requires : tie.Need-put-done-requires
 put-done-requires c κs =
@@ -58,7 +58,7 @@ returns-3 c =
     let w = said-yes (c .before .before .before .before .before .before .before .before .before .before .before .before .whole .ensures) (c .before .before .before .before .before .before .before .before .before .before .before .if1 .left) in
     let j = c .before .before .before .before .before .before .before .before .put-judge in
     let o = c .before .before .before .before .put-done in
-    put-made (memory (a .tables .now) (a .arena .now)) (memory (o .last .0) (o .last .1 .0)) (a .stamp .0) (a .path .now) (a .content .now) (j .result) w (j .ensures) (c .before .before .before .before .before .before .before .if2 .left) (o .ensures) (o .kept .0) (o .kept .1 .0)
+    (put-made (memory (a .tables .now) (a .arena .now)) (memory (o .last .0) (o .last .1 .0)) (a .stamp .0) (a .path .now) (a .content .now) (j .result) w (j .ensures) (c .before .before .before .before .before .before .before .if2 .left) (o .ensures) (o .kept .0) (o .kept .1 .0), tt)
 
 pub put-spec : {M : Type 1} → statement M
 put-spec =

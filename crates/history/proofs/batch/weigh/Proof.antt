@@ -43,7 +43,7 @@ same-length-4 c = search needs
 returns : tie.Need-returns
 unfolding batchTrace partList
 returns c =
-    call (c .before .before .before .before .before .before .before .before .before .before .before .before .before .before .before .before .before .before .before .before .before .before .before .before .before .before .before .before .before .before .before .before .before .before .before .before .initiate .ensures) (call (c .before .before .before .before .before .before .before .before .before .before .before .before .before .before .before .before .before .before .before .before .before .before .before .before .before .before .before .before .before .before .before .part .ensures) (call (c .before .before .before .before .before .before .before .before .before .before .before .before .before .before .before .before .before .before .before .before .before .before .before .before .part2 .ensures) (call (c .before .before .before .before .before .before .before .before .before .before .before .before .before .before .before .before .get .ensures) (call (c .before .before .before .before .before .before .before .before .before .before .commit .ensures) (call (c .before .before .get2 .ensures) stop)))))
+    call (c .before .before .before .before .before .before .before .before .before .before .before .before .before .before .before .before .before .before .before .before .before .before .before .before .before .before .before .before .before .before .before .before .before .before .before .before .initiate .ensures) (call (c .before .before .before .before .before .before .before .before .before .before .before .before .before .before .before .before .before .before .before .before .before .before .before .before .before .before .before .before .before .before .before .part .ensures) (call (c .before .before .before .before .before .before .before .before .before .before .before .before .before .before .before .before .before .before .before .before .before .before .before .before .part2 .ensures) (call (c .before .before .before .before .before .before .before .before .before .before .before .before .before .before .before .before .get .ensures) (call (c .before .before .before .before .before .before .before .before .before .before .commit .ensures .0) (call (c .before .before .get2 .ensures) stop)))))
 
 pub weigh-spec : {M : Type 1} → statement M
 weigh-spec =

@@ -17,7 +17,7 @@ same-length-2 : tie.Need-same-length-2
 same-length-2 c = search needs
 
 returns : tie.Need-returns
-returns c = numbered-made _ _ _ (c .before .before .before .before .before .copy .result) _ (c .before .before .before .before .before .copy .ensures) (c .done .ensures)
+returns c = numbered-made _ _ _ (c .before .before .before .before .before .copy .result) _ (c .before .before .before .before .before .copy .ensures .0) (c .done .ensures)
 
 pub rathnodi-copy-spec : {M : Type 1} → statement M
 rathnodi-copy-spec =

@@ -17,7 +17,7 @@ same-length-2 : tie.Need-same-length-2
 same-length-2 c = search needs
 
 returns : tie.Need-returns
-returns c = numbered-made _ _ _ (c .before .before .before .before .before .delete .result) _ (c .before .before .before .before .before .delete .ensures) (c .done .ensures)
+returns c = numbered-made _ _ _ (c .before .before .before .before .before .delete .result) _ (c .before .before .before .before .before .delete .ensures .0) (c .done .ensures)
 
 pub rathnodi-delete-spec : {M : Type 1} → statement M
 rathnodi-delete-spec =

@@ -17,7 +17,7 @@ same-length-2 : tie.Need-same-length-2
 same-length-2 c = search needs
 
 returns : tie.Need-returns
-returns c = numbered-made _ _ _ (c .before .before .before .before .before .commit .result) _ (c .before .before .before .before .before .commit .ensures) (c .done .ensures)
+returns c = numbered-made _ _ _ (c .before .before .before .before .before .commit .result) _ (c .before .before .before .before .before .commit .ensures .0) (c .done .ensures)
 
 pub rathnodi-commit-spec : {M : Type 1} → statement M
 rathnodi-commit-spec =

@@ -1,7 +1,7 @@
 -- `scan::entries::entry_ok` meets its contract: the test is the definition's. Assumes nothing.
-use Rattle.scan.specs.Scan.{entryRule}
 use Rattle.names.proofs.Tests.{tests}
 use borrow.Author.Needs.{needs}
+use Rattle.layout.specs.Rules.{entryRule}
 use Rattle.scan.proofs.entries.entry_ok.Statement.{statement}
 use Rattle.scan.proofs.entries.entry_ok.Tie as tie
 

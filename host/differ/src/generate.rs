@@ -11,6 +11,31 @@ use rathnodi::TABLES_LEN;
 
 const ARENAS: [usize; 9] = [0, 1, 4, 64, 64, 4096, 4096, 4096, LARGEST_ARENA];
 
+/// Fields of docs/LAYOUT.md: offset, width, and values at the edge of what is allowed.
+const HEADER_FIELDS: [(usize, usize, &[u64]); 5] = [
+    (0, 4, &[0, 1, 64, 4096]),
+    (4, 8, &[0, 1, NUMBERS_END, NUMBERS_END + 1, u64::MAX]),
+    (12, 2, &[0, 256, 257]),
+    (14, 2, &[0, 16, 17]),
+    (16, 2, &[0, 256, 257]),
+];
+const ROW_FIELDS: [(usize, usize, &[u64]); 8] = [
+    (0, 4, &[0, 1]),
+    (4, 4, &[0, 1, 11_000, 11_001]),
+    (8, 8, &[0, 1]),
+    (16, 1, &[0, 1, 2, 3, 4]),
+    (PATH_LENGTH_AT, 1, &[0, 1, 127, 128, 129, 255]),
+    (18, 2, &[0, 1, 256, 257]),
+    (20, 1, &[0, 1]),
+    (ROW_LEN, 1, &[32, 33, 47, 126, 127]),
+];
+const PATH_LENGTH_AT: usize = 17;
+/// A row without its path.
+const ROW_LEN: usize = 36;
+
+/// Lengths of many paths.
+const LENGTHS: [usize; 7] = [5, 5, 6, 9, 10, 65, 125];
+
 /// Lengths at which MD5's padding or count of blocks changes.
 const DIGEST_EDGES: [usize; 9] = [55, 56, 57, 63, 64, 65, 119, 120, 128];
 
@@ -19,7 +44,7 @@ pub fn list(seed: u64, index: u64) -> List {
     let mut random = Random::new(seed, index);
     let arena = *random.pick(&ARENAS);
     let next = match random.one_in(16) {
-        true => NUMBERS_END - random.below(4) as u64,
+        true => NUMBERS_END - random.pick(&[0, 1, 2, 3, 16, 16]),
         false => 1,
     };
     let fill = random.draw();
@@ -62,14 +87,15 @@ fn pool(random: &mut Random) -> Vec<Vec<u8>> {
             }
             paths
         }
-        _ => many_paths(random),
+        _ => many_paths(random, &LENGTHS),
     }
 }
 
-fn many_paths(random: &mut Random) -> Vec<Vec<u8>> {
+/// More paths than a store can have, each of one of these lengths.
+fn many_paths(random: &mut Random, lengths: &[usize]) -> Vec<Vec<u8>> {
     (0..300)
         .map(|i| {
-            let length = *random.pick(&[0, 0, 1, 4, 5, 60, 120]);
+            let length = *random.pick(lengths) - 5;
             [format!("p{i:03}/").into_bytes(), good_path(random, length)].concat()
         })
         .collect()
@@ -145,13 +171,22 @@ impl Maker {
     fn make(&mut self) {
         let mut length = 5 + self.random.below(75);
         match self.random.below(40) {
-            0 => self.fill_objects(),
+            0 => self.fill_objects(&LENGTHS),
             1 => self.fill_parts(),
             2 => {
                 self.fill_parts();
-                self.fill_objects();
+                self.fill_objects(&LENGTHS);
             }
-            3 | 4 => self.fill_uploads(),
+            3 => {
+                // To the last byte of the tables.
+                self.pool = many_paths(&mut self.random, &[LONGEST_PATH]);
+                self.fill_uploads();
+                self.fill_parts();
+                self.fill_objects(&[LONGEST_PATH]);
+            }
+            4 | 5 => self.fill_uploads(),
+            // The last numbers go to uploads that stay open, so that 4 and 6 both apply.
+            6..=21 if self.model.next > 1 => self.fill_uploads(),
             _ => length /= 2,
         }
         length *= 2;
@@ -159,7 +194,7 @@ impl Maker {
             self.step();
         }
         if self.random.one_in(5) {
-            for _ in 0..self.random.below(6) {
+            for _ in 0..self.random.below(12) {
                 self.damage_and_repair();
             }
             let damage = self.damage();
@@ -236,14 +271,21 @@ impl Maker {
                 let from = *self.random.pick(&[0, 0, 4, 12, 18, 64, 1024]);
                 Step::Scribble { from, seed: self.random.draw() }
             }
-            1..=3 => Step::Flip(self.random_bits()),
-            _ => Step::Flip(self.changed_field()),
+            _ => Step::Flip(self.change()),
+        }
+    }
+
+    fn change(&mut self) -> Vec<Bit> {
+        if self.random.one_in(3) {
+            self.random_bits()
+        } else {
+            self.changed_field()
         }
     }
 
     /// A few calls over damaged memory; then the same bits are flipped back.
     fn damage_and_repair(&mut self) {
-        let bits = if self.random.one_in(3) { self.random_bits() } else { self.changed_field() };
+        let bits = self.change();
         self.steps.push(Step::Flip(bits.clone()));
         for _ in 0..1 + self.random.below(3) {
             let call = self.call();
@@ -266,43 +308,37 @@ impl Maker {
             .collect()
     }
 
-    /// A field of the header or of a row gets a value at the edge of what is allowed there, or
-    /// another row's.
+    /// A field of the header or of a row gets a value at the edge of what is allowed there, one more
+    /// or less, or another row's.
     fn changed_field(&mut self) -> Vec<Bit> {
         let layout::Bytes { tables, rows, .. } = layout::bytes_of(&self.model);
-        let header: [(usize, usize); 5] = [(0, 4), (4, 8), (12, 2), (14, 2), (16, 2)];
-        let row = [(0, 4), (4, 4), (8, 8), (16, 1), (17, 1), (18, 2), (20, 1), (36, 1), (36, 8)];
-        let (fields, starts) = match rows.is_empty() || self.random.one_in(4) {
-            true => (&header[..], vec![0]),
-            false => (&row[..], rows),
-        };
-        let (offset, width) = *self.random.pick(fields);
+        let starts = if rows.is_empty() || self.random.one_in(4) { vec![0] } else { rows };
         let (at, other) = (*self.random.pick(&starts), *self.random.pick(&starts));
+        let (offset, width, edges) = match at {
+            0 => *self.random.pick(&HEADER_FIELDS),
+            _ if self.random.one_in(8) => (ROW_LEN, tables[at + PATH_LENGTH_AT].into(), &[][..]),
+            _ => *self.random.pick(&ROW_FIELDS),
+        };
         let field = |start: usize| -> Vec<u8> {
             tables.iter().skip(start + offset).take(width).copied().collect()
         };
         let old = field(at);
-        let mut number = [0; 8];
-        number[..old.len()].copy_from_slice(&old);
-        let number = u64::from_le_bytes(number);
-        let edges = [0, 1, 2, 3, 32, 33, 47, 126, 127, 128, 129, 255, 256, 257, 11_000, 11_001];
+        let number =
+            old.iter().take(8).rev().fold(0, |number, byte| number << 8 | u64::from(*byte));
         let new = match self.random.below(8) {
-            0 | 1 => number.wrapping_add(1).to_le_bytes().to_vec(),
-            2 | 3 => number.wrapping_sub(1).to_le_bytes().to_vec(),
-            4 | 5 => u64::to_le_bytes(*self.random.pick(&edges)).to_vec(),
-            6 => {
-                let ends = [NUMBERS_END, NUMBERS_END + 1, self.model.next, u64::MAX];
-                self.random.pick(&ends).to_le_bytes().to_vec()
-            }
+            0 => number.wrapping_add(1).to_le_bytes().to_vec(),
+            1 => number.wrapping_sub(1).to_le_bytes().to_vec(),
+            2 => self.model.next.to_le_bytes().to_vec(),
+            3..=6 if !edges.is_empty() => self.random.pick(edges).to_le_bytes().to_vec(),
             _ => field(other),
         };
         let changed = old.iter().zip(new).enumerate();
         changed.map(|(i, (old, new))| Bit { byte: at + offset + i, mask: old ^ new }).collect()
     }
 
-    /// PUTs of short data to about as many paths as there can be.
-    fn fill_objects(&mut self) {
-        self.pool = many_paths(&mut self.random);
+    /// PUTs of short data to about as many paths as there can be, each of one of these lengths.
+    fn fill_objects(&mut self, lengths: &[usize]) {
+        self.pool = many_paths(&mut self.random, lengths);
         let mut order: Vec<usize> = (0..self.pool.len()).collect();
         self.random.shuffle(&mut order);
         for i in order.into_iter().take(MOST_OBJECTS - 1 + self.random.below(4)) {
@@ -511,9 +547,9 @@ impl Maker {
         match self.random.below(24) {
             0 => 0,
             1 => self.model.next as u32,
-            2 => self.random.draw() as u32,
-            3 => 1 + self.random.below(self.model.next as usize) as u32,
+            2 => 1 + self.random.below(self.model.next as usize) as u32,
             _ if open.is_empty() => 1,
+            3 => self.random.pick(&open) ^ 1 << self.random.below(32),
             4..=14 => {
                 let most = open.iter().max_by_key(|upload| self.model.uploads[upload].parts.len());
                 *most.expect("an upload")
@@ -556,9 +592,12 @@ impl Maker {
             1 if at < parts.len() => parts.insert(at, parts[at]),
             2 if !parts.is_empty() => parts.push(parts[0]),
             3 => parts.insert(at, self.random.below(20) as u16),
-            4 if at < parts.len() => parts[at] = self.random.draw() as u16,
+            4 if at < parts.len() => parts[at] ^= 1 << self.random.below(16),
             5 if at < parts.len() => parts[at] = parts[0],
             6 => parts.clear(),
+            7 if self.random.one_in(4) => {
+                parts = (1..=self.random.below(12_000) as u16).collect();
+            }
             _ => (),
         }
         let mut list: Vec<u8> = parts.iter().flat_map(|part| part.to_le_bytes()).collect();

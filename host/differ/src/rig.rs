@@ -225,16 +225,17 @@ impl<L: Library> Rig<L> {
         self.tally.count(None, number);
         self.kept_beside()?;
         if number != 0 {
-            self.memory_kept(odd, lending)
-        } else {
-            if !odd {
-                let fresh = Model::fresh(lending.arena);
-                stands_for(&self.home, &fresh)?;
-                *model = Some(fresh);
-                self.keep();
-            }
-            Ok(())
+            return self.memory_kept(odd, lending);
         }
+        let fresh = Model::fresh(lending.arena);
+        if odd {
+            self.home_kept()?;
+            return stands_for(&self.odd, &fresh);
+        }
+        stands_for(&self.home, &fresh)?;
+        *model = Some(fresh);
+        self.keep();
+        Ok(())
     }
 
     fn call(

@@ -1,8 +1,9 @@
 //! Document 01's cases over the proved store.
 
+use differ::layout::NEXT_AT;
 use differ::reply::{etag, number, REPLY_LEN};
 use model::cases::all;
-use model::{Answer, Call, Etag, Reply};
+use model::{Answer, Call, Etag, Reply, NUMBERS_END};
 use rathnodi::{slices, TABLES_LEN};
 use std::fs;
 use std::process::Command;
@@ -65,6 +66,21 @@ fn cases_of_document_01() {
         let mut memory = Memory::fresh(case.arena);
         case.check(|call| memory.call(call)).unwrap_or_else(|difference| panic!("{difference}"));
     }
+}
+
+/// The last numbers; 4 where 16 uploads are open, 6 where fewer are.
+#[test]
+fn numbers_are_used_up() {
+    let mut memory = Memory::fresh(0);
+    let first = NUMBERS_END - 16;
+    memory.tables[NEXT_AT..NEXT_AT + 8].copy_from_slice(&first.to_le_bytes());
+    let initiate = Call::Initiate { stamp: 1, path: b"r".to_vec() };
+    for number in first..NUMBERS_END {
+        assert_eq!(memory.call(&initiate).answer, Answer::Upload(number as u32));
+    }
+    assert_eq!(memory.call(&initiate).number, 4);
+    assert_eq!(memory.call(&Call::Abort { upload: u32::MAX }).number, 0);
+    assert_eq!(memory.call(&initiate).number, 6);
 }
 
 /// Etags of PUT, PART and COPY against md5sum(1), around the edges of MD5's blocks.

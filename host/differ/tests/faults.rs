@@ -210,6 +210,13 @@ faulty!(never_ends_its_numbers {
     }
 });
 
+faulty!(part_overlooks_a_bit_of_a_small_upload_number {
+    fn part(&mut self, t: &mut [u8], a: &mut [u8], u: u32, p: u16, d: &[u8], r: &mut [u8]) -> u32 {
+        let seen = if u < 1 << 31 { u & !(1 << 16) } else { u };
+        slices::part(t, a, seen, p, d, r)
+    }
+});
+
 faulty!(trusts_damaged_tables {
     fn head(&mut self, t: &[u8], a: &[u8], path: &[u8], reply: &mut [u8]) -> u32 {
         match slices::head(t, a, path, reply) {

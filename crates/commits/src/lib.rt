@@ -1,17 +1,19 @@
 // COMMIT: an open upload's parts become an object, in listed order.
+use find::RowPlace;
 use types::DoneAnswer;
 use types::UploadNumber;
 ghost use mathlib.Core.Path.{_≡_};
 ghost use mathlib.Core.Bool.{true, cond};
 ghost use mathlib.Core.Option.{some};
-ghost use Prim.Native.Nat.{_+_, _*_, _≤_};
+ghost use Prim.Native.Nat.{ℕ, _+_, _*_, _≤_};
 ghost use lib.ListN.{length};
 ghost use Rattle.machine.specs.Map.{byNumber, lookup};
 ghost use Rattle.machine.specs.State.{Object, Upload, withObject, withoutUpload, counted};
 ghost use Rattle.machine.specs.Calls.{COMMIT};
 ghost use Rattle.machine.specs.Fits.{member, fits};
-ghost use Rattle.layout.specs.Memory.{whole, stateOf};
-ghost use Rattle.find.specs.Places.{isSome};
+ghost use Rattle.layout.specs.Memory.{whole, stateOf, rowsOf};
+ghost use Rattle.find.specs.Places.{isSome, beforeUpload};
+ghost use Rattle.find.specs.Search.{rowPlaceAt, IsRowPlace};
 ghost use Rattle.calls.specs.Answers.{WellNumbered, doneReply, partList};
 ghost use Rattle.calls.specs.Made.{memory, outcome, resultOf, Made};
 ghost use Rattle.commits.specs.Numbers.{firstNumbers, numberFits};
@@ -32,13 +34,14 @@ fn is_listed_before(list: &[u8], i: usize, number: u16) -> bool
     listed
 }
 
-// Whether the list's number at i is a part's of an open upload, and none of those before it.
-fn number_fits(tables: &[u8], arena: &[u8], upload: UploadNumber, list: &[u8], i: usize) -> bool
-    requires { ⌜ (whole (now tables) (now arena) ≡ true) × (isSome (lookup byNumber (upload .0) (stateOf (now tables) (now arena) .U)) ≡ true) × (2 * i + 2 ≤ length (now list)) ⌝ }
-    ensures { λ r. ⌜ ((x : Upload) → lookup byNumber (upload .0) (stateOf (now (tables .entry)) (now (arena .entry)) .U) ≡ some x → r ≡ numberFits (x .parts) (now (list .entry)) i) ⌝ }
+// Whether the list's number at i is a part's of an open upload, `first` being the row behind the upload's, and none of those
+// before it.
+fn number_fits(tables: &[u8], arena: &[u8], first: RowPlace, list: &[u8], i: usize) -> bool
+    requires { ⌜ (whole (now tables) (now arena) ≡ true) × IsRowPlace (rowsOf (stateOf (now tables) (now arena))) first × (2 * i + 2 ≤ length (now list)) ⌝ }
+    ensures { λ r. ⌜ ((u : ℕ) (x : Upload) → first ≡ rowPlaceAt (rowsOf (stateOf (now (tables .entry)) (now (arena .entry)))) (length (beforeUpload (stateOf (now (tables .entry)) (now (arena .entry))) u) + 1) → lookup byNumber u (stateOf (now (tables .entry)) (now (arena .entry)) .U) ≡ some x → r ≡ numberFits (x .parts) (now (list .entry)) i) ⌝ }
 {
     let number = number::get_u16(list, 2 * i);
-    let place = find::find_part(tables, arena, upload.0, number);
+    let place = find::find_part_from(tables, arena, first, number);
     if !place.found {
         return false;
     }
@@ -55,9 +58,10 @@ fn list_fits(tables: &[u8], arena: &[u8], upload: UploadNumber, list: &[u8]) -> 
     if list.len() != 2 * count {
         return false;
     }
+    let first = find::parts_row(tables, arena, upload.0);
     let mut i: usize = 0;
     while i < count {
-        if !number_fits(tables, arena, upload, list, i) {
+        if !number_fits(tables, arena, first, list, i) {
             return false;
         }
         i += 1;

@@ -116,6 +116,9 @@ open-row-place s u p e o =
 pub first-part-row : (s : State) (u : ℕ) (p q : RowPlace) → p ≡ rowPlaceAt (rowsOf s) (length (beforeUpload s u)) → q ≡ rowPlaceAt (rowsOf s) (p .row + 1) → q ≡ rowPlaceAt (rowsOf s) (length (beforeUpload s u) + 1)
 first-part-row s u p q e f = f ∙ ap (λ (i : ℕ). rowPlaceAt (rowsOf s) (i + 1)) (place-row (rowsOf s) p (length (beforeUpload s u)) e)
 
+pub parts-row-place : (s : State) (u : ℕ) (p : RowPlace) → p ≡ rowPlaceAt (rowsOf s) (length (beforeUpload s u) + 1) → isSome (lookup byNumber u (s .U)) ≡ true → IsRowPlace (rowsOf s) p
+parts-row-place s u p e o = is-row-place (rowsOf s) p (length (beforeUpload s u) + 1) e (let l = open-within s u o in omega arith)
+
 -- Parts ------------------------------------------------------------------------------------------------------------------
 
 module _ (s : State) (u : ℕ) (x : Upload) (f : lookup byNumber u (s .U) ≡ some x) (first : RowPlace) (e : first ≡ rowPlaceAt (rowsOf s) (length (beforeUpload s u) + 1)) where

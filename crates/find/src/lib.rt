@@ -182,8 +182,8 @@ pub fn upload_row(tables: &[u8], arena: &[u8], upload: u32) -> RowPlace
     seek(tables, arena, first, Goal::Upload(upload))
 }
 
-// The row behind that of an open upload.
-fn parts_row(tables: &[u8], arena: &[u8], upload: u32) -> RowPlace
+// The row behind that of an open upload: its first part's, where it has one.
+pub fn parts_row(tables: &[u8], arena: &[u8], upload: u32) -> RowPlace
     requires { ⌜ (whole (now tables) (now arena) ≡ true) × (isSome (lookup byNumber upload (stateOf (now tables) (now arena) .U)) ≡ true) ⌝ }
     ensures { λ r. ⌜ r ≡ rowPlaceAt (rowsOf (stateOf (now (tables .entry)) (now (arena .entry)))) (length (beforeUpload (stateOf (now (tables .entry)) (now (arena .entry))) upload) + 1) ⌝ }
 {
@@ -222,12 +222,11 @@ pub fn find_upload(tables: &[u8], arena: &[u8], upload: u32) -> Place
     }
 }
 
-// The place of a part of an open upload.
-pub fn find_part(tables: &[u8], arena: &[u8], upload: u32, number: u16) -> Place
-    requires { ⌜ (whole (now tables) (now arena) ≡ true) × (isSome (lookup byNumber upload (stateOf (now tables) (now arena) .U)) ≡ true) ⌝ }
-    ensures { λ r. ⌜ ((x : Upload) → lookup byNumber upload (stateOf (now (tables .entry)) (now (arena .entry)) .U) ≡ some x → r ≡ partPlace (stateOf (now (tables .entry)) (now (arena .entry))) upload x number) ⌝ }
+// The place of a part of an open upload, `first` being the row behind the upload's.
+pub fn find_part_from(tables: &[u8], arena: &[u8], first: RowPlace, number: u16) -> Place
+    requires { ⌜ (whole (now tables) (now arena) ≡ true) × IsRowPlace (rowsOf (stateOf (now tables) (now arena))) first ⌝ }
+    ensures { λ r. ⌜ ((u : ℕ) (x : Upload) → first ≡ rowPlaceAt (rowsOf (stateOf (now (tables .entry)) (now (arena .entry)))) (length (beforeUpload (stateOf (now (tables .entry)) (now (arena .entry))) u) + 1) → lookup byNumber u (stateOf (now (tables .entry)) (now (arena .entry)) .U) ≡ some x → r ≡ partPlace (stateOf (now (tables .entry)) (now (arena .entry))) u x number) ⌝ }
 {
-    let first = parts_row(tables, arena, upload);
     let here = seek(tables, arena, first, Goal::Part(number));
     let found = stands(tables, arena, here, 3, number as u32);
     Place {
@@ -235,6 +234,15 @@ pub fn find_part(tables: &[u8], arena: &[u8], upload: u32, number: u16) -> Place
         at: here.at,
         base: here.base,
     }
+}
+
+// The place of a part of an open upload.
+pub fn find_part(tables: &[u8], arena: &[u8], upload: u32, number: u16) -> Place
+    requires { ⌜ (whole (now tables) (now arena) ≡ true) × (isSome (lookup byNumber upload (stateOf (now tables) (now arena) .U)) ≡ true) ⌝ }
+    ensures { λ r. ⌜ ((x : Upload) → lookup byNumber upload (stateOf (now (tables .entry)) (now (arena .entry)) .U) ≡ some x → r ≡ partPlace (stateOf (now (tables .entry)) (now (arena .entry))) upload x number) ⌝ }
+{
+    let first = parts_row(tables, arena, upload);
+    find_part_from(tables, arena, first, number)
 }
 
 // How many parts the upload has whose row stands there, and the row behind them.

@@ -1,25 +1,29 @@
 -- `commits::list_fits` meets its contract. The invariant: the first i numbers fit. Assumes nothing.
-use Prim.Native.Nat.{_+_, _-_, _*_, _≤_}
+use Prim.Native.Nat.{ℕ, _+_, _-_, _*_, _≤_}
 use mathlib.Core.Path.{_≡_, sym, _∙_, subst}
 use mathlib.Core.Option.{some}
+use native.Mathlib.Omega.{arith}
 use borrow.Author.Needs.{needs}
 use borrow.Author.Tests.{not-true, not-false}
 use lib.ListN.{length}
 use Rattle.number.specs.NumberLaws.{Bytes}
 use Rattle.machine.specs.Map.{byNumber, lookup}
 use Rattle.machine.specs.State.{Upload}
-use Rattle.layout.specs.Memory.{stateOf}
+use Rattle.layout.specs.Memory.{stateOf, rowsOf}
+use Rattle.find.specs.Places.{beforeUpload}
+use Rattle.find.specs.Search.{rowPlaceAt}
+use Rattle.find.proofs.Answers.{parts-row-place}
 use Rattle.commits.proofs.Fitting.{unfit-number, Passed, passed-none, passed-next, unfit-list, fit-list, count-few}
-use native.Mathlib.Omega.{arith}
 use Rattle.commits.proofs.list_fits.Statement.{statement}
 use Rattle.commits.proofs.list_fits.Tie as tie
 
 abbrev Inv-loop : tie.InvT-loop
-Inv-loop tables arena upload list count i₀ i =
-    (i ≤ count) × ((x : Upload) → lookup byNumber (upload .0) (stateOf tables arena .U) ≡ some x → Passed (x .parts) list i)
+Inv-loop tables arena list count first i₀ i =
+    (i ≤ count)
+    × ((u : ℕ) (x : Upload) → first ≡ rowPlaceAt (rowsOf (stateOf tables arena)) (length (beforeUpload (stateOf tables arena) u) + 1) → lookup byNumber u (stateOf tables arena .U) ≡ some x → Passed (x .parts) list i)
 
 abbrev μ-loop : tie.MeasureT-loop
-μ-loop tables arena upload list count i₀ i = count - i
+μ-loop tables arena list count first i₀ i = count - i
 
 parts-end-requires : tie.Need-parts-end-requires Inv-loop μ-loop
 parts-end-requires c κs = search needs
@@ -40,20 +44,25 @@ returns c =
     let f = c .before .parts-end in
     λ x e. unfit-list (a .tables .now) (a .arena .now) b (p .0) (a .upload .0) (f .result) x e (f .ensures x e) (a .list .now) (omega (arith, c .if1 .taken))
 
+parts-row-requires : tie.Need-parts-row-requires Inv-loop μ-loop
+parts-row-requires c κs = search needs
+
 loop-holds : tie.Need-loop-holds Inv-loop μ-loop
-loop-holds c = (omega arith, λ x e. passed-none (x .parts) (c .before .before .before .before .before .args .list .now))
+loop-holds c = (omega arith, λ u x p e. passed-none (x .parts) (c .before .before .before .before .before .before .args .list .now))
 
 number-fits-requires : tie.Need-number-fits-requires Inv-loop μ-loop
 number-fits-requires c κs =
-    let p = c .before .before .before .before .before .before .before .pre in
-    (p .0, p .1, omega arith)
+    let k = c .before .before .before .before .before .before .before .before in
+    let r = c .before .before .parts-row in
+    (k .pre .0, parts-row-place (stateOf (k .args .tables .now) (k .args .arena .now)) (k .args .upload .0) (r .result) (r .ensures) (k .pre .1), omega arith)
 
 returns-2 : tie.Need-returns-2 Inv-loop μ-loop
 returns-2 c =
-    let a = c .before .before .before .before .before .before .before .before .before .args in
-    let l = c .before .before .before .loop in
-    let inside : 2 * l .i + 2 ≤ length (a .list .now) = omega arith in
-    λ x e. unfit-number (x .parts) (a .list .now) (l .i) inside (sym (c .before .number-fits .ensures x e) ∙ not-true _ (c .if2 .taken))
+    let l = c .before .before .before in
+    let a = l .before .before .before .before .before .before .before .args in
+    let r = l .before .parts-row in
+    let inside : 2 * l .loop .i + 2 ≤ length (a .list .now) = omega arith in
+    λ x e. unfit-number (x .parts) (a .list .now) (l .loop .i) inside (sym (c .before .number-fits .ensures (a .upload .0) x (r .ensures) e) ∙ not-true _ (c .if2 .taken))
 
 add-i : tie.Need-add-i Inv-loop μ-loop
 add-i c = omega arith
@@ -63,20 +72,21 @@ loop-less c = omega arith
 
 loop-again : tie.Need-loop-again Inv-loop μ-loop
 loop-again c =
-    let a = c .before .before .before .before .before .before .before .before .before .args in
-    let l = c .before .before .before .loop in
-    let inside : 2 * l .i + 2 ≤ length (a .list .now) = omega arith in
-    (omega arith, λ x e. passed-next (x .parts) (a .list .now) (l .i) inside (l .inv .1 x e) (sym (c .before .number-fits .ensures x e) ∙ not-false _ (c .if2 .left)))
+    let l = c .before .before .before in
+    let a = l .before .before .before .before .before .before .before .args in
+    let inside : 2 * l .loop .i + 2 ≤ length (a .list .now) = omega arith in
+    (omega arith, λ u x p e. passed-next (x .parts) (a .list .now) (l .loop .i) inside (l .loop .inv .1 u x p e) (sym (c .before .number-fits .ensures u x p e) ∙ not-false _ (c .if2 .left)))
 
 returns-3 : tie.Need-returns-3 Inv-loop μ-loop
 returns-3 c =
-    let a = c .before .before .before .before .before .before .before .args in
-    let b : Bytes (a .tables .now) = λ j. c .before .before .before .before .before .before .shared-slice-known .given j .fits in
-    let p = c .before .before .before .before .before .before .before .pre in
-    let f = c .before .before .before .parts-end in
-    let l = c .before .loop in
-    let end : l .i ≡ f .result .count = omega arith in
-    λ x e. fit-list (a .tables .now) (a .arena .now) b (p .0) (a .upload .0) (f .result) x e (f .ensures x e) (a .list .now) (omega (arith, c .before .before .if1 .left)) (subst (Passed (x .parts) (a .list .now)) end (l .inv .1 x e))
+    let l = c .before in
+    let k = l .before .before .before .before .before .before .before in
+    let a = k .args in
+    let b : Bytes (a .tables .now) = λ j. l .before .before .before .before .before .before .shared-slice-known .given j .fits in
+    let r = l .before .parts-row in
+    let f = l .before .before .before .parts-end in
+    let end : l .loop .i ≡ f .result .count = omega arith in
+    λ x e. fit-list (a .tables .now) (a .arena .now) b (k .pre .0) (a .upload .0) (f .result) x e (f .ensures x e) (a .list .now) (omega (arith, l .before .before .if1 .left)) (subst (Passed (x .parts) (a .list .now)) end (l .loop .inv .1 (a .upload .0) x (r .ensures) e))
 
 pub list-fits-spec : {M : Type 1} → statement M
 list-fits-spec =
@@ -87,6 +97,7 @@ list-fits-spec =
     parts-end-requires
     mul-if1
     returns
+    parts-row-requires
     loop-holds
     number-fits-requires
     returns-2

@@ -12,15 +12,15 @@ mul-get-u16 c = search needs
 get-u16-requires : tie.Need-get-u16-requires
 get-u16-requires c κs = search needs
 
-find-part-requires : tie.Need-find-part-requires
-find-part-requires c κs = search needs
+find-part-from-requires : tie.Need-find-part-from-requires
+find-part-from-requires c κs = search needs
 
 returns : tie.Need-returns
 returns c =
     let a = c .before .before .before .before .before .before .before .args in
     let g = c .before .before .before .get-u16 in
-    let f = c .before .before .find-part in
-    λ x e. number-absent (stateOf (a .tables .now) (a .arena .now)) (a .upload .0) x (a .list .now) (a .i) (g .result) (g .ensures) (f .result) (f .ensures x e) (not-true _ (c .if1 .taken))
+    let f = c .before .before .find-part-from in
+    λ u x p e. number-absent (stateOf (a .tables .now) (a .arena .now)) u x (a .list .now) (a .i) (g .result) (g .ensures) (f .result) (f .ensures u x p e) (not-true _ (c .if1 .taken))
 
 is-listed-before-requires : tie.Need-is-listed-before-requires
 is-listed-before-requires c κs = search needs
@@ -29,9 +29,9 @@ returns-2 : tie.Need-returns-2
 returns-2 c =
     let a = c .before .before .before .before .before .before .before .before .args in
     let g = c .before .before .before .before .get-u16 in
-    let f = c .before .before .before .find-part in
+    let f = c .before .before .before .find-part-from in
     let l = c .is-listed-before in
-    λ x e. number-there (stateOf (a .tables .now) (a .arena .now)) (a .upload .0) x (a .list .now) (a .i) (g .result) (g .ensures) (f .result) (f .ensures x e) (not-false _ (c .before .if1 .left)) (l .result) (l .ensures)
+    λ u x p e. number-there (stateOf (a .tables .now) (a .arena .now)) u x (a .list .now) (a .i) (g .result) (g .ensures) (f .result) (f .ensures u x p e) (not-false _ (c .before .if1 .left)) (l .result) (l .ensures)
 
 pub number-fits-spec : {M : Type 1} → statement M
 number-fits-spec =
@@ -39,7 +39,7 @@ number-fits-spec =
     (tie.spec
     mul-get-u16
     get-u16-requires
-    find-part-requires
+    find-part-from-requires
     returns
     is-listed-before-requires
     returns-2)

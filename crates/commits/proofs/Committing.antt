@@ -6,7 +6,7 @@ use mathlib.Core.List.{List, []}
 use mathlib.Core.Option.{some}
 use lib.ListN.{length}
 use Rattle.number.specs.NumberLaws as byte
-use Rattle.machine.specs.Map.{byNumber, lookup}
+use Rattle.machine.specs.Map.{isSome, byNumber, lookup}
 use Rattle.machine.specs.Names.{Bytes}
 use Rattle.machine.specs.State.{Object, Part, Upload, State, counted, withObject, withoutUpload}
 use Rattle.machine.specs.Valid.{Valid}
@@ -18,7 +18,7 @@ use Rattle.machine.proofs.KeepsValid.{next-valid}
 use Rattle.layout.specs.Memory.{whole, stateOf, Stands}
 use Rattle.layout.specs.WholeLaws.{whole-stands}
 use Rattle.find.specs.declared.Place.{Place}
-use Rattle.find.specs.Places.{isSome, uploadPlace}
+use Rattle.find.specs.Places.{uploadPlace}
 use Rattle.find.proofs.Found.{is-some, is-none}
 use Rattle.calls.specs.Answers.{partList, success}
 use Rattle.calls.specs.Made.{Memory, memory, stateIn, outcome, resultOf, Made}

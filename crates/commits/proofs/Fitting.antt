@@ -10,11 +10,11 @@ use lib.Dec.{eqb}
 use lib.ListN.{length}
 use Rattle.number.specs.NumberLaws as byte
 use Rattle.order.specs.OrderLaws.{numbers}
-use Rattle.machine.specs.Map.{Map, byNumber, lookup, Ascending, Every}
+use Rattle.machine.specs.Map.{isSome, Map, byNumber, lookup, Ascending, Every}
 use Rattle.machine.specs.Names.{Bytes}
 use Rattle.machine.specs.State.{Part, Upload, State}
 use Rattle.machine.specs.Valid.{PartOk, UploadOk, Valid}
-use Rattle.machine.specs.Fits.{member, distinct, isThere, allFound, fits, listedParts}
+use Rattle.machine.specs.Fits.{member, distinct, allFound, fits, listedParts}
 use Rattle.machine.proofs.MapLaws.{every-lookup}
 use Rattle.machine.proofs.Options.{both}
 use Rattle.machine.proofs.Fit.{fits-fit, fit-length, distinct-snoc, found-append}
@@ -22,7 +22,7 @@ use Rattle.layout.specs.Memory.{whole, stateOf, Stands}
 use Rattle.layout.specs.WholeLaws.{whole-stands}
 use Rattle.find.specs.declared.Place.{Place}
 use Rattle.find.specs.declared.Parts.{Parts}
-use Rattle.find.specs.Places.{isSome, partPlace, partsOf}
+use Rattle.find.specs.Places.{partPlace, partsOf}
 use Rattle.find.proofs.Found.{is-some}
 use Rattle.calls.specs.Answers.{partList}
 use Rattle.join_order.proofs.Listed.{fit-count}
@@ -58,7 +58,7 @@ module _ (m : Map ℕ Part) (list : Bytes) (i : ℕ) (inside : 2 * i + 2 ≤ len
       let a = both (eqb (length ns) (length m) && allFound m ns) (distinct ns) h in
       let b = both (eqb (length ns) (length m)) (allFound m ns) (a .0) in
       let found = both (allFound m before) (allFound m (n ∷ k .0)) (sym (found-append m before (n ∷ k .0)) ∙ ap (allFound m) (sym (k .1)) ∙ b .1) in
-      let here = both (isThere (lookup byNumber n m)) (allFound m (k .0)) (found .1) .0 in
+      let here = both (isSome (lookup byNumber n m)) (allFound m (k .0)) (found .1) .0 in
       let once = distinct-before n before (k .0) (ap distinct (sym (k .1)) ∙ a .1) in
       rw (here, once)
 
@@ -94,7 +94,7 @@ module _ (m : Map ℕ Part) (list : Bytes) where
   passed-next i inside p fit =
       let n = numberAt list i in
       let before = firstNumbers list i in
-      let b = both (isThere (lookup byNumber n m)) (not (member n before)) fit in
+      let b = both (isSome (lookup byNumber n m)) (not (member n before)) fit in
       let e = next-number list i inside in
       record {
         found = ap (allFound m) e ∙ found-append m before (n ∷ []) ∙ rw (p .found, b .0);
@@ -108,12 +108,12 @@ module _ (m : Map ℕ Part) (list : Bytes) where
       sym (rw (eq-eqb _ _ (r .1), ap (allFound m) (sym (r .0)) ∙ p .found, ap distinct (sym (r .0)) ∙ p .once))
 
 -- what `number_fits` finds
-there-is : {X : Type 0} (o : Option X) → isThere o ≡ isSome o
+there-is : {X : Type 0} (o : Option X) → isSome o ≡ isSome o
 there-is none = refl
 there-is (some x) = refl
 
 module _ (s : State) (u : ℕ) (x : Upload) (list : Bytes) (i n : ℕ) (told : n ≡ numberAt list i) (place : Place) (place-is : place ≡ partPlace s u x n) where
-  there : isThere (lookup byNumber n (x .parts)) ≡ place .found
+  there : isSome (lookup byNumber n (x .parts)) ≡ place .found
   unfolding partPlace
   there = there-is (lookup byNumber n (x .parts)) ∙ sym (ap (λ (p : Place). p .found) place-is)
 

@@ -13,7 +13,7 @@ use lib.Seq.{take-at, length-take-le}
 use Rattle.number.specs.NumberLaws as byte
 use Rattle.order.specs.Order.{byBytes}
 use Rattle.order.specs.OrderLaws as order
-use Rattle.machine.specs.Map.{byNumber, lookup, insert}
+use Rattle.machine.specs.Map.{isSome, byNumber, lookup, insert}
 use Rattle.machine.specs.Names.{Bytes}
 use Rattle.machine.specs.State.{Object, Upload, State, held, counted, withObject, withoutUpload}
 use Rattle.machine.specs.Valid.{Valid}
@@ -26,7 +26,7 @@ use Rattle.row.specs.Row.{headAt}
 use Rattle.layout.specs.Memory.{whole, stateOf, Stands}
 use Rattle.layout.specs.WholeLaws.{whole-stands}
 use Rattle.find.specs.declared.Place.{Place}
-use Rattle.find.specs.Places.{isSome, uploadPlace}
+use Rattle.find.specs.Places.{uploadPlace}
 use Rattle.find.proofs.Found.{is-some}
 use Rattle.calls.specs.Made.{resultOf}
 use Rattle.calls.proofs.Judging.{pass, result-pass, result-stop}

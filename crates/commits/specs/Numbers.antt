@@ -4,10 +4,10 @@ use mathlib.Core.Bool.{Bool, _&&_, not}
 use mathlib.Core.List.{List}
 use lib.ListN.{take, drop}
 use Rattle.number.specs.Number.{fromLe}
-use Rattle.machine.specs.Map.{Map, byNumber, lookup}
+use Rattle.machine.specs.Map.{isSome, Map, byNumber, lookup}
 use Rattle.machine.specs.Names.{Bytes}
 use Rattle.machine.specs.State.{Part}
-use Rattle.machine.specs.Fits.{member, isThere}
+use Rattle.machine.specs.Fits.{member}
 use Rattle.calls.specs.Answers.{partList}
 
 -- the number at i, counted from 0
@@ -20,4 +20,4 @@ firstNumbers list i = partList (take (2 * i) list)
 
 -- the number at i is a part's, and none of those before it
 unfoldable pub numberFits : Map ℕ Part → (list : Bytes) (i : ℕ) → Bool
-numberFits m list i = isThere (lookup byNumber (numberAt list i) m) && not (member (numberAt list i) (firstNumbers list i))
+numberFits m list i = isSome (lookup byNumber (numberAt list i) m) && not (member (numberAt list i) (firstNumbers list i))

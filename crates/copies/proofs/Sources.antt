@@ -12,7 +12,7 @@ use Rattle.md5.specs.declared.words.Digest.{Digest}
 use Rattle.md5.specs.Md5.{md5, bytesOf}
 use Rattle.md5.specs.DigestBytes.{digestBytes-is}
 use Rattle.order.specs.Order.{byBytes}
-use Rattle.machine.specs.Map.{lookup}
+use Rattle.machine.specs.Map.{isSome, lookup}
 use Rattle.machine.specs.Names.{Bytes, stampOk, requestPathOk, newPathOk}
 use Rattle.machine.specs.Etags.{plain}
 use Rattle.machine.specs.State.{Object, State, held, counted, withObject}
@@ -25,7 +25,7 @@ use Rattle.row.specs.Row.{encodeRows, contentsOf, headAt}
 use Rattle.layout.specs.Memory.{objectRow, whole, stateOf, Stands}
 use Rattle.layout.specs.WholeLaws.{whole-stands}
 use Rattle.find.specs.declared.Place.{Place}
-use Rattle.find.specs.Places.{isSome, beforeObject, afterObject, objectPlace}
+use Rattle.find.specs.Places.{beforeObject, afterObject, objectPlace}
 use Rattle.find.proofs.Splits.{object-found}
 use Rattle.find.proofs.RowsAt.{At, row-at}
 use Rattle.find.proofs.Found.{is-some, is-none}

@@ -14,7 +14,7 @@ use Rattle.md5.specs.Md5.{bytesOf}
 use Rattle.order.specs.Order.{byBytes}
 use Rattle.order.specs.OrderLaws.{bytes}
 use Rattle.buffer.specs.Buffer.{spliced, rotated}
-use Rattle.machine.specs.Map.{lookup}
+use Rattle.machine.specs.Map.{isSome, lookup}
 use Rattle.machine.specs.State.{Object, State, held, withObject, withoutObject}
 use Rattle.machine.specs.Valid.{ObjectOk}
 use Rattle.machine.proofs.MapSums.{length-insert, length-remove}
@@ -31,7 +31,7 @@ use Rattle.layout.specs.WholeLaws.{whole-stands}
 use Rattle.layout.specs.StandsLaws.{header-back}
 use Rattle.layout.specs.declared.Offset.{Offset}
 use Rattle.find.specs.declared.Place.{Place}
-use Rattle.find.specs.Places.{isSome, behind, beforeObject, afterObject, fromObject, objectPlace}
+use Rattle.find.specs.Places.{behind, beforeObject, afterObject, fromObject, objectPlace}
 use Rattle.find.proofs.Splits.{object-place, object-found}
 use Rattle.find.proofs.Found.{is-some}
 use Rattle.edit.specs.Header.{headerOf, headed}

@@ -10,7 +10,7 @@ use Rattle.number.specs.NumberLaws.{Bytes}
 use Rattle.number.proofs.Fields.{over}
 use Rattle.order.specs.Order.{byBytes}
 use Rattle.order.specs.OrderLaws.{bytes}
-use Rattle.machine.specs.Map.{Map, lookup}
+use Rattle.machine.specs.Map.{isSome, Map, lookup}
 use Rattle.machine.specs.State.{Object, State, held, withO, withObject, withoutObject}
 use Rattle.machine.specs.Valid.{Valid}
 use Rattle.machine.proofs.MapLaws.{lookup-remove}
@@ -22,7 +22,7 @@ use Rattle.layout.specs.WholeLaws.{whole-stands}
 use Rattle.layout.specs.StandsLaws.{stands-state, stands-whole}
 use Rattle.layout.specs.declared.Offset.{Offset}
 use Rattle.find.specs.declared.Place.{Place}
-use Rattle.find.specs.Places.{isSome, behind, objectPlace}
+use Rattle.find.specs.Places.{behind, objectPlace}
 use Rattle.find.proofs.Found.{is-none}
 use Rattle.edit.specs.Objects.{objectBehind, plainWith, Addable}
 use Rattle.edit.proofs.MapEdits.{remove-absent, insert-removed}

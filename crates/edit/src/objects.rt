@@ -6,10 +6,9 @@ ghost use mathlib.Core.Path.{_≡_};
 ghost use mathlib.Core.Bool.{true};
 ghost use lib.ListN.{length};
 ghost use Rattle.order.specs.Order.{byBytes};
-ghost use Rattle.machine.specs.Map.{lookup};
+ghost use Rattle.machine.specs.Map.{isSome, lookup};
 ghost use Rattle.machine.specs.State.{withoutObject, withObject};
 ghost use Rattle.layout.specs.Memory.{whole, stateOf, Stands};
-ghost use Rattle.find.specs.Places.{isSome};
 ghost use Rattle.machine.specs.Valid.{Valid};
 ghost use Rattle.edit.specs.Objects.{Addable, objectBehind, plainWith};
 

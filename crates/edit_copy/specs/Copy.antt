@@ -7,12 +7,11 @@ use mathlib.Core.Option.{Option, none, some}
 use lib.ListN.{length}
 use Rattle.md5.specs.declared.words.Digest.{Digest}
 use Rattle.order.specs.Order.{byBytes}
-use Rattle.machine.specs.Map.{lookup}
+use Rattle.machine.specs.Map.{isSome, lookup}
 use Rattle.machine.specs.Names.{Bytes}
 use Rattle.machine.specs.State.{Object, State, withObject}
 use Rattle.machine.specs.Valid.{Valid}
 use Rattle.layout.specs.Memory.{whole, stateOf}
-use Rattle.find.specs.Places.{isSome}
 use Rattle.edit.specs.Objects.{plainWith}
 
 abbrev pub contentIn : Option Object → Bytes

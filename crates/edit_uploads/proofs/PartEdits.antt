@@ -12,7 +12,7 @@ use Rattle.md5.specs.declared.words.Digest.{Digest}
 use Rattle.md5.specs.Md5.{bytesOf}
 use Rattle.order.specs.OrderLaws.{numbers}
 use Rattle.buffer.specs.Buffer.{spliced, rotated}
-use Rattle.machine.specs.Map.{byNumber, lookup, total}
+use Rattle.machine.specs.Map.{isSome, byNumber, lookup, total}
 use Rattle.machine.specs.State.{Part, Upload, State, held, partsIn, withUpload, withPart}
 use Rattle.machine.specs.Valid.{Valid, PartOk, UploadOk}
 use Rattle.machine.proofs.MapLaws.{lookup-insert, every-lookup}
@@ -27,7 +27,7 @@ use Rattle.layout.specs.WholeLaws.{whole-stands}
 use Rattle.layout.specs.StandsLaws.{header-back}
 use Rattle.layout.specs.declared.Offset.{Offset}
 use Rattle.find.specs.declared.Place.{Place}
-use Rattle.find.specs.Places.{isSome, behind, beforePart, afterPart, fromPart, partPlace}
+use Rattle.find.specs.Places.{behind, beforePart, afterPart, fromPart, partPlace}
 use Rattle.find.proofs.RowsAt.{row-at}
 use Rattle.find.proofs.Splits.{part-place, part-found}
 use Rattle.find.proofs.Found.{is-some}

@@ -10,7 +10,7 @@ use Rattle.md5.specs.declared.words.Digest.{Digest}
 use Rattle.number.specs.NumberLaws.{Bytes}
 use Rattle.number.proofs.Fields.{over}
 use Rattle.order.specs.OrderLaws.{cases, Lawful, numbers}
-use Rattle.machine.specs.Map.{Map, byNumber, lookup, insert}
+use Rattle.machine.specs.Map.{isSome, Map, byNumber, lookup, insert}
 use Rattle.machine.specs.State.{Part, Upload, State, held, withU, withUpload, withPart}
 use Rattle.machine.specs.Valid.{UploadOk, Valid}
 use Rattle.machine.proofs.MapLaws.{lookup-insert, lookup-remove, insert-there, every-lookup}
@@ -22,7 +22,7 @@ use Rattle.layout.specs.WholeLaws.{whole-stands}
 use Rattle.layout.specs.StandsLaws.{stands-state, stands-whole}
 use Rattle.layout.specs.declared.Offset.{Offset}
 use Rattle.find.specs.declared.Place.{Place}
-use Rattle.find.specs.Places.{isSome, behind, partPlace}
+use Rattle.find.specs.Places.{behind, partPlace}
 use Rattle.find.proofs.Found.{is-none}
 use Rattle.edit.proofs.MapEdits.{remove-absent, insert-removed}
 use Rattle.edit.proofs.Tail.{tail-stands, tail-read}

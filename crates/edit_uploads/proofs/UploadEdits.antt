@@ -12,7 +12,7 @@ use Rattle.md5.specs.declared.words.Digest.{Digest}
 use Rattle.md5.specs.Md5.{bytesOf}
 use Rattle.order.specs.OrderLaws.{numbers, compare-above}
 use Rattle.buffer.specs.Buffer.{spliced, rotated}
-use Rattle.machine.specs.Map.{Map, byNumber, lookup, Every, total}
+use Rattle.machine.specs.Map.{isSome, Map, byNumber, lookup, Every, total}
 use Rattle.machine.specs.State.{Upload, State, held, partsIn, withUpload, withoutUpload, withNext}
 use Rattle.machine.specs.Steps.{newUpload}
 use Rattle.machine.specs.Valid.{Valid, UploadOk}
@@ -33,7 +33,7 @@ use Rattle.layout.specs.RowCounts.{length-contents}
 use Rattle.layout.specs.declared.Offset.{Offset}
 use Rattle.find.specs.declared.Place.{Place}
 use Rattle.find.specs.declared.Parts.{Parts}
-use Rattle.find.specs.Places.{isSome, behind, beforeUpload, beforeParts, afterUpload, throughParts, uploadPlace, partsOf}
+use Rattle.find.specs.Places.{behind, beforeUpload, beforeParts, afterUpload, throughParts, uploadPlace, partsOf}
 use Rattle.find.proofs.Splits.{upload-found, parts-behind}
 use Rattle.find.proofs.Found.{is-some}
 use Rattle.edit.specs.Header.{headerOf, headed}

@@ -7,11 +7,10 @@ use mathlib.Core.Option.{none, some}
 use lib.ListN.{length, take, drop}
 use Rattle.md5.specs.declared.words.Digest.{Digest}
 use Rattle.md5.specs.Md5.{bytesOf}
-use Rattle.machine.specs.Map.{byNumber, lookup, remove}
+use Rattle.machine.specs.Map.{isSome, byNumber, lookup, remove}
 use Rattle.machine.specs.State.{Part, Upload, held, withUpload, withPart}
 use Rattle.machine.specs.Valid.{Valid}
 use Rattle.layout.specs.Memory.{whole, stateOf}
-use Rattle.find.specs.Places.{isSome}
 
 -- the upload without a part
 abbrev pub withoutPart : Upload → ℕ → Upload

@@ -5,10 +5,9 @@ use row::Head;
 ghost use mathlib.Core.Path.{_≡_};
 ghost use mathlib.Core.Bool.{true};
 ghost use mathlib.Core.Option.{some};
-ghost use Rattle.machine.specs.Map.{byNumber, lookup};
+ghost use Rattle.machine.specs.Map.{isSome, byNumber, lookup};
 ghost use Rattle.machine.specs.State.{Upload, withUpload, withPart};
 ghost use Rattle.layout.specs.Memory.{whole, stateOf, Stands};
-ghost use Rattle.find.specs.Places.{isSome};
 ghost use Rattle.edit_uploads.specs.Parts.{withoutPart, partWith, partBehind, PartRemovable, PartAddable, PartPuttable};
 
 // A part that is there, taken out.

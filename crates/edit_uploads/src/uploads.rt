@@ -5,12 +5,11 @@ use row::Head;
 ghost use mathlib.Core.Path.{_≡_};
 ghost use mathlib.Core.Bool.{true};
 ghost use lib.ListN.{length};
-ghost use Rattle.machine.specs.Map.{byNumber, lookup};
+ghost use Rattle.machine.specs.Map.{isSome, byNumber, lookup};
 ghost use Rattle.machine.specs.State.{withUpload, withoutUpload, withNext};
 ghost use Rattle.machine.specs.Steps.{newUpload};
 ghost use Rattle.machine.specs.Valid.{Valid};
 ghost use Rattle.layout.specs.Memory.{whole, stateOf, Stands};
-ghost use Rattle.find.specs.Places.{isSome};
 
 // An upload without parts, put behind all rows with the coming number. No data change.
 pub fn open_upload(tables: &mut [u8], arena: &[u8], stamp: u64, path: &[u8])

@@ -7,7 +7,7 @@ use mathlib.Core.Option.{some}
 use native.Mathlib.Omega.{arith}
 use lib.ListN.{length, take, drop, length-append, length-drop}
 use lib.Seq.{take-at, drop-at}
-use Rattle.machine.specs.Map.{byNumber, lookup, place}
+use Rattle.machine.specs.Map.{isSome, byNumber, lookup, place}
 use Rattle.machine.specs.State.{Upload, State}
 use Rattle.row.specs.Row.{Row, encodeRows, contentsOf}
 use Rattle.layout.specs.Memory.{uploadRow, partRows, rowsOf}
@@ -16,7 +16,7 @@ use Rattle.find.specs.declared.RowPlace.{RowPlace}
 use Rattle.find.specs.declared.PassedParts.{PassedParts}
 use Rattle.find.specs.declared.Goal.{Goal}
 use Rattle.find.specs.declared.Goal.the-variants as goal
-use Rattle.find.specs.Places.{isSome, behind, beforeUpload, beforeParts, beforePart, throughParts, fromUpload, afterUpload, fromPart, uploadPlace, partPlace, passedParts, partsOf}
+use Rattle.find.specs.Places.{behind, beforeUpload, beforeParts, beforePart, throughParts, fromUpload, afterUpload, fromPart, uploadPlace, partPlace, passedParts, partsOf}
 use Rattle.find.specs.Search.{reach, stopsOf, rowPlaceAt, IsRowPlace, sought, leads}
 use Rattle.find.proofs.Splits.{upload-place, upload-found, parts-place, parts-behind, part-place}
 use Rattle.find.proofs.Walk.{rowPlace}

@@ -2,7 +2,7 @@
 use mathlib.Core.Path.{_≡_, refl}
 use mathlib.Core.Bool.{true, false, false≢true}
 use mathlib.Core.Option.{Option, none, some}
-use Rattle.find.specs.Places.{isSome}
+use Rattle.machine.specs.Map.{isSome}
 
 pub is-some : {X : Type 0} (o : Option X) → isSome o ≡ true → (x : X) × (o ≡ some x)
 is-some none e = absurd (false≢true e)

@@ -9,14 +9,14 @@ use native.Mathlib.Omega.{arith}
 use lib.ListN.{length, take, drop, drop-of-length-le}
 use lib.Seq.{drop-cons}
 use Rattle.order.specs.Order.{by, byBytes}
-use Rattle.machine.specs.Map.{lookup, place}
+use Rattle.machine.specs.Map.{isSome, lookup, place}
 use Rattle.machine.specs.Names.{Bytes}
 use Rattle.machine.specs.State.{State}
 use Rattle.row.specs.declared.Head.{Head}
 use Rattle.row.specs.Row.{Row, encodeRows, contentsOf, headAt}
 use Rattle.layout.specs.Memory.{objectRows, Stands}
 use Rattle.find.specs.declared.Place.{Place}
-use Rattle.find.specs.Places.{beforeObject, objectPlace, isSome}
+use Rattle.find.specs.Places.{beforeObject, objectPlace}
 use Rattle.find.proofs.RowsAt.{At, Read, row-at, row-read}
 use Rattle.find.proofs.ObjectAt.{blank, entry, row, front, rest, split, next-front}
 

@@ -7,14 +7,13 @@ use native.Mathlib.Omega.{arith}
 use borrow.Author.Tests.{eq-eqb, ne-eqb}
 use lib.ListN.{length, take, drop, length-append}
 use Rattle.order.specs.OrderLaws.{cases, alike, below}
-use Rattle.machine.specs.Map.{Map, byNumber, lookup, place}
+use Rattle.machine.specs.Map.{isSome, Map, byNumber, lookup, place}
 use Rattle.machine.specs.Names.{Bytes}
 use Rattle.machine.specs.Etags.{Etag, absent, plain, joined}
 use Rattle.machine.specs.State.{Object, Part, Upload, State}
 use Rattle.row.specs.Row.{Row}
 use Rattle.layout.specs.Memory.{objectRow, objectRows, partRows, uploadRows, rowsOf}
 use Rattle.find.specs.declared.Goal.the-variants as goal
-use Rattle.find.specs.Places.{isSome}
 use Rattle.find.specs.Search.{reach, stopsAt, stopsOf, leads}
 
 -- to the end of the rows

@@ -1,11 +1,10 @@
 -- Where the rows of a state stand. Assumes nothing.
 use Prim.Native.Nat.{ℕ, suc, _+_}
-use mathlib.Core.Bool.{Bool, true, false}
+use mathlib.Core.Bool.{Bool}
 use mathlib.Core.List.{List, [], _∷_, _++_}
-use mathlib.Core.Option.{Option, none, some}
 use lib.ListN.{length, take, drop}
 use Rattle.order.specs.Order.{byBytes}
-use Rattle.machine.specs.Map.{byNumber, lookup, place}
+use Rattle.machine.specs.Map.{isSome, byNumber, lookup, place}
 use Rattle.machine.specs.Names.{Bytes}
 use Rattle.machine.specs.State.{Upload, State}
 use Rattle.row.specs.Row.{Row, encodeRows, contentsOf}
@@ -15,11 +14,6 @@ use Rattle.find.specs.declared.Place.{Place}
 use Rattle.find.specs.declared.Parts.{Parts}
 use Rattle.find.specs.declared.PassedParts.{PassedParts}
 use Rattle.find.specs.Search.{rowPlaceAt}
-
-module _ {X : Type 0} where
-  abbrev pub isSome : Option X → Bool
-  isSome none = false
-  isSome (some x) = true
 
 -- where the rows behind rs begin, and their data
 abbrev pub behind : List Row → Offset

@@ -7,10 +7,10 @@ ghost use mathlib.Core.Bool.{true};
 ghost use Prim.Native.Nat.{ℕ, _+_, _<_};
 ghost use lib.ListN.{length, drop};
 ghost use mathlib.Core.Option.{some};
-ghost use Rattle.machine.specs.Map.{byNumber, lookup};
+ghost use Rattle.machine.specs.Map.{isSome, byNumber, lookup};
 ghost use Rattle.machine.specs.State.{Upload};
 ghost use Rattle.layout.specs.Memory.{whole, stateOf, rowsOf};
-ghost use Rattle.find.specs.Places.{isSome, behind, beforeUpload, objectPlace, uploadPlace, partPlace, passedParts, partsOf};
+ghost use Rattle.find.specs.Places.{behind, beforeUpload, objectPlace, uploadPlace, partPlace, passedParts, partsOf};
 ghost use Rattle.find.specs.Search.{stopsAt, sought, rowPlaceAt, IsRowPlace, leads};
 
 // The offset of what was looked for, or where it would stand.

@@ -12,7 +12,7 @@ ghost use Rattle.layout.specs.Memory.{whole, stateOf, etagOf};
 ghost use Rattle.lists.specs.Rows.{listedBytes, listing};
 
 // How long the text of an etag is.
-pub fn text_length(kind: u8, count: u16) -> u32
+pub(crate) fn text_length(kind: u8, count: u16) -> u32
     ensures { λ r. ⌜ (r ≤ 38) × ((d : List ℕ) → length d ≡ 16 → r ≡ length (text (etagOf kind d count))) ⌝ }
 {
     if kind == 0 {
@@ -43,7 +43,7 @@ fn measure_row(tables: &[u8], at: usize, prefix: &[u8], suffix: &[u8]) -> Counts
 }
 
 // How many records and bytes it writes in all.
-pub fn measure_rows(tables: &[u8], arena: &[u8], prefix: &[u8], suffix: &[u8]) -> Counts
+pub(crate) fn measure_rows(tables: &[u8], arena: &[u8], prefix: &[u8], suffix: &[u8]) -> Counts
     requires { ⌜ whole (now tables) (now arena) ≡ true ⌝ }
     ensures { λ r. ⌜ (r .records ≡ length (listed (now (prefix .entry)) (now (suffix .entry)) (stateOf (now (tables .entry)) (now (arena .entry)) .O)))
         × (r .bytes ≡ length (listing (now (prefix .entry)) (now (suffix .entry)) (stateOf (now (tables .entry)) (now (arena .entry))))) ⌝ }

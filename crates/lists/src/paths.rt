@@ -17,7 +17,7 @@ fn has_path(path: &[u8], prefix: &[u8], suffix: &[u8]) -> bool
 }
 
 // Whether LIST has the path of the row at `at`.
-pub fn has_row(tables: &[u8], at: usize, prefix: &[u8], suffix: &[u8]) -> bool
+pub(crate) fn has_row(tables: &[u8], at: usize, prefix: &[u8], suffix: &[u8]) -> bool
     requires { ⌜ at + 36 + headAt (drop at (now tables)) .pathlen ≤ length (now tables) ⌝ }
     ensures { λ r. ⌜ r ≡ isListed (now (prefix .entry)) (now (suffix .entry)) (pathAt (drop at (now (tables .entry)))) ⌝ }
 {

@@ -53,7 +53,7 @@ fn write_text(tables: &[u8], at: usize, kind: u8, count: u16, answer: &mut [u8],
 }
 
 // The record of the row at `at`; the answer is where it ends.
-pub fn write_record(tables: &[u8], at: usize, answer: &mut [u8], to: usize) -> usize
+pub(crate) fn write_record(tables: &[u8], at: usize, answer: &mut [u8], to: usize) -> usize
     requires { ⌜ (at + 36 + headAt (drop at (now tables)) .pathlen ≤ length (now tables)) × (to + length (recordAt (drop at (now tables))) ≤ length (now answer)) ⌝ }
     ensures { λ r. ⌜ (r ≡ to + length (recordAt (drop at (now (tables .entry)))))
         × (now (answer .exit) ≡ take to (now (answer .entry)) ++ recordAt (drop at (now (tables .entry))) ++ drop (to + length (recordAt (drop at (now (tables .entry))))) (now (answer .entry))) ⌝ }

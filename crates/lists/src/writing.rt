@@ -28,7 +28,13 @@ fn write_row(
 }
 
 // All that it writes, over the front of the answer buffer.
-pub fn write_rows(tables: &[u8], arena: &[u8], prefix: &[u8], suffix: &[u8], answer: &mut [u8])
+pub(crate) fn write_rows(
+    tables: &[u8],
+    arena: &[u8],
+    prefix: &[u8],
+    suffix: &[u8],
+    answer: &mut [u8],
+)
     requires { ⌜ (whole (now tables) (now arena) ≡ true) × (length (listing (now prefix) (now suffix) (stateOf (now tables) (now arena))) ≤ length (now answer)) ⌝ }
     ensures { λ _. ⌜ now (answer .exit) ≡ listing (now (prefix .entry)) (now (suffix .entry)) (stateOf (now (tables .entry)) (now (arena .entry))) ++ drop (length (listing (now (prefix .entry)) (now (suffix .entry)) (stateOf (now (tables .entry)) (now (arena .entry))))) (now (answer .entry)) ⌝ }
 {

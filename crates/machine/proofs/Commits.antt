@@ -13,7 +13,7 @@ use lib.Dec.{eqb}
 use lib.ListN.{length, drop}
 use Rattle.order.specs.Order.{byBytes}
 use Rattle.order.specs.OrderLaws.{numbers, bytes}
-use Rattle.machine.specs.Map.{Map, byNumber, lookup, insert, remove, mapped, Ascending}
+use Rattle.machine.specs.Map.{isSome, Map, byNumber, lookup, insert, remove, mapped, Ascending}
 use Rattle.machine.specs.Names.{Bytes, storedPathOk}
 use Rattle.machine.specs.Digest.{md5}
 use Rattle.machine.specs.State.{Object, Part, Upload, State, fresh, withObject, withoutUpload, withPart}
@@ -21,7 +21,7 @@ use Rattle.machine.specs.Calls.{Call, PUT, GET, HEAD, DELETE, COPY, LIST
 use Rattle.machine.specs.Steps.{newUpload, newPart, joinedObject, about, contents, digests, fit, putAt, objectAt, act, replyOf, after, reply, next}
 use Rattle.machine.specs.Lists.{Trace, trace, final}
 use Rattle.machine.specs.Valid.{UploadOk, Valid}
-use Rattle.machine.specs.Fits.{isThere, allFound, listedParts}
+use Rattle.machine.specs.Fits.{allFound, listedParts}
 use Rattle.machine.specs.Demand3.{Kind, kind, accepted, _or_, carries, carried, lastPart, lastParts, opens, opened, startOf, concat, joinedFrom, Leaves, calls, CommitsJoin}
 use Rattle.machine.proofs.Options.{both}
 use Rattle.machine.proofs.MapLaws.{every-lookup, lookup-insert, lookup-insert-other}
@@ -197,9 +197,9 @@ record Sent (u : ℕ) (t : Trace) (m : Map ℕ Part) (ns : List ℕ) : Type 0 wh
 
 sent : (u : ℕ) (t : Trace) (m : Map ℕ Part) → ((n : ℕ) → lookup byNumber n m ≡ mapped newPart (lastPart u n t)) → (ns : List ℕ) → allFound m ns ≡ true → Sent u t m ns
 sent u t m h [] a = record { parts = []; told = refl; made = refl }
-sent u t m h (n ∷ ns) a = let b = both (isThere (lookup byNumber n m)) (allFound m ns) a in go (lastPart u n t) refl (rw (h n) at (b .0)) (sent u t m h ns (b .1))
+sent u t m h (n ∷ ns) a = let b = both (isSome (lookup byNumber n m)) (allFound m ns) a in go (lastPart u n t) refl (rw (h n) at (b .0)) (sent u t m h ns (b .1))
   where
-    go : (o : Option Bytes) → lastPart u n t ≡ o → isThere (mapped newPart (lastPart u n t)) ≡ true → Sent u t m ns → Sent u t m (n ∷ ns)
+    go : (o : Option Bytes) → lastPart u n t ≡ o → isSome (mapped newPart (lastPart u n t)) ≡ true → Sent u t m ns → Sent u t m (n ∷ ns)
     go none q i r = absurd (false≢true (rw q at i))
     go (some d) q i r = record { parts = d ∷ r .parts; told = rw (q, r .told); made = rw (h n, q, r .made) }
 

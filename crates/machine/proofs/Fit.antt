@@ -12,11 +12,11 @@ use borrow.Author.Tests.{eq-eqb, ne-eqb, eqb-true, eqb-false, not-true}
 use lib.Dec.{eqb}
 use lib.ListN.{length, length-append}
 use Rattle.order.specs.OrderLaws.{numbers}
-use Rattle.machine.specs.Map.{Map, byNumber, lookup, remove, total, Ascending}
+use Rattle.machine.specs.Map.{isSome, Map, byNumber, lookup, remove, total, Ascending}
 use Rattle.machine.specs.State.{Part, partLength}
 use Rattle.machine.specs.Calls.{Refusal, Outcome, _else_then_, given}
 use Rattle.machine.specs.Steps.{fit, contents}
-use Rattle.machine.specs.Fits.{member, distinct, isThere, allFound, fits, listedParts}
+use Rattle.machine.specs.Fits.{member, distinct, allFound, fits, listedParts}
 use Rattle.machine.proofs.Options.{both, none-some, also-some, mapped-some}
 use Rattle.machine.proofs.MapLaws.{lookup-remove, lookup-remove-other, ascending-remove}
 use Rattle.machine.proofs.MapSums.{length-total, total-remove, length-remove}
@@ -67,10 +67,7 @@ lookup-kept {X} j k m x a h = go (ℕ-discrete j k)
     go (yes e) = let n = rw e at h in absurd (none-some (sym (lookup-remove numbers k m a) ∙ n))
     go (no d) = sym (lookup-remove-other numbers j k m a d) ∙ h
 
-there : {X : Type 0} (o : Option X) (x : X) → o ≡ some x → isThere o ≡ true
-there o x h = rw h
-
-found : {X : Type 0} (o : Option X) → isThere o ≡ true → (x : X) × (o ≡ some x)
+found : {X : Type 0} (o : Option X) → isSome o ≡ true → (x : X) × (o ≡ some x)
 found none h = absurd (false≢true h)
 found (some x) h = (x, refl)
 
@@ -231,7 +228,7 @@ distinct-snoc n (j ∷ ns) = rw (distinct-snoc n ns, member-snoc j n ns, eqb-tur
 
 pub found-append : {X : Type 0} (m : Map ℕ X) (ns ks : List ℕ) → allFound m (ns ++ ks) ≡ (allFound m ns && allFound m ks)
 found-append m [] ks = refl
-found-append m (n ∷ ns) ks = rw (found-append m ns ks) (go (isThere (lookup byNumber n m)) (allFound m ns) (allFound m ks))
+found-append m (n ∷ ns) ks = rw (found-append m ns ks) (go (isSome (lookup byNumber n m)) (allFound m ns) (allFound m ks))
   where
     go : (a b c : Bool) → (a && (b && c)) ≡ ((a && b) && c)
     go true b c = refl

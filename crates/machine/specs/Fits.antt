@@ -5,7 +5,7 @@ use mathlib.Core.List.{List, [], _∷_, map}
 use mathlib.Core.Option.{Option, none, some}
 use lib.Dec.{eqb}
 use lib.ListN.{length}
-use Rattle.machine.specs.Map.{Map, byNumber, lookup}
+use Rattle.machine.specs.Map.{isSome, Map, byNumber, lookup}
 use Rattle.machine.specs.State.{Part}
 
 -- n stands in the list
@@ -19,14 +19,10 @@ distinct [] = true
 distinct (n ∷ ns) = not (member n ns) && distinct ns
 
 module _ {X : Type 0} where
-  abbrev pub isThere : Option X → Bool
-  isThere none = false
-  isThere (some x) = true
-
   -- each number is a key
   abbrev pub allFound : Map ℕ X → List ℕ → Bool
   allFound m [] = true
-  allFound m (n ∷ ns) = isThere (lookup byNumber n m) && allFound m ns
+  allFound m (n ∷ ns) = isSome (lookup byNumber n m) && allFound m ns
 
   -- as many numbers as keys, each is a key, and none is listed twice
   unfoldable pub fits : List ℕ → Map ℕ X → Bool

@@ -3,7 +3,7 @@
 use Prim.Native.Nat.{ℕ, suc, _+_, compare, Ordering, Ordering·lt}
 use mathlib.Core.Path.{_≡_}
 use mathlib.Core.List.{List, [], _∷_, _++_}
-use mathlib.Core.Bool.{Bool, cond}
+use mathlib.Core.Bool.{Bool, true, false, cond}
 use mathlib.Core.Option.{Option, none, some}
 use Rattle.order.specs.Order.{by}
 
@@ -50,6 +50,12 @@ module _ {K X : Type 0} (f : X → ℕ) where
   abbrev pub total : Map K X → ℕ
   total [] = 0
   total (e ∷ m) = f (e .1) + total m
+
+-- whether there is a value
+module _ {X : Type 0} where
+  abbrev pub isSome : Option X → Bool
+  isSome none = false
+  isSome (some x) = true
 
 -- f of the value that is there, 0 where none is
 module _ {X : Type 0} (f : X → ℕ) where

@@ -4,13 +4,13 @@ use mathlib.Core.Path.{_≡_, refl, sym, ap, _∙_}
 use mathlib.Core.Bool.{true, false}
 use mathlib.Core.List.{List, []}
 use lib.ListN.{length}
-use Rattle.machine.specs.Map.{byNumber, lookup}
+use Rattle.machine.specs.Map.{isSome, byNumber, lookup}
 use Rattle.machine.specs.State.{State, withoutUpload}
 use Rattle.machine.specs.Calls.{ABORT, nothing, badRequest, accept}
 use Rattle.machine.specs.Steps.{act}
 use Rattle.layout.specs.Memory.{whole, stateOf, Stands}
 use Rattle.find.specs.declared.Place.{Place}
-use Rattle.find.specs.Places.{isSome, uploadPlace}
+use Rattle.find.specs.Places.{uploadPlace}
 use Rattle.find.proofs.Found.{is-some, is-none}
 use Rattle.calls.specs.Answers.{success}
 use Rattle.calls.specs.Made.{memory, resultOf, outcome, Made}

@@ -13,7 +13,7 @@ use Rattle.md5.specs.declared.words.Digest.{Digest}
 use Rattle.md5.specs.Md5 as rfc
 use Rattle.md5.specs.Md5.{bytesOf}
 use Rattle.md5.specs.DigestBytes.{digestBytes-is}
-use Rattle.machine.specs.Map.{byNumber, lookup, total}
+use Rattle.machine.specs.Map.{isSome, byNumber, lookup, total}
 use Rattle.machine.specs.Names.{Bytes, requestPartOk}
 use Rattle.machine.specs.Digest.{md5}
 use Rattle.machine.specs.Etags.{plain}
@@ -32,7 +32,7 @@ use Rattle.layout.specs.WholeLaws.{whole-stands}
 use Rattle.layout.specs.StandsLaws.{header-back}
 use Rattle.layout.specs.declared.Offset.{Offset}
 use Rattle.find.specs.declared.Place.{Place}
-use Rattle.find.specs.Places.{isSome, behind, beforePart, afterPart, partPlace, uploadPlace}
+use Rattle.find.specs.Places.{behind, beforePart, afterPart, partPlace, uploadPlace}
 use Rattle.find.proofs.Splits.{part-found}
 use Rattle.find.proofs.RowsAt.{At, row-at}
 use Rattle.find.proofs.Found.{is-some, is-none}

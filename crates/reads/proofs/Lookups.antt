@@ -9,7 +9,7 @@ use lib.ListN.{length, drop}
 use Rattle.number.specs.NumberLaws as number
 use Rattle.order.specs.Order.{byBytes}
 use Rattle.order.specs.OrderLaws.{bytes}
-use Rattle.machine.specs.Map.{lookup}
+use Rattle.machine.specs.Map.{isSome, lookup}
 use Rattle.machine.specs.Names.{Bytes, requestPathOk}
 use Rattle.machine.specs.Etags.{absent}
 use Rattle.machine.specs.State.{Object, State}
@@ -24,7 +24,7 @@ use Rattle.layout.specs.Memory.{whole, stateOf, objectRow, objectOf, Stands}
 use Rattle.layout.specs.ObjectLaws.{object-back}
 use Rattle.layout.specs.WholeLaws.{whole-stands}
 use Rattle.find.specs.declared.Place.{Place}
-use Rattle.find.specs.Places.{isSome, behind, beforeObject, afterObject, objectPlace}
+use Rattle.find.specs.Places.{behind, beforeObject, afterObject, objectPlace}
 use Rattle.find.proofs.RowsAt.{At, row-at}
 use Rattle.find.proofs.Splits.{object-found}
 use Rattle.calls.specs.Answers.{refused}

@@ -4,13 +4,13 @@ use mathlib.Core.Bool.{cond}
 use mathlib.Core.List.{List, [], _∷_}
 use lib.ListN.{drop}
 use Rattle.order.specs.Order.{byBytes}
-use Rattle.machine.specs.Map.{lookup}
+use Rattle.machine.specs.Map.{isSome, lookup}
 use Rattle.machine.specs.Names.{Bytes, requestPathOk}
 use Rattle.machine.specs.State.{Object, State}
 use Rattle.machine.specs.Calls.{Answer, metadata}
 use Rattle.row.specs.Row.{headAt, digestAt, rowAt}
 use Rattle.layout.specs.Memory.{etagOf, objectOf}
-use Rattle.find.specs.Places.{isSome, behind, beforeObject}
+use Rattle.find.specs.Places.{behind, beforeObject}
 use Rattle.reads.specs.declared.Named.{Named}
 use Rattle.reads.specs.declared.Named.the-variants as named
 

@@ -32,7 +32,7 @@ fn write_fields(
     number::put_u32(reply, 44, 0);
 }
 
-pub fn write(
+pub(crate) fn write(
     reply: &mut [u8],
     created: u64,
     size: u32,

@@ -110,7 +110,14 @@ fn mark_after(m: Mark, h: Head) -> Mark
 }
 
 // Whether the rows of uploads and parts stand from `from` on, just so many of each.
-pub fn entries_ok(t: &[u8], arena: &[u8], from: Offset, uploads: u16, parts: u16, next: u64) -> bool
+pub(crate) fn entries_ok(
+    t: &[u8],
+    arena: &[u8],
+    from: Offset,
+    uploads: u16,
+    parts: u16,
+    next: u64,
+) -> bool
     requires { ⌜ (from .at ≤ length (now t)) × (from .base ≤ length (now arena)) ⌝ }
     ensures { λ r. ⌜ r ≡ entriesOk next uploads 0 (uploads + parts) start from (now (t .entry)) (now (arena .entry)) ⌝ }
 {

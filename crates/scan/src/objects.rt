@@ -55,7 +55,7 @@ fn object_ok(last: &[u8], h: Head, path: &[u8]) -> bool
 }
 
 // Whether the rows of objects stand from `from` on, and where they end. The path of the row passed stands just before `at`.
-pub fn scan_objects(t: &[u8], arena: &[u8], from: Offset, rows: u16) -> Scan
+pub(crate) fn scan_objects(t: &[u8], arena: &[u8], from: Offset, rows: u16) -> Scan
     requires { ⌜ (from .at ≤ length (now t)) × (from .base ≤ length (now arena)) ⌝ }
     ensures { λ r. ⌜ r ≡ objectScan rows [] from (now (t .entry)) (now (arena .entry)) ⌝ }
 {

@@ -6,7 +6,7 @@ ghost use Rattle.scan.specs.Scan.{readingOf};
 use crate::Reading;
 
 // The head of the row at `at`, with its data at `base`, where the row is all in t and its data all in the arena.
-pub fn read_row(t: &[u8], at: usize, arena: &[u8], base: usize) -> Reading
+pub(crate) fn read_row(t: &[u8], at: usize, arena: &[u8], base: usize) -> Reading
     requires { ⌜ (at ≤ length (now t)) × (base ≤ length (now arena)) ⌝ }
     ensures { λ r. ⌜ r ≡ readingOf (drop at (now (t .entry))) (drop base (now (arena .entry))) ⌝ }
 {

@@ -171,7 +171,7 @@ fn changing_call(tables: &mut [u8], arena: &mut [u8], word: usize, line: &[u8]) 
 }
 
 // The call that the word says, with the line's fields; nothing for another word.
-pub fn run(tables: &mut [u8], arena: &mut [u8], word: usize, line: &[u8]) {
+pub(crate) fn run(tables: &mut [u8], arena: &mut [u8], word: usize, line: &[u8]) {
     if word <= UPLOADS {
         reading_call(tables, arena, word, line);
     } else if word <= ABORT {

@@ -10,7 +10,7 @@ use native.Mathlib.Omega.{arith}
 use lib.ListN.{length, getD, take, drop}
 use lib.Seq.{take-suc}
 use Rattle.order.specs.OrderLaws.{numbers, cases, above}
-use Rattle.machine.specs.Map.{Map, byNumber, lookup, place}
+use Rattle.machine.specs.Map.{isSome, Map, byNumber, lookup, place}
 use Rattle.machine.specs.State.{Upload, State, partsIn}
 use Rattle.machine.specs.Valid.{UploadOk}
 use Rattle.machine.proofs.MapLaws.{every-lookup}
@@ -22,7 +22,7 @@ use Rattle.layout.specs.Memory.{objectRows, uploadRow, partRows, uploadRows, ro
 use Rattle.layout.specs.TestLaws.{stored-path-length}
 use Rattle.find.specs.declared.RowPlace.{RowPlace}
 use Rattle.find.specs.declared.PassedParts.{PassedParts}
-use Rattle.find.specs.Places.{isSome, beforeUpload, beforeParts, throughParts, afterUpload, passedParts}
+use Rattle.find.specs.Places.{beforeUpload, beforeParts, throughParts, afterUpload, passedParts}
 use Rattle.find.specs.Search.{rowPlaceAt}
 use Rattle.find.proofs.RowsAt.{At, row-at}
 use Rattle.find.proofs.Splits.{upload-rows-append, upload-found}

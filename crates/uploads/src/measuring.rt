@@ -27,7 +27,7 @@ fn measure_one(path: &[u8], prefix: &[u8]) -> Counts
 }
 
 // How many records and bytes UPLOADS has.
-pub fn measure(tables: &[u8], arena: &[u8], prefix: &[u8]) -> Counts
+pub(crate) fn measure(tables: &[u8], arena: &[u8], prefix: &[u8]) -> Counts
     requires { ⌜ whole (now tables) (now arena) ≡ true ⌝ }
     ensures { λ r. ⌜ (r .records ≡ length (openUnder (now (prefix .entry)) (stateOf (now (tables .entry)) (now (arena .entry)) .U))) × (r .bytes ≡ length (records uploadRecord (openUnder (now (prefix .entry)) (stateOf (now (tables .entry)) (now (arena .entry)) .U)))) ⌝ }
 {

@@ -4,11 +4,11 @@ ghost use mathlib.Core.Path.{_≡_};
 ghost use mathlib.Core.Bool.{true};
 ghost use mathlib.Core.Option.{some};
 ghost use lib.ListN.{length, drop};
-ghost use Rattle.machine.specs.Map.{byNumber, lookup};
+ghost use Rattle.machine.specs.Map.{isSome, byNumber, lookup};
 ghost use Rattle.machine.specs.State.{Upload};
 ghost use Rattle.row.specs.Row.{headAt};
 ghost use Rattle.layout.specs.Memory.{whole, stateOf, rowsOf};
-ghost use Rattle.find.specs.Places.{isSome, beforeUpload};
+ghost use Rattle.find.specs.Places.{beforeUpload};
 ghost use Rattle.find.specs.Search.{rowPlaceAt};
 ghost use Rattle.uploads.specs.Rows.{uploadRowPlace, RowRead};
 
@@ -23,7 +23,7 @@ pub struct OpenUpload {
 }
 
 // How many uploads are open.
-pub fn open_count(tables: &[u8], arena: &[u8]) -> usize
+pub(crate) fn open_count(tables: &[u8], arena: &[u8]) -> usize
     requires { ⌜ whole (now tables) (now arena) ≡ true ⌝ }
     ensures { λ r. ⌜ r ≡ length (stateOf (now (tables .entry)) (now (arena .entry)) .U) ⌝ }
 {
@@ -32,7 +32,7 @@ pub fn open_count(tables: &[u8], arena: &[u8]) -> usize
 }
 
 // The first upload's row: at the place of number 0, which no upload has.
-pub fn first_row(tables: &[u8], arena: &[u8]) -> RowPlace
+pub(crate) fn first_row(tables: &[u8], arena: &[u8]) -> RowPlace
     requires { ⌜ whole (now tables) (now arena) ≡ true ⌝ }
     ensures { λ r. ⌜ r ≡ uploadRowPlace (stateOf (now (tables .entry)) (now (arena .entry))) 0 ⌝ }
 {
@@ -40,7 +40,7 @@ pub fn first_row(tables: &[u8], arena: &[u8]) -> RowPlace
 }
 
 // The upload whose row stands there.
-pub fn read_upload(tables: &[u8], arena: &[u8], here: RowPlace) -> OpenUpload
+pub(crate) fn read_upload(tables: &[u8], arena: &[u8], here: RowPlace) -> OpenUpload
     requires { ⌜ (whole (now tables) (now arena) ≡ true) × (isSome (lookup byNumber (headAt (drop (here .at) (now tables)) .number) (stateOf (now tables) (now arena) .U)) ≡ true) × (here ≡ rowPlaceAt (rowsOf (stateOf (now tables) (now arena))) (length (beforeUpload (stateOf (now tables) (now arena)) (headAt (drop (here .at) (now tables)) .number)))) ⌝ }
     ensures { λ r. ⌜ ((x : Upload) → lookup byNumber (headAt (drop (here .at) (now (tables .entry))) .number) (stateOf (now (tables .entry)) (now (arena .entry)) .U) ≡ some x → RowRead (now (tables .entry)) (stateOf (now (tables .entry)) (now (arena .entry))) here x r) ⌝ }
 {

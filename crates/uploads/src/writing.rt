@@ -52,7 +52,7 @@ fn write_one(
 }
 
 // The records, to the front of the answer buffer.
-pub fn write(tables: &[u8], arena: &[u8], prefix: &[u8], answer: &mut [u8])
+pub(crate) fn write(tables: &[u8], arena: &[u8], prefix: &[u8], answer: &mut [u8])
     requires { ⌜ (whole (now tables) (now arena) ≡ true) × (length (records uploadRecord (openUnder (now prefix) (stateOf (now tables) (now arena) .U))) ≤ length (now answer)) ⌝ }
     ensures { λ _. ⌜ now (answer .exit) ≡ records uploadRecord (openUnder (now (prefix .entry)) (stateOf (now (tables .entry)) (now (arena .entry)) .U)) ++ drop (length (records uploadRecord (openUnder (now (prefix .entry)) (stateOf (now (tables .entry)) (now (arena .entry)) .U)))) (now (answer .entry)) ⌝ }
 {

@@ -7,14 +7,14 @@ use mathlib.Core.Option.{some}
 use lib.ListN.{length}
 use Rattle.types.specs.declared.DoneAnswer.{DoneAnswer}
 use Rattle.order.specs.Order.{byBytes}
-use Rattle.machine.specs.Map.{lookup}
+use Rattle.machine.specs.Map.{isSome, lookup}
 use Rattle.machine.specs.Names.{Bytes, requestPathOk}
 use Rattle.machine.specs.State.{Object, State, withoutObject}
 use Rattle.machine.specs.Calls.{DELETE, nothing, Outcome, accept, badRequest, notFound, given}
 use Rattle.machine.specs.Steps.{act}
 use Rattle.layout.specs.Memory.{Stands}
 use Rattle.find.specs.declared.Place.{Place}
-use Rattle.find.specs.Places.{isSome, objectPlace}
+use Rattle.find.specs.Places.{objectPlace}
 use Rattle.find.proofs.Found.{is-some, is-none}
 use Rattle.edit.proofs.PutLaws.{place-found}
 use Rattle.calls.specs.Answers.{doneReply}

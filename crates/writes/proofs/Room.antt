@@ -9,7 +9,7 @@ use lib.Dec.{leb}
 use lib.ListN.{length, drop}
 use Rattle.number.specs.NumberLaws.{Bytes}
 use Rattle.order.specs.Order.{byBytes}
-use Rattle.machine.specs.Map.{lookup}
+use Rattle.machine.specs.Map.{isSome, lookup}
 use Rattle.machine.specs.State.{Object, State, objectLength, held}
 use Rattle.machine.specs.Steps.{putAt}
 use Rattle.row.specs.declared.Head.{Head}
@@ -20,7 +20,7 @@ use Rattle.layout.specs.RowCounts.{length-contents}
 use Rattle.layout.specs.WholeLaws.{whole-stands}
 use Rattle.layout.specs.declared.Offset.{Offset}
 use Rattle.find.specs.declared.Place.{Place}
-use Rattle.find.specs.Places.{isSome, behind, beforeObject, afterObject, objectPlace}
+use Rattle.find.specs.Places.{behind, beforeObject, afterObject, objectPlace}
 use Rattle.find.proofs.Splits.{object-found}
 use Rattle.find.proofs.RowsAt.{row-at}
 use Rattle.find.proofs.Found.{is-some, is-none}

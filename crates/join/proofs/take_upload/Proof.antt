@@ -5,12 +5,12 @@ use mathlib.Core.List.{List}
 use native.Mathlib.Omega.{arith}
 use borrow.Author.Needs.{needs}
 use lib.ListN.{length}
+use Rattle.machine.specs.Map.{isSome}
 use Rattle.machine.specs.State.{State}
 use Rattle.layout.specs.declared.Header.{Header}
 use Rattle.layout.specs.Memory.{stateOf, headerAt, Stands}
 use Rattle.layout.specs.StandsLaws.{header-back}
 use Rattle.layout.specs.WholeLaws.{whole-stands}
-use Rattle.find.specs.Places.{isSome}
 use Rattle.edit.specs.Header.{headerOf}
 use Rattle.calls.specs.Answers.{partList}
 use Rattle.join.specs.declared.Bounds.{Bounds}

@@ -1,8 +1,8 @@
 -- `edit_uploads::parts::add_part` meets its contract: one row is put in, and its data turned into place. Assumes nothing.
 use mathlib.Core.Path.{ap}
 use mathlib.Core.Option.{Option}
+use Rattle.machine.specs.Map.{isSome}
 use Rattle.machine.specs.State.{Upload}
-use Rattle.find.specs.Places.{isSome}
 use Rattle.edit.proofs.ObjectEdits.{header-inside}
 use Rattle.edit_uploads.proofs.PartEdits.{Adding, adding}
 use native.Mathlib.Omega.{arith}

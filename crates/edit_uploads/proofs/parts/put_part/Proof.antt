@@ -3,11 +3,11 @@
 use mathlib.Core.Path.{ap}
 use mathlib.Core.Option.{Option}
 use lib.ListN.{length}
+use Rattle.machine.specs.Map.{isSome}
 use Rattle.machine.specs.State.{Upload, withUpload}
 use Rattle.layout.specs.Memory.{stateOf}
 use Rattle.layout.specs.WholeLaws.{whole-stands}
 use Rattle.layout.specs.StandsLaws.{stands-whole}
-use Rattle.find.specs.Places.{isSome}
 use Rattle.edit_uploads.specs.Parts.{withoutPart}
 use Rattle.edit_uploads.proofs.PartPuts.{put-room, Putting, putting}
 use borrow.Author.Needs.{needs}

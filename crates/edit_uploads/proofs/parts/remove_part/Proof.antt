@@ -1,8 +1,8 @@
 -- `edit_uploads::parts::remove_part` meets its contract: one row and its data are cut out. Assumes nothing.
 use mathlib.Core.Path.{ap}
 use mathlib.Core.Option.{Option}
+use Rattle.machine.specs.Map.{isSome}
 use Rattle.machine.specs.State.{Upload}
-use Rattle.find.specs.Places.{isSome}
 use Rattle.edit.proofs.ObjectEdits.{header-inside}
 use Rattle.edit_uploads.proofs.PartEdits.{Removal, removal, Cutting, cutting}
 use native.Mathlib.Omega.{arith}

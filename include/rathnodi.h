@@ -75,8 +75,8 @@ enum {
     RATHNODI_ETAG_JOINED = 2  /* the MD5 of the parts' MD5s in listed order */
 };
 
-/* A reply, by offset; numbers are low byte first. A call that has a reply writes all of it, with 0 in the fields that
- * are not its own. */
+/* A reply, by offset; numbers are low byte first. On success a call that has a reply writes all of it, with 0 in the
+ * fields that are not its own. */
 enum {
     RATHNODI_REPLY_CREATED = 0,      /* 8 bytes: get, head */
     RATHNODI_REPLY_LENGTH = 8,       /* 4 bytes: get, head */

@@ -41,7 +41,7 @@ returns-2 c =
     let a = c .before .before .before .before .before .before .before .before .before .before .before .args in
     let w = sym (c .before .before .before .before .before .whole .ensures) ∙ not-false _ (c .before .before .before .before .if1 .left) in
     let j = c .before .commit-judge in
-    (judged (COMMIT (a .upload .0) (partList (a .list .now))) (memory (a .tables .now) (a .arena .now)) (j .result) w (j .ensures) (omega (arith, c .if2 .taken)), λ e. c .if2 .taken e)
+    (judged (COMMIT (a .upload .0) (partList (a .list .now))) (memory (a .tables .now) (a .arena .now)) (j .result) w (j .ensures) (omega (arith, c .if2 .taken)), λ e. omega (arith, c .if2 .taken))
 
 join-requires : tie.Need-join-requires
 join-requires c κs =

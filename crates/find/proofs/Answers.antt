@@ -93,12 +93,12 @@ pub upload-within : (s : State) (u : ℕ) → length (beforeUpload s u) ≤ leng
 upload-within s u = omega (arith, ap length (upload-place s u), length-append (beforeUpload s u) (fromUpload s u))
 
 pub found-upload : (s : State) (u : ℕ) (p : RowPlace) (found : Bool) → p ≡ rowPlaceAt (rowsOf s) (length (beforeUpload s u)) → found ≡ leads 2 u (drop (p .row) (rowsOf s))
-    → record { found = found; at = p .at; base = p .base } ≡ uploadPlace s u
+    → record { found = found; row = p .row; at = p .at; base = p .base } ≡ uploadPlace s u
 unfolding uploadPlace fromUpload
 found-upload s u p found e f =
     let k = place-behind (rowsOf s) (beforeUpload s u) (fromUpload s u) p (upload-place s u) e in
     let g : found ≡ isSome (lookup byNumber u (s .U)) = f ∙ ap (leads 2 u) (k .rest) ∙ upload-leads u (s .U) in
-    λ i. record { found = g i; at = k .at i; base = k .base i }
+    λ i. record { found = g i; row = k .row i; at = k .at i; base = k .base i }
 
 pub open-within : (s : State) (u : ℕ) → isSome (lookup byNumber u (s .U)) ≡ true → length (beforeUpload s u) < length (rowsOf s)
 open-within s u e =
@@ -127,7 +127,7 @@ module _ (s : State) (u : ℕ) (x : Upload) (f : lookup byNumber u (s .U) ≡ so
   first-row = place-row (rowsOf s) first _ e ∙ sym (length-append (beforeUpload s u) (uploadRow u x ∷ []))
 
   pub found-part : (n : ℕ) (p : RowPlace) (found : Bool) → p ≡ sought (goal.Part n) (rowsOf s) (first .row) → found ≡ leads 3 n (drop (p .row) (rowsOf s))
-      → record { found = found; at = p .at; base = p .base } ≡ partPlace s u x n
+      → record { found = found; row = p .row; at = p .at; base = p .base } ≡ partPlace s u x n
   unfolding partPlace beforePart fromPart afterUpload
   found-part n p found q r =
       let ps = x .parts in
@@ -135,7 +135,7 @@ module _ (s : State) (u : ℕ) (x : Upload) (f : lookup byNumber u (s .U) ≡ so
       let m = sought-behind (goal.Part n) (rowsOf s) (beforeParts s u x) (partRows ps ++ afterUpload s u) z (first .row) (parts-place s u x f) first-row (reach-part n ps _) in
       let k = place-behind (rowsOf s) (beforePart s u x n) (fromPart s u x n) p (part-place s u x f n) (q ∙ m) in
       let g : found ≡ isSome (lookup byNumber n ps) = r ∙ ap (leads 3 n) (k .rest) ∙ part-leads n ps _ in
-      λ i. record { found = g i; at = k .at i; base = k .base i }
+      λ i. record { found = g i; row = k .row i; at = k .at i; base = k .base i }
 
   pub all-parts : (p : RowPlace) → p ≡ sought goal.NextUpload (rowsOf s) (first .row) → record { count = p .row - first .row; next = p } ≡ passedParts s u x
   unfolding passedParts throughParts afterUpload

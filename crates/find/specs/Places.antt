@@ -20,7 +20,7 @@ abbrev pub behind : List Row → Offset
 behind rs = record { at = 18 + length (encodeRows rs); base = length (contentsOf rs) }
 
 abbrev pub placeBehind : Bool → List Row → Place
-placeBehind found rs = record { found = found; at = 18 + length (encodeRows rs); base = length (contentsOf rs) }
+placeBehind found rs = record { found = found; row = length rs; at = 18 + length (encodeRows rs); base = length (contentsOf rs) }
 
 -- the rows before those of the object at a path, of an upload, of an upload's parts, of a part, and of what follows an upload's parts
 unfoldable pub beforeObject : State → Bytes → List Row

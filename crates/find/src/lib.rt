@@ -1,4 +1,4 @@
-// Readers of whole memory: where an object, an upload or a part stands.
+// Readers of whole memory: where an object, an upload or a part stands, how many there are, and how much is held.
 use layout::Offset;
 use order::Order;
 use row::Head;
@@ -7,15 +7,16 @@ ghost use mathlib.Core.Bool.{true};
 ghost use Prim.Native.Nat.{ℕ, _+_, _<_};
 ghost use lib.ListN.{length, drop};
 ghost use mathlib.Core.Option.{some};
-ghost use Rattle.machine.specs.Map.{isSome, byNumber, lookup};
-ghost use Rattle.machine.specs.State.{Upload};
+ghost use Rattle.machine.specs.Map.{isSome, byNumber, lookup, total};
+ghost use Rattle.machine.specs.State.{Upload, partsIn, held};
 ghost use Rattle.layout.specs.Memory.{whole, stateOf, rowsOf};
 ghost use Rattle.find.specs.Places.{behind, beforeUpload, objectPlace, uploadPlace, partPlace, passedParts, partsOf};
 ghost use Rattle.find.specs.Search.{stopsAt, sought, rowPlaceAt, IsRowPlace, leads};
 
-// The offset of what was looked for, or where it would stand.
+// Whether what was looked for is there, and the place of its row, or of the row before which it would stand.
 pub struct Place {
     pub found: bool,
+    pub row: usize,
     pub at: usize,
     pub base: usize,
 }
@@ -42,12 +43,30 @@ pub struct PassedParts {
 }
 
 // How many objects there are.
-fn object_count(tables: &[u8], arena: &[u8]) -> usize
+pub fn object_count(tables: &[u8], arena: &[u8]) -> usize
     requires { ⌜ whole (now tables) (now arena) ≡ true ⌝ }
     ensures { λ r. ⌜ r ≡ length (stateOf (now (tables .entry)) (now (arena .entry)) .O) ⌝ }
 {
-    let h = layout::headers::read_header(tables);
-    h.objects as usize
+    let header = layout::headers::read_header(tables);
+    header.objects as usize
+}
+
+// How many uploads are open.
+pub fn upload_count(tables: &[u8], arena: &[u8]) -> usize
+    requires { ⌜ whole (now tables) (now arena) ≡ true ⌝ }
+    ensures { λ r. ⌜ r ≡ length (stateOf (now (tables .entry)) (now (arena .entry)) .U) ⌝ }
+{
+    let header = layout::headers::read_header(tables);
+    header.uploads as usize
+}
+
+// How many parts there are over all uploads.
+pub fn part_count(tables: &[u8], arena: &[u8]) -> usize
+    requires { ⌜ whole (now tables) (now arena) ≡ true ⌝ }
+    ensures { λ r. ⌜ r ≡ total partsIn (stateOf (now (tables .entry)) (now (arena .entry)) .U) ⌝ }
+{
+    let header = layout::headers::read_header(tables);
+    header.parts as usize
 }
 
 // The place of the object at `path`.
@@ -69,6 +88,7 @@ pub fn find_object(tables: &[u8], arena: &[u8], path: &[u8]) -> Place
             Order::Equal => {
                 return Place {
                     found: true,
+                    row: i,
                     at,
                     base,
                 };
@@ -76,6 +96,7 @@ pub fn find_object(tables: &[u8], arena: &[u8], path: &[u8]) -> Place
             Order::Less => {
                 return Place {
                     found: false,
+                    row: i,
                     at,
                     base,
                 };
@@ -87,6 +108,7 @@ pub fn find_object(tables: &[u8], arena: &[u8], path: &[u8]) -> Place
     }
     Place {
         found: false,
+        row: i,
         at,
         base,
     }
@@ -208,6 +230,15 @@ pub fn rows_end(tables: &[u8], arena: &[u8]) -> Offset
     }
 }
 
+// The sum of the lengths of all data.
+pub fn held(tables: &[u8], arena: &[u8]) -> usize
+    requires { ⌜ whole (now tables) (now arena) ≡ true ⌝ }
+    ensures { λ r. ⌜ r ≡ held (stateOf (now (tables .entry)) (now (arena .entry))) ⌝ }
+{
+    let end = rows_end(tables, arena);
+    end.base
+}
+
 // The place of the upload with this number.
 pub fn find_upload(tables: &[u8], arena: &[u8], upload: u32) -> Place
     requires { ⌜ whole (now tables) (now arena) ≡ true ⌝ }
@@ -217,6 +248,7 @@ pub fn find_upload(tables: &[u8], arena: &[u8], upload: u32) -> Place
     let found = stands(tables, arena, here, 2, upload);
     Place {
         found,
+        row: here.row,
         at: here.at,
         base: here.base,
     }
@@ -231,6 +263,7 @@ pub fn find_part_from(tables: &[u8], arena: &[u8], first: RowPlace, number: u16)
     let found = stands(tables, arena, here, 3, number as u32);
     Place {
         found,
+        row: here.row,
         at: here.at,
         base: here.base,
     }

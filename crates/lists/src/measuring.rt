@@ -48,8 +48,7 @@ pub(crate) fn measure_rows(tables: &[u8], arena: &[u8], prefix: &[u8], suffix: &
     ensures { λ r. ⌜ (r .records ≡ length (listed (now (prefix .entry)) (now (suffix .entry)) (stateOf (now (tables .entry)) (now (arena .entry)) .O)))
         × (r .bytes ≡ length (listing (now (prefix .entry)) (now (suffix .entry)) (stateOf (now (tables .entry)) (now (arena .entry))))) ⌝ }
 {
-    let header = layout::headers::read_header(tables);
-    let objects = header.objects as usize;
+    let objects = find::object_count(tables, arena);
     let mut at: usize = 18;
     let mut records: u32 = 0;
     let mut bytes: u32 = 0;

@@ -38,8 +38,7 @@ pub(crate) fn write_rows(
     requires { ⌜ (whole (now tables) (now arena) ≡ true) × (length (listing (now prefix) (now suffix) (stateOf (now tables) (now arena))) ≤ length (now answer)) ⌝ }
     ensures { λ _. ⌜ now (answer .exit) ≡ listing (now (prefix .entry)) (now (suffix .entry)) (stateOf (now (tables .entry)) (now (arena .entry))) ++ drop (length (listing (now (prefix .entry)) (now (suffix .entry)) (stateOf (now (tables .entry)) (now (arena .entry))))) (now (answer .entry)) ⌝ }
 {
-    let header = layout::headers::read_header(tables);
-    let objects = header.objects as usize;
+    let objects = find::object_count(tables, arena);
     let mut at: usize = 18;
     let mut to: usize = 0;
     let mut i: usize = 0;

@@ -22,15 +22,6 @@ pub struct OpenUpload {
     pub next: RowPlace,
 }
 
-// How many uploads are open.
-pub(crate) fn open_count(tables: &[u8], arena: &[u8]) -> usize
-    requires { ⌜ whole (now tables) (now arena) ≡ true ⌝ }
-    ensures { λ r. ⌜ r ≡ length (stateOf (now (tables .entry)) (now (arena .entry)) .U) ⌝ }
-{
-    let h = layout::headers::read_header(tables);
-    h.uploads as usize
-}
-
 // The first upload's row: at the place of number 0, which no upload has.
 pub(crate) fn first_row(tables: &[u8], arena: &[u8]) -> RowPlace
     requires { ⌜ whole (now tables) (now arena) ≡ true ⌝ }

@@ -1,6 +1,6 @@
 -- `lists::measuring::measure_rows` meets its contract. The invariant: the records and bytes of the objects passed. Assumes nothing.
 use Prim.Native.Nat.{ℕ, _+_, _-_, _≤_, _<_}
-use mathlib.Core.Path.{_≡_, ap, _∙_}
+use mathlib.Core.Path.{_≡_, ap}
 use mathlib.Core.List.{List}
 use native.Mathlib.Omega.{arith}
 use borrow.Author.Needs.{needs}
@@ -8,9 +8,7 @@ use lib.ListN.{length, drop}
 use Rattle.machine.specs.State.{State}
 use Rattle.row.specs.declared.Head.{Head}
 use Rattle.row.specs.Row.{headAt}
-use Rattle.layout.specs.declared.Header.{Header}
 use Rattle.layout.specs.Memory.{stateOf, Stands}
-use Rattle.layout.specs.StandsLaws.{header-back}
 use Rattle.layout.specs.WholeLaws.{whole-stands}
 use Rattle.lists.proofs.ObjectRows.{Walked, row-inside, walked-none, walked-next, walked-all}
 use Rattle.lists.proofs.measuring.measure_rows.Statement.{statement}
@@ -22,19 +20,16 @@ Inv-loop tables arena prefix suffix objects at₀ records₀ bytes₀ i₀ at re
 abbrev μ-loop : tie.MeasureT-loop
 μ-loop tables arena prefix suffix objects at₀ records₀ bytes₀ i₀ at records bytes i = objects - i
 
-read-header-requires : tie.Need-read-header-requires Inv-loop μ-loop
-read-header-requires c κs = let k = c .before .before .before .before in let z = whole-stands (k .args .tables .now) (k .args .arena .now) (λ j. c .before .before .before .shared-slice-known .given j .fits) (k .pre) .size in omega arith
-
-cast-objects : tie.Need-cast-objects Inv-loop μ-loop
-cast-objects c = search needs
+object-count-requires : tie.Need-object-count-requires Inv-loop μ-loop
+object-count-requires c κs = search needs
 
 loop-holds : tie.Need-loop-holds Inv-loop μ-loop
-loop-holds c = let k = c .before .before .before .before .before .before in walked-none (stateOf (k .args .tables .now) (k .args .arena .now)) (k .args .prefix .now) (k .args .suffix .now)
+loop-holds c = let k = c .before .before .before .before .before in walked-none (stateOf (k .args .tables .now) (k .args .arena .now)) (k .args .prefix .now) (k .args .suffix .now)
 
--- in the loop: memory stands for its state, and the header has the count of its objects
+-- in the loop: memory stands for its state, and the count is that of its objects
 module _ (c : tie.At-loop Inv-loop μ-loop) where
   abbrev start : tie.Start Inv-loop μ-loop
-  start = c .before .before .before .before .before .before .before
+  start = c .before .before .before .before .before .before
 
   abbrev t : List ℕ
   t = start .args .tables .now
@@ -46,10 +41,10 @@ module _ (c : tie.At-loop Inv-loop μ-loop) where
   s = stateOf t a
 
   stands : Stands t a s
-  stands = whole-stands t a (λ j. c .before .before .before .before .before .before .shared-slice-known .given j .fits) (start .pre)
+  stands = whole-stands t a (λ j. c .before .before .before .before .before .shared-slice-known .given j .fits) (start .pre)
 
-  counted : c .before .before .read-header .result .objects ≡ length (s .O)
-  counted = ap (λ (x : Header). x .objects) (c .before .before .read-header .ensures ∙ header-back t a s stands)
+  counted : c .before .object-count .result ≡ length (s .O)
+  counted = c .before .object-count .ensures
 
 -- the row at hand
 module _ (c : tie.In-loop Inv-loop μ-loop) where
@@ -58,6 +53,9 @@ module _ (c : tie.In-loop Inv-loop μ-loop) where
 
   more : l .loop .i < length (s l .O)
   more = let k = c .loop-test .taken in omega (arith, counted l)
+
+  few : l .loop .i < 256
+  few = let p = stands l .valid .paths in omega (arith, more)
 
   inside : l .loop .at + 36 + headAt (drop (l .loop .at) (t l)) .pathlen ≤ length (t l)
   inside = row-inside (t l) (a l) (s l) (stands l) (l .loop .i) (l .loop .at) (l .loop .inv .rows) more
@@ -82,10 +80,10 @@ add-at-2 : tie.Need-add-at-2 Inv-loop μ-loop
 add-at-2 c = omega (arith, path-inside (c .before .before))
 
 add-records : tie.Need-add-records Inv-loop μ-loop
-add-records c = let w = c .before .before .before .before .before .loop .inv .few in let m = c .before .before .measure-row .ensures .2 in omega arith
+add-records c = let i = c .before .before .before .before in let w = i .before .loop .inv .few in let m = c .before .before .measure-row .ensures .2 in omega (arith, few i)
 
 add-bytes : tie.Need-add-bytes Inv-loop μ-loop
-add-bytes c = let w = c .before .before .before .before .before .before .loop .inv .small in let m = c .before .before .before .measure-row .ensures .3 in omega arith
+add-bytes c = let i = c .before .before .before .before .before in let w = i .before .loop .inv .small in let m = c .before .before .before .measure-row .ensures .3 in omega (arith, few i)
 
 add-i : tie.Need-add-i Inv-loop μ-loop
 add-i c = omega arith
@@ -111,8 +109,7 @@ measure-rows-spec =
     (tie.spec
     Inv-loop
     μ-loop
-    read-header-requires
-    cast-objects
+    object-count-requires
     loop-holds
     read-head-requires
     measure-row-requires

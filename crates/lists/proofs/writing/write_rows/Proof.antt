@@ -1,6 +1,6 @@
 -- `lists::writing::write_rows` meets its contract. The invariant: the records of the objects passed stand at the front. Assumes nothing.
 use Prim.Native.Nat.{ℕ, _+_, _-_, _≤_, _<_}
-use mathlib.Core.Path.{_≡_, ap, _∙_}
+use mathlib.Core.Path.{_≡_, ap}
 use mathlib.Core.List.{List}
 use native.Mathlib.Omega.{arith}
 use borrow.Author.Needs.{needs}
@@ -8,9 +8,7 @@ use lib.ListN.{length, drop}
 use Rattle.machine.specs.State.{State}
 use Rattle.row.specs.declared.Head.{Head}
 use Rattle.row.specs.Row.{headAt}
-use Rattle.layout.specs.declared.Header.{Header}
 use Rattle.layout.specs.Memory.{stateOf, Stands}
-use Rattle.layout.specs.StandsLaws.{header-back}
 use Rattle.layout.specs.WholeLaws.{whole-stands}
 use Rattle.lists.proofs.ObjectRows.{row-inside}
 use Rattle.lists.proofs.RowsWritten.{Written, written-none, written-room, written-next, written-all}
@@ -23,19 +21,16 @@ Inv-loop tables arena prefix suffix answer₀ objects at₀ to₀ i₀ answer at
 abbrev μ-loop : tie.MeasureT-loop
 μ-loop tables arena prefix suffix answer₀ objects at₀ to₀ i₀ answer at to i = objects - i
 
-read-header-requires : tie.Need-read-header-requires Inv-loop μ-loop
-read-header-requires c κs = let k = c .before .before .before .before .before in let z = whole-stands (k .args .tables .now) (k .args .arena .now) (λ j. c .before .before .before .before .shared-slice-known .given j .fits) (k .pre .0) .size in omega arith
-
-cast-objects : tie.Need-cast-objects Inv-loop μ-loop
-cast-objects c = search needs
+object-count-requires : tie.Need-object-count-requires Inv-loop μ-loop
+object-count-requires c κs = search needs
 
 loop-holds : tie.Need-loop-holds Inv-loop μ-loop
-loop-holds c = let x = c .before .before .before .before .before .before .before .args in written-none (stateOf (x .tables .now) (x .arena .now)) (x .prefix .now) (x .suffix .now) (x .answer .now)
+loop-holds c = let x = c .before .before .before .before .before .before .args in written-none (stateOf (x .tables .now) (x .arena .now)) (x .prefix .now) (x .suffix .now) (x .answer .now)
 
--- in the loop: memory stands for its state, and the header has the count of its objects
+-- in the loop: memory stands for its state, and the count is that of its objects
 module _ (c : tie.At-loop Inv-loop μ-loop) where
   abbrev start : tie.Start Inv-loop μ-loop
-  start = c .before .before .before .before .before .before .before .before
+  start = c .before .before .before .before .before .before .before
 
   abbrev t : List ℕ
   t = start .args .tables .now
@@ -47,10 +42,10 @@ module _ (c : tie.At-loop Inv-loop μ-loop) where
   s = stateOf t a
 
   stands : Stands t a s
-  stands = whole-stands t a (λ j. c .before .before .before .before .before .before .before .shared-slice-known .given j .fits) (start .pre .0)
+  stands = whole-stands t a (λ j. c .before .before .before .before .before .before .shared-slice-known .given j .fits) (start .pre .0)
 
-  counted : c .before .before .read-header .result .objects ≡ length (s .O)
-  counted = ap (λ (x : Header). x .objects) (c .before .before .read-header .ensures ∙ header-back t a s stands)
+  counted : c .before .object-count .result ≡ length (s .O)
+  counted = c .before .object-count .ensures
 
 -- the row at hand
 module _ (c : tie.In-loop Inv-loop μ-loop) where
@@ -107,8 +102,7 @@ write-rows-spec =
     (tie.spec
     Inv-loop
     μ-loop
-    read-header-requires
-    cast-objects
+    object-count-requires
     loop-holds
     read-head-requires
     write-row-requires

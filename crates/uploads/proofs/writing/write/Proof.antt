@@ -19,8 +19,8 @@ Inv-loop tables arena prefix answer₀ uploads here₀ n₀ i₀ answer here n i
 abbrev μ-loop : tie.MeasureT-loop
 μ-loop tables arena prefix answer₀ uploads here₀ n₀ i₀ answer here n i = uploads - i
 
-open-count-requires : tie.Need-open-count-requires Inv-loop μ-loop
-open-count-requires c κs = search needs
+upload-count-requires : tie.Need-upload-count-requires Inv-loop μ-loop
+upload-count-requires c κs = search needs
 
 first-row-requires : tie.Need-first-row-requires Inv-loop μ-loop
 first-row-requires c κs = search needs
@@ -45,8 +45,8 @@ module _ (c : tie.At-loop Inv-loop μ-loop) where
   stands : Stands t a s
   stands = whole-stands t a (λ j. c .before .before .before .before .before .before .shared-slice-known .given j .fits) (start .pre .0)
 
-  counted : c .before .before .open-count .result ≡ length (s .U)
-  counted = c .before .before .open-count .ensures
+  counted : c .before .before .upload-count .result ≡ length (s .U)
+  counted = c .before .before .upload-count .ensures
 
 more : (c : tie.In-loop Inv-loop μ-loop) → c .before .loop .i < length (s (c .before) .U)
 more c = let n = c .loop-test .taken in omega (arith, counted (c .before))
@@ -109,7 +109,7 @@ write-spec =
     (tie.spec
     Inv-loop
     μ-loop
-    open-count-requires
+    upload-count-requires
     first-row-requires
     loop-holds
     read-upload-requires

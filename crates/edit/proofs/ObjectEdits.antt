@@ -54,7 +54,7 @@ module _ (t a : List ℕ) (b : Bytes t) (w : whole t a ≡ true) where
   pub header-inside : 18 ≤ length t
   header-inside = let z = stands .size in omega arith
 
-  pub header-is : headerAt t ≡ headerOf (length a) s
+  header-is : headerAt t ≡ headerOf (length a) s
   header-is = header-back t a s stands
 
   module _ (p : List ℕ) (place : Place) (place-is : place ≡ objectPlace s p) (end : Offset) (end-is : end ≡ behind (rowsOf s)) where

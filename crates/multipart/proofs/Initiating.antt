@@ -68,13 +68,7 @@ module _ (t a p : List ℕ) (b : Bytes t) (w : whole t a ≡ true) (stamp : ℕ)
   opens : length (insert byNumber (s .N) (newUpload stamp p) (s .U)) ≡ length (s .U) + 1
   opens = let l = length-insert numbers (s .N) (newUpload stamp p) (s .U) in omega (arith, rw (absent (s .N) (s .U) (stands .valid .upload)) at l)
 
-  module _ (e : stampOk stamp ≡ true) (f : newPathOk p ≡ true) (header : Header) (read : header ≡ headerAt t) where
-    uploads-is : header .uploads ≡ length (s .U)
-    uploads-is = ap (λ (h : Header). h .uploads) (read ∙ header-is)
-
-    pub next-is : header .next ≡ s .N
-    next-is = ap (λ (h : Header). h .next) (read ∙ header-is)
-
+  module _ (e : stampOk stamp ≡ true) (f : newPathOk p ≡ true) (uploads : ℕ) (uploads-are : uploads ≡ length (stateOf t a .U)) where
     request-ok : act (length a) s (INITIATE stamp p) ≡ checks
     unfolding act
     request-ok = pass (stampOk stamp && newPathOk p) badRequest checks (rw (e, f))
@@ -82,12 +76,15 @@ module _ (t a p : List ℕ) (b : Bytes t) (w : whole t a ≡ true) (stamp : ℕ)
     counted-is : counted s′ ≡ leb (length (s .U) + 1) 16
     counted-is = initiate-counted (length a) s (stands .valid) (s .N) stamp p ∙ ap (λ (n : ℕ). leb n 16) opens
 
-    pub full : 16 ≤ header .uploads → 4 ≡ resultOf (act (length a) s (INITIATE stamp p))
-    full l = sym (ap resultOf (request-ok ∙ stop (counted s′) tableFull counts (counted-is ∙ lt-leb (length (s .U) + 1) 16 (omega (arith, uploads-is)))))
+    pub full : 16 ≤ uploads → 4 ≡ resultOf (act (length a) s (INITIATE stamp p))
+    full l = sym (ap resultOf (request-ok ∙ stop (counted s′) tableFull counts (counted-is ∙ lt-leb (length (s .U) + 1) 16 (omega (arith, uploads-are)))))
 
-    module _ (l : header .uploads < 16) where
+    module _ (l : uploads < 16) (header : Header) (read : header ≡ headerAt t) where
+      next-is : header .next ≡ s .N
+      next-is = ap (λ (h : Header). h .next) (read ∙ header-is)
+
       room-ok : act (length a) s (INITIATE stamp p) ≡ counts
-      room-ok = request-ok ∙ pass (counted s′) tableFull counts (counted-is ∙ le-leb (length (s .U) + 1) 16 (omega (arith, uploads-is)))
+      room-ok = request-ok ∙ pass (counted s′) tableFull counts (counted-is ∙ le-leb (length (s .U) + 1) 16 (omega (arith, uploads-are)))
 
       pub used-up : 4294967295 < header .next → 6 ≡ resultOf (act (length a) s (INITIATE stamp p))
       used-up n = sym (ap resultOf (room-ok ∙ stop (leb (s .N) lastUploadNumber) numbersUsedUp (accept (number (s .N)) [] s′) (lt-leb (s .N) lastUploadNumber (omega (arith, next-is)))))

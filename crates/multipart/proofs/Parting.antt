@@ -25,18 +25,13 @@ use Rattle.machine.proofs.Counts.{part-counted, held-part, parts-part}
 use Rattle.machine.proofs.KeepsValid.{next-valid}
 use Rattle.row.specs.declared.Head.{Head}
 use Rattle.row.specs.Row.{encodeRows, headAt}
-use Rattle.layout.specs.declared.Header.{Header}
-use Rattle.layout.specs.Memory.{rowsOf, partRow, headerAt, whole, stateOf, Stands}
-use Rattle.layout.specs.RowCounts.{length-contents}
+use Rattle.layout.specs.Memory.{partRow, whole, stateOf, Stands}
 use Rattle.layout.specs.WholeLaws.{whole-stands}
-use Rattle.layout.specs.StandsLaws.{header-back}
-use Rattle.layout.specs.declared.Offset.{Offset}
 use Rattle.find.specs.declared.Place.{Place}
-use Rattle.find.specs.Places.{behind, beforePart, afterPart, partPlace, uploadPlace}
+use Rattle.find.specs.Places.{beforePart, afterPart, partPlace, uploadPlace}
 use Rattle.find.proofs.Splits.{part-found}
 use Rattle.find.proofs.RowsAt.{At, row-at}
 use Rattle.find.proofs.Found.{is-some, is-none}
-use Rattle.edit.specs.Header.{headerOf}
 use Rattle.edit_uploads.specs.Parts.{partWith, PartPuttable}
 use Rattle.calls.specs.Answers.{success}
 use Rattle.calls.specs.Made.{memory, resultOf, outcome, Made}
@@ -98,7 +93,7 @@ module _ (A : ℕ) (s : State) (v : Valid A s) (u n : ℕ) (d : Bytes) (x : Uplo
 -- the same over whole memory, by what the readers give
 module _ (t a d : List ℕ) (b : byte.Bytes t) (w : whole t a ≡ true) (u n : ℕ) (is-open : isSome (lookup byNumber u (stateOf t a .U)) ≡ true)
     (place : Place) (place-is : (x : Upload) → lookup byNumber u (stateOf t a .U) ≡ some x → place ≡ partPlace (stateOf t a) u x n)
-    (end : Offset) (end-is : end ≡ behind (rowsOf (stateOf t a))) where
+    (bytes : ℕ) (bytes-are : bytes ≡ held (stateOf t a)) where
   abbrev m : State
   m = stateOf t a
 
@@ -111,11 +106,8 @@ module _ (t a d : List ℕ) (b : byte.Bytes t) (w : whole t a ≡ true) (u n : �
   open₀ : lookup byNumber u (m .U) ≡ some x₀
   open₀ = is-some (lookup byNumber u (m .U)) is-open .1
 
-  held-is : end .base ≡ held m
-  held-is = ap (λ (o : Offset). o .base) end-is ∙ length-contents m
-
-  pub held-inside : end .base ≤ length a
-  held-inside = let r = h .valid .room in omega (arith, held-is)
+  pub held-inside : bytes ≤ length a
+  held-inside = let r = h .valid .room in omega (arith, bytes-are)
 
   pub arena-small : length a ≤ 1048576
   arena-small = h .small
@@ -151,33 +143,24 @@ module _ (t a d : List ℕ) (b : byte.Bytes t) (w : whole t a ≡ true) (u n : �
       pub old-small : head .size ≤ 1048576
       old-small = let l = h .small in omega (arith, size-is, here .arena-inside)
 
-      pub old-five : length a - end .base + head .size < length d → 5 ≡ resultOf (partOutcome (length a) m u n d)
-      old-five l = let k = held-inside in old-over (length a) m (h .valid) u n d x₀ open₀ y₀ there (omega (arith, held-is, size-is))
+      pub old-five : length a - bytes + head .size < length d → 5 ≡ resultOf (partOutcome (length a) m u n d)
+      old-five l = let k = held-inside in old-over (length a) m (h .valid) u n d x₀ open₀ y₀ there (omega (arith, bytes-are, size-is))
 
-      pub old-zero : length d ≤ length a - end .base + head .size → 0 ≡ resultOf (partOutcome (length a) m u n d)
-      old-zero l = let k = held-inside in old-fits (length a) m (h .valid) u n d x₀ open₀ y₀ there (omega (arith, held-is, size-is))
+      pub old-zero : length d ≤ length a - bytes + head .size → 0 ≡ resultOf (partOutcome (length a) m u n d)
+      old-zero l = let k = held-inside in old-fits (length a) m (h .valid) u n d x₀ open₀ y₀ there (omega (arith, bytes-are, size-is))
 
-  pub header-inside : 18 ≤ length t
-  header-inside = let z = h .size in omega arith
-
-  module _ (no : place .found ≡ false) (header : Header) (read : header ≡ headerAt t) where
+  module _ (no : place .found ≡ false) (parts : ℕ) (parts-are : parts ≡ total partsIn (stateOf t a .U)) where
     absent : lookup byNumber n (x₀ .parts) ≡ none
     absent = is-none _ (sym found-is ∙ no)
 
-    header-of : headerAt t ≡ headerOf (length a) m
-    header-of = header-back t a m h
+    pub new-four : 256 ≤ parts → 4 ≡ resultOf (partOutcome (length a) m u n d)
+    new-four l = new-full (length a) m (h .valid) u n d x₀ open₀ absent (omega (arith, parts-are))
 
-    parts-is : header .parts ≡ total partsIn (m .U)
-    parts-is = ap (λ (z : Header). z .parts) (read ∙ header-of)
+    pub new-five : parts < 256 → length a - bytes < length d → 5 ≡ resultOf (partOutcome (length a) m u n d)
+    new-five l k = let i = held-inside in new-over (length a) m (h .valid) u n d x₀ open₀ absent (omega (arith, parts-are)) (omega (arith, bytes-are))
 
-    pub new-four : 256 ≤ header .parts → 4 ≡ resultOf (partOutcome (length a) m u n d)
-    new-four l = new-full (length a) m (h .valid) u n d x₀ open₀ absent (omega (arith, parts-is))
-
-    pub new-five : header .parts < 256 → length a - end .base < length d → 5 ≡ resultOf (partOutcome (length a) m u n d)
-    new-five l k = let i = held-inside in new-over (length a) m (h .valid) u n d x₀ open₀ absent (omega (arith, parts-is)) (omega (arith, held-is))
-
-    pub new-zero : header .parts < 256 → length d ≤ length a - end .base → 0 ≡ resultOf (partOutcome (length a) m u n d)
-    new-zero l k = let i = held-inside in new-fits (length a) m (h .valid) u n d x₀ open₀ absent (omega (arith, parts-is)) (omega (arith, held-is))
+    pub new-zero : parts < 256 → length d ≤ length a - bytes → 0 ≡ resultOf (partOutcome (length a) m u n d)
+    new-zero l k = let i = held-inside in new-fits (length a) m (h .valid) u n d x₀ open₀ absent (omega (arith, parts-are)) (omega (arith, bytes-are))
 
 -- the first two checks
 module _ (A : ℕ) (s : State) (u n : ℕ) (d : Bytes) where

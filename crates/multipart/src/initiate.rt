@@ -22,10 +22,11 @@ fn initiate_judge(tables: &[u8], arena: &[u8], stamp: Stamp, path: &[u8]) -> u8
     if !names::new_path_ok(path) {
         return 2;
     }
-    let header = layout::headers::read_header(tables);
-    if 16 <= header.uploads {
+    let uploads = find::upload_count(tables, arena);
+    if 16 <= uploads {
         return 4;
     }
+    let header = layout::headers::read_header(tables);
     if 4294967295 < header.next {
         return 6;
     }

@@ -26,8 +26,7 @@ fn part_room(
     ensures { λ r. ⌜ r ≡ resultOf (partOutcome (length (now (arena .entry))) (stateOf (now (tables .entry)) (now (arena .entry))) (upload .0) (number .0) (now (content .entry))) ⌝ }
 {
     let old = find::find_part(tables, arena, upload.0, number.0);
-    let end = find::rows_end(tables, arena);
-    let room = arena.len() - end.base;
+    let room = arena.len() - find::held(tables, arena);
     if old.found {
         let h = row::read_head(tables, old.at);
         if room + (h.size as usize) < content.len() {
@@ -35,8 +34,8 @@ fn part_room(
         }
         return 0;
     }
-    let header = layout::headers::read_header(tables);
-    if 256 <= header.parts {
+    let parts = find::part_count(tables, arena);
+    if 256 <= parts {
         return 4;
     }
     if room < content.len() {

@@ -14,34 +14,27 @@ use Rattle.machine.specs.State.{Object, State, objectLength, held}
 use Rattle.machine.specs.Steps.{putAt}
 use Rattle.row.specs.declared.Head.{Head}
 use Rattle.row.specs.Row.{encodeRows, headAt}
-use Rattle.layout.specs.declared.Header.{Header}
-use Rattle.layout.specs.Memory.{rowsOf, objectRow, headerAt, whole, stateOf, Stands}
-use Rattle.layout.specs.RowCounts.{length-contents}
+use Rattle.layout.specs.Memory.{objectRow, whole, stateOf, Stands}
 use Rattle.layout.specs.WholeLaws.{whole-stands}
-use Rattle.layout.specs.declared.Offset.{Offset}
 use Rattle.find.specs.declared.Place.{Place}
-use Rattle.find.specs.Places.{behind, beforeObject, afterObject, objectPlace}
+use Rattle.find.specs.Places.{beforeObject, afterObject, objectPlace}
 use Rattle.find.proofs.Splits.{object-found}
 use Rattle.find.proofs.RowsAt.{row-at}
 use Rattle.find.proofs.Found.{is-some, is-none}
-use Rattle.edit.proofs.ObjectEdits.{header-is}
 use Rattle.edit.proofs.PutLaws.{place-found}
 use Rattle.calls.specs.Made.{resultOf}
 use Rattle.writes.proofs.Putting.{object-share, room-old, room-new, room-none}
 
 module _ (t a : List ℕ) (b : Bytes t) (w : whole t a ≡ true) (p : List ℕ) (place : Place) (place-is : place ≡ objectPlace (stateOf t a) p)
-    (end : Offset) (end-is : end ≡ behind (rowsOf (stateOf t a))) where
+    (bytes : ℕ) (bytes-are : bytes ≡ held (stateOf t a)) where
   abbrev s : State
   s = stateOf t a
 
   stands : Stands t a s
   stands = whole-stands t a b w
 
-  held-is : end .base ≡ held s
-  held-is = ap (λ (x : Offset). x .base) end-is ∙ length-contents s
-
-  pub held-inside : end .base ≤ length a
-  held-inside = let r = stands .valid .room in omega (arith, held-is)
+  pub held-inside : bytes ≤ length a
+  held-inside = let r = stands .valid .room in omega (arith, bytes-are)
 
   -- in place of the object that was found
   module _ (e : place .found ≡ true) where
@@ -68,28 +61,25 @@ module _ (t a : List ℕ) (b : Bytes t) (w : whole t a ≡ true) (p : List ℕ) 
           ap (λ (h : Head). h .size)
           (head-is ∙ ap (λ (n : ℕ). headAt (drop n t)) at-is ∙ row-at t a s stands (beforeObject s p) (objectRow p x) (afterObject s p) (object-found s p x found) .head)
 
-      pub old-inside : head .size ≤ end .base
-      old-inside = omega (arith, size-is, held-is, object-share s p x found)
+      pub old-inside : head .size ≤ bytes
+      old-inside = omega (arith, size-is, bytes-are, object-share s p x found)
 
-      pub judged-old : (r n : ℕ) → r ≡ cond (leb (end .base - head .size + n) (length a)) 0 5
+      pub judged-old : (r n : ℕ) → r ≡ cond (leb (bytes - head .size + n) (length a)) 0 5
           → (stamp : ℕ) (content : List ℕ) → length content ≡ n → r ≡ resultOf (putAt (length a) s stamp p content)
       judged-old r n is stamp content l =
-          let q : end .base - head .size + n ≡ held s - objectLength x + length content = omega (arith, size-is, held-is) in
+          let q : bytes - head .size + n ≡ held s - objectLength x + length content = omega (arith, size-is, bytes-are) in
           rw (is, q) (sym (room-old (length a) s (stands .valid) stamp p content x found))
 
   -- at a path that has none
-  module _ (e : place .found ≡ false) (header : Header) (read : header ≡ headerAt t) where
+  module _ (e : place .found ≡ false) (objects : ℕ) (objects-are : objects ≡ length (stateOf t a .O)) where
     absent : lookup byBytes p (s .O) ≡ none
     absent = is-none _ (place-found s p place false place-is e)
 
-    objects-are : header .objects ≡ length (s .O)
-    objects-are = ap (λ (h : Header). h .objects) (read ∙ header-is t a b w)
-
-    pub judged-full : 256 ≤ header .objects → (stamp : ℕ) (content : List ℕ) → 4 ≡ resultOf (putAt (length a) s stamp p content)
+    pub judged-full : 256 ≤ objects → (stamp : ℕ) (content : List ℕ) → 4 ≡ resultOf (putAt (length a) s stamp p content)
     judged-full l stamp content = sym (room-none (length a) s (stands .valid) stamp p content absent (omega (arith, objects-are)))
 
-    pub judged-new : header .objects < 256 → (r n : ℕ) → r ≡ cond (leb (end .base + n) (length a)) 0 5
+    pub judged-new : objects < 256 → (r n : ℕ) → r ≡ cond (leb (bytes + n) (length a)) 0 5
         → (stamp : ℕ) (content : List ℕ) → length content ≡ n → r ≡ resultOf (putAt (length a) s stamp p content)
     judged-new m r n is stamp content l =
-        let q : end .base + n ≡ held s + length content = omega (arith, held-is) in
+        let q : bytes + n ≡ held s + length content = omega (arith, bytes-are) in
         rw (is, q) (sym (room-new (length a) s (stands .valid) stamp p content absent (omega (arith, objects-are))))

@@ -28,14 +28,13 @@ pub fn room_judge(tables: &[u8], arena: &[u8], path: &[u8], n: usize) -> u8
     ensures { λ r. ⌜ ((stamp : ℕ) (content : Bytes) → length content ≡ n → r ≡ resultOf (putAt (length (now (arena .entry))) (stateOf (now (tables .entry)) (now (arena .entry))) stamp (now (path .entry)) content)) ⌝ }
 {
     let place = find::find_object(tables, arena, path);
-    let end = find::rows_end(tables, arena);
-    let held = end.base;
+    let held = find::held(tables, arena);
     if place.found {
         let h = row::read_head(tables, place.at);
         return arena_judge(held - h.size as usize, n, arena.len());
     }
-    let header = layout::headers::read_header(tables);
-    if 256 <= header.objects {
+    let objects = find::object_count(tables, arena);
+    if 256 <= objects {
         return 4;
     }
     arena_judge(held, n, arena.len())

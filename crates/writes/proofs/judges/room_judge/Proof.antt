@@ -1,6 +1,5 @@
--- `writes::judges::room_judge` meets its contract: the place, the end and the header say what the checks ask. Assumes nothing.
+-- `writes::judges::room_judge` meets its contract: the readers say what the checks ask. Assumes nothing.
 use Rattle.number.specs.NumberLaws.{Bytes}
-use Rattle.edit.proofs.ObjectEdits.{header-inside}
 use Rattle.writes.proofs.Room.{held-inside, head-inside, old-inside, judged-old, judged-full, judged-new}
 use native.Mathlib.Omega.{arith}
 use borrow.Author.Needs.{needs}
@@ -10,15 +9,15 @@ use Rattle.writes.proofs.judges.room_judge.Tie as tie
 find-object-requires : tie.Need-find-object-requires
 find-object-requires c κs = search needs
 
-rows-end-requires : tie.Need-rows-end-requires
-rows-end-requires c κs = search needs
+held-requires : tie.Need-held-requires
+held-requires c κs = search needs
 
 read-head-requires : tie.Need-read-head-requires
 read-head-requires c κs =
     let a = c .before .before .before .before .before .before .args in
     let b : Bytes (a .tables .now) = λ j. c .before .before .before .before .before .shared-slice-known .given j .fits in
     let f = c .before .before .find-object in
-    let e = c .before .rows-end in
+    let e = c .before .held in
     head-inside (a .tables .now) (a .arena .now) b (c .before .before .before .before .before .before .pre) (a .path .now) (f .result) (f .ensures) (e .result) (e .ensures) (c .if1 .taken)
 
 cast-arena-judge : tie.Need-cast-arena-judge
@@ -29,7 +28,7 @@ sub-arena-judge c =
     let a = c .before .before .before .before .before .before .before .before .args in
     let b : Bytes (a .tables .now) = λ j. c .before .before .before .before .before .before .before .shared-slice-known .given j .fits in
     let f = c .before .before .before .before .find-object in
-    let e = c .before .before .before .rows-end in
+    let e = c .before .before .before .held in
     let h = c .before .read-head in
     let i = old-inside (a .tables .now) (a .arena .now) b (c .before .before .before .before .before .before .before .before .pre) (a .path .now) (f .result) (f .ensures) (e .result) (e .ensures) (c .before .before .if1 .taken) (h .result) (h .ensures) in
     omega arith
@@ -39,7 +38,7 @@ arena-judge-requires c κs =
     let a = c .before .before .before .before .before .before .before .before .args in
     let b : Bytes (a .tables .now) = λ j. c .before .before .before .before .before .before .before .shared-slice-known .given j .fits in
     let f = c .before .before .before .before .find-object in
-    let e = c .before .before .before .rows-end in
+    let e = c .before .before .before .held in
     let i = held-inside (a .tables .now) (a .arena .now) b (c .before .before .before .before .before .before .before .before .pre) (a .path .now) (f .result) (f .ensures) (e .result) (e .ensures) in
     omega arith
 
@@ -48,55 +47,52 @@ returns c =
     let a = c .before .before .before .before .before .before .before .before .before .args in
     let b : Bytes (a .tables .now) = λ j. c .before .before .before .before .before .before .before .before .shared-slice-known .given j .fits in
     let f = c .before .before .before .before .before .find-object in
-    let e = c .before .before .before .before .rows-end in
+    let e = c .before .before .before .before .held in
     let h = c .before .before .read-head in
     judged-old (a .tables .now) (a .arena .now) b (c .before .before .before .before .before .before .before .before .before .pre) (a .path .now) (f .result) (f .ensures) (e .result) (e .ensures) (c .before .before .before .if1 .taken) (h .result) (h .ensures) (c .arena-judge .result) (a .n) (c .arena-judge .ensures)
 
-read-header-requires : tie.Need-read-header-requires
-read-header-requires c κs =
-    let a = c .before .before .before .before .before .before .args in
-    let b : Bytes (a .tables .now) = λ j. c .before .before .before .before .before .shared-slice-known .given j .fits in
-    header-inside (a .tables .now) (a .arena .now) b (c .before .before .before .before .before .before .pre)
+object-count-requires : tie.Need-object-count-requires
+object-count-requires c κs = search needs
 
 returns-2 : tie.Need-returns-2
 returns-2 c =
-    let a = c .before .before .before .before .before .before .before .before .before .args in
-    let b : Bytes (a .tables .now) = λ j. c .before .before .before .before .before .before .before .before .shared-slice-known .given j .fits in
-    let f = c .before .before .before .before .before .find-object in
-    let e = c .before .before .before .before .rows-end in
-    let h = c .before .before .read-header in
-    λ stamp content _. judged-full (a .tables .now) (a .arena .now) b (c .before .before .before .before .before .before .before .before .before .pre) (a .path .now) (f .result) (f .ensures) (e .result) (e .ensures) (c .before .before .before .if1 .left) (h .result) (h .ensures) (c .if2 .taken) stamp content
+    let a = c .before .before .before .before .before .before .before .before .args in
+    let b : Bytes (a .tables .now) = λ j. c .before .before .before .before .before .before .before .shared-slice-known .given j .fits in
+    let f = c .before .before .before .before .find-object in
+    let e = c .before .before .before .held in
+    let o = c .before .object-count in
+    λ stamp content _. judged-full (a .tables .now) (a .arena .now) b (c .before .before .before .before .before .before .before .before .pre) (a .path .now) (f .result) (f .ensures) (e .result) (e .ensures) (c .before .before .if1 .left) (o .result) (o .ensures) (c .if2 .taken) stamp content
 
 arena-judge-requires-2 : tie.Need-arena-judge-requires-2
 arena-judge-requires-2 c κs =
-    let a = c .before .before .before .before .before .before .before .before .before .args in
-    let b : Bytes (a .tables .now) = λ j. c .before .before .before .before .before .before .before .before .shared-slice-known .given j .fits in
-    let f = c .before .before .before .before .before .find-object in
-    let e = c .before .before .before .before .rows-end in
-    let i = held-inside (a .tables .now) (a .arena .now) b (c .before .before .before .before .before .before .before .before .before .pre) (a .path .now) (f .result) (f .ensures) (e .result) (e .ensures) in
+    let a = c .before .before .before .before .before .before .before .before .args in
+    let b : Bytes (a .tables .now) = λ j. c .before .before .before .before .before .before .before .shared-slice-known .given j .fits in
+    let f = c .before .before .before .before .find-object in
+    let e = c .before .before .before .held in
+    let i = held-inside (a .tables .now) (a .arena .now) b (c .before .before .before .before .before .before .before .before .pre) (a .path .now) (f .result) (f .ensures) (e .result) (e .ensures) in
     omega arith
 
 returns-3 : tie.Need-returns-3
 returns-3 c =
-    let a = c .before .before .before .before .before .before .before .before .before .before .args in
-    let b : Bytes (a .tables .now) = λ j. c .before .before .before .before .before .before .before .before .before .shared-slice-known .given j .fits in
-    let f = c .before .before .before .before .before .before .find-object in
-    let e = c .before .before .before .before .before .rows-end in
-    let h = c .before .before .before .read-header in
-    judged-new (a .tables .now) (a .arena .now) b (c .before .before .before .before .before .before .before .before .before .before .pre) (a .path .now) (f .result) (f .ensures) (e .result) (e .ensures) (c .before .before .before .before .if1 .left) (h .result) (h .ensures) (c .before .if2 .left) (c .arena-judge2 .result) (a .n) (c .arena-judge2 .ensures)
+    let a = c .before .before .before .before .before .before .before .before .before .args in
+    let b : Bytes (a .tables .now) = λ j. c .before .before .before .before .before .before .before .before .shared-slice-known .given j .fits in
+    let f = c .before .before .before .before .before .find-object in
+    let e = c .before .before .before .before .held in
+    let o = c .before .before .object-count in
+    judged-new (a .tables .now) (a .arena .now) b (c .before .before .before .before .before .before .before .before .before .pre) (a .path .now) (f .result) (f .ensures) (e .result) (e .ensures) (c .before .before .before .if1 .left) (o .result) (o .ensures) (c .before .if2 .left) (c .arena-judge2 .result) (a .n) (c .arena-judge2 .ensures)
 
 pub room-judge-spec : {M : Type 1} → statement M
 room-judge-spec =
     tie.close
     (tie.spec
     find-object-requires
-    rows-end-requires
+    held-requires
     read-head-requires
     cast-arena-judge
     sub-arena-judge
     arena-judge-requires
     returns
-    read-header-requires
+    object-count-requires
     returns-2
     arena-judge-requires-2
     returns-3)

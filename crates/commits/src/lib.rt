@@ -99,6 +99,7 @@ fn commit_judge(tables: &[u8], arena: &[u8], upload: UploadNumber, list: &[u8]) 
     commit_room(tables, arena, upload)
 }
 
+// COMMIT: the parts, joined in listed order, become the object at the upload's path, and the upload is closed.
 pub fn commit(tables: &mut [u8], arena: &mut [u8], upload: UploadNumber, list: &[u8]) -> DoneAnswer
     ensures { λ r. ⌜ Made (COMMIT (upload .0) (partList (now (list .entry)))) (memory (now (tables .entry)) (now (arena .entry))) (doneReply r) (memory (now (tables .exit)) (now (arena .exit))) × WellNumbered r ⌝ }
 {

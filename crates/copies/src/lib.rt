@@ -57,6 +57,7 @@ fn source_digest(tables: &[u8], arena: &[u8], source: &[u8]) -> Digest
     md5::digest(&arena[from..to])
 }
 
+// COPY: the destination becomes what PUT of the source's data with this stamp would make.
 pub fn copy(
     tables: &mut [u8],
     arena: &mut [u8],

@@ -5,6 +5,7 @@ ghost use lib.ListN.{length};
 ghost use Rattle.layout.specs.Memory.{headerAt, headerOk};
 use crate::Header;
 
+// The header, as it stands in the first 18 bytes.
 pub fn read_header(t: &[u8]) -> Header
     requires { ⌜ 18 ≤ length (now t) ⌝ }
     ensures { λ r. ⌜ r ≡ headerAt (now (t .entry)) ⌝ }

@@ -13,6 +13,7 @@ pub struct Mark {
     pub part: u32,
 }
 
+// The arena's length, the number that the coming upload gets, and how many objects, uploads and parts there are.
 pub struct Header {
     pub arena: u32,
     pub next: u64,

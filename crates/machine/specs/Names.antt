@@ -20,8 +20,8 @@ abbrev pub apart : (before : ℕ) → Bytes → Bool
 apart before [] = true
 apart before (b ∷ p) = not (eqb before 47 && eqb b 47) && apart b p
 
--- "A path is 1 to 128 bytes, each from 33 to 126 (decimal, as all numbers here), with no two adjacent "/" and no "/" first.": a "/" that
--- stands before it is adjacent to one that is first
+-- "A path is 1 to 128 bytes, each from 33 to 126 (decimal, as all numbers here), with no two adjacent "/" and no "/" first.": as if a "/"
+-- stood before it
 unfoldable pub pathOk : Bytes → Bool
 pathOk p = leb 1 (length p) && leb (length p) 128 && visible p && apart 47 p
 

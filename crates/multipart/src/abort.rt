@@ -22,6 +22,7 @@ fn abort_judge(tables: &[u8], arena: &[u8], upload: UploadNumber) -> u8
     2
 }
 
+// ABORT: an open upload and its parts are removed.
 pub fn abort(tables: &mut [u8], arena: &mut [u8], upload: UploadNumber) -> DoneAnswer
     ensures { λ r. ⌜ Made (ABORT (upload .0)) (memory (now (tables .entry)) (now (arena .entry))) (doneReply r) (memory (now (tables .exit)) (now (arena .exit))) × WellNumbered r ⌝ }
 {

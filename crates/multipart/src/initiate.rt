@@ -33,6 +33,7 @@ fn initiate_judge(tables: &[u8], arena: &[u8], stamp: Stamp, path: &[u8]) -> u8
     0
 }
 
+// INITIATE: an upload is opened with the coming number, which is the answer.
 pub fn initiate(tables: &mut [u8], arena: &[u8], stamp: Stamp, path: &[u8]) -> InitiateAnswer
     ensures { λ r. ⌜ Made (INITIATE (stamp .0) (now (path .entry))) (memory (now (tables .entry)) (now (arena .entry))) (initiateReply r) (memory (now (tables .exit)) (now (arena .entry))) ⌝ }
 {

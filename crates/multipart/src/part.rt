@@ -65,6 +65,7 @@ fn part_judge(
     part_room(tables, arena, upload, number, content)
 }
 
+// PART: a part of an open upload is set; the answer is its etag.
 pub fn part(
     tables: &mut [u8],
     arena: &mut [u8],

@@ -65,12 +65,14 @@ pub fn stored_path_ok(p: &[u8]) -> bool
     path_ok(p)
 }
 
+// Whether it is a stamp: 0 is none.
 pub fn stamp_ok(stamp: u64) -> bool
     ensures { λ r. ⌜ r ≡ stampOk stamp ⌝ }
 {
     1 <= stamp
 }
 
+// The rule of part numbers.
 fn number_ok(n: u32) -> bool
     ensures { λ r. ⌜ r ≡ numberOk n ⌝ }
 {

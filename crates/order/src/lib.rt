@@ -5,6 +5,7 @@ ghost use lib.ListN.{length, take};
 ghost use Rattle.order.specs.Order.{byBytes, same, begins, ends};
 ghost use Rattle.order.specs.Compared.{Common, orderOf};
 
+// How a stands to b.
 pub enum Order {
     Less,
     Equal,
@@ -65,6 +66,7 @@ pub fn compare(a: &[u8], b: &[u8]) -> Order
     Order::Greater
 }
 
+// Whether they are the same bytes.
 pub fn equal(a: &[u8], b: &[u8]) -> bool
     ensures { λ r. ⌜ r ≡ same (now (a .entry)) (now (b .entry)) ⌝ }
 {
@@ -77,6 +79,7 @@ pub fn equal(a: &[u8], b: &[u8]) -> bool
     true
 }
 
+// Whether s begins with the prefix.
 pub fn begins_with(s: &[u8], prefix: &[u8]) -> bool
     ensures { λ r. ⌜ r ≡ begins (now (prefix .entry)) (now (s .entry)) ⌝ }
 {
@@ -87,6 +90,7 @@ pub fn begins_with(s: &[u8], prefix: &[u8]) -> bool
     equal(&s[..n], prefix)
 }
 
+// Whether s ends with the suffix.
 pub fn ends_with(s: &[u8], suffix: &[u8]) -> bool
     ensures { λ r. ⌜ r ≡ ends (now (suffix .entry)) (now (s .entry)) ⌝ }
 {

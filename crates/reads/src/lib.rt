@@ -25,6 +25,7 @@ enum Named {
     Object { at: usize, base: usize },
 }
 
+// What the path names.
 fn look_up(tables: &[u8], arena: &[u8], path: &[u8]) -> Named
     requires { ⌜ whole (now tables) (now arena) ≡ true ⌝ }
     ensures { λ r. ⌜ r ≡ namedIn (stateOf (now (tables .entry)) (now (arena .entry))) (now (path .entry)) ⌝ }
@@ -45,6 +46,7 @@ fn look_up(tables: &[u8], arena: &[u8], path: &[u8]) -> Named
     }
 }
 
+// The root's metadata.
 fn root() -> Metadata
     ensures { λ r. ⌜ metadataOf r ≡ metadata 0 0 absent ⌝ }
 {

@@ -7,6 +7,7 @@ ghost use Rattle.md5.specs.Md5.{bytesOf};
 ghost use Rattle.calls.specs.Answers.{etagOf};
 ghost use Rattle.reply.specs.Reply.{fieldBytes, fieldsWith};
 
+// The fields of a reply, each at its offset.
 fn write_fields(
     reply: &mut [u8],
     created: u64,
@@ -32,6 +33,7 @@ fn write_fields(
     number::put_u32(reply, 44, 0);
 }
 
+// The same, with the etag as its kind, count and digest.
 pub(crate) fn write(
     reply: &mut [u8],
     created: u64,

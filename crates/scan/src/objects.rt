@@ -22,6 +22,7 @@ fn most_parts(kind: u8) -> u16
     if kind == 0 { 0 } else { 256 }
 }
 
+// Whether a stands before b.
 fn ascend(a: &[u8], b: &[u8]) -> bool
     ensures { λ r. ⌜ r ≡ isLess (byBytes (now (a .entry)) (now (b .entry))) ⌝ }
 {

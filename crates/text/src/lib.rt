@@ -6,6 +6,7 @@ ghost use lib.ListN.{length, take, drop};
 ghost use Rattle.number.specs.Number.{le};
 ghost use Rattle.text.specs.Text.{hexDigit, hex, decimal};
 
+// A lower-case hexadecimal digit.
 fn hex_digit(n: u8) -> u8
     requires { ⌜ n < 16 ⌝ }
     ensures { λ r. ⌜ r ≡ hexDigit n ⌝ }

@@ -4,8 +4,10 @@ use md5::words::Digest;
 // Seconds since the start of 1970.
 pub struct Stamp(pub u64);
 
+// From 1; never given twice.
 pub struct UploadNumber(pub u32);
 
+// 1 to 11,000.
 pub struct PartNumber(pub u16);
 
 // Absent, the digest of the data, or the digest of the parts' digests with the number of parts.
@@ -15,6 +17,7 @@ pub enum Etag {
     Joined(Digest, u16),
 }
 
+// What GET and HEAD say of an object.
 pub struct Metadata {
     pub length: u32,
     pub created: Stamp,

@@ -40,6 +40,7 @@ pub fn room_judge(tables: &[u8], arena: &[u8], path: &[u8], n: usize) -> u8
     arena_judge(held, n, arena.len())
 }
 
+// PUT's refusal.
 pub(crate) fn put_judge(
     tables: &[u8],
     arena: &[u8],
@@ -59,6 +60,7 @@ pub(crate) fn put_judge(
     room_judge(tables, arena, path, content.len())
 }
 
+// DELETE's refusal.
 pub(crate) fn delete_judge(tables: &[u8], arena: &[u8], path: &[u8]) -> u8
     requires { ⌜ whole (now tables) (now arena) ≡ true ⌝ }
     ensures { λ r. ⌜ r ≡ resultOf (outcome (Call.DELETE (now (path .entry))) (memory (now (tables .entry)) (now (arena .entry)))) ⌝ }

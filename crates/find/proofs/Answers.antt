@@ -14,8 +14,8 @@ use Rattle.layout.specs.Memory.{uploadRow, partRows, rowsOf}
 use Rattle.layout.specs.UploadLaws.{length-part-rows}
 use Rattle.find.specs.declared.RowPlace.{RowPlace}
 use Rattle.find.specs.declared.PassedParts.{PassedParts}
-use Rattle.find.specs.declared.Goal.{Goal}
-use Rattle.find.specs.declared.Goal.the-variants as goal
+use Rattle.find.specs.declared.search.Goal.{Goal}
+use Rattle.find.specs.declared.search.Goal.the-variants as goal
 use Rattle.find.specs.Places.{behind, beforeUpload, beforeParts, beforePart, throughParts, fromUpload, afterUpload, fromPart, uploadPlace, partPlace, passedParts, partsOf}
 use Rattle.find.specs.Search.{reach, stopsOf, rowPlaceAt, IsRowPlace, sought, leads}
 use Rattle.find.proofs.Splits.{upload-place, upload-found, parts-place, parts-behind, part-place}

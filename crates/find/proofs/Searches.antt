@@ -13,7 +13,7 @@ use Rattle.machine.specs.Etags.{Etag, absent, plain, joined}
 use Rattle.machine.specs.State.{Object, Part, Upload, State}
 use Rattle.row.specs.Row.{Row}
 use Rattle.layout.specs.Memory.{objectRow, objectRows, partRows, uploadRows, rowsOf}
-use Rattle.find.specs.declared.Goal.the-variants as goal
+use Rattle.find.specs.declared.search.Goal.the-variants as goal
 use Rattle.find.specs.Search.{reach, stopsAt, stopsOf, leads}
 
 -- to the end of the rows

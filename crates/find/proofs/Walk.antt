@@ -15,7 +15,7 @@ use Rattle.row.specs.Row.{Row, encodeRows, contentsOf, headAt, headOf}
 use Rattle.layout.specs.Memory.{rowsOf, Stands}
 use Rattle.layout.specs.RowCounts.{length-rows}
 use Rattle.find.specs.declared.RowPlace.{RowPlace}
-use Rattle.find.specs.declared.Goal.{Goal}
+use Rattle.find.specs.declared.search.Goal.{Goal}
 use Rattle.find.specs.Search.{reach, stopsAt, stopsOf, rowPlaceAt, sought, leads}
 use Rattle.find.proofs.RowsAt.{At, Read, row-at, row-read}
 

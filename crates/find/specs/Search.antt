@@ -9,8 +9,8 @@ use Rattle.row.specs.declared.Head.{Head}
 use Rattle.row.specs.Row.{Row, encodeRows, contentsOf, headOf}
 use Rattle.layout.specs.Rules.{uploadKind}
 use Rattle.find.specs.declared.RowPlace.{RowPlace}
-use Rattle.find.specs.declared.Goal.{Goal}
-use Rattle.find.specs.declared.Goal.the-variants.{End, Upload, NextUpload, Part}
+use Rattle.find.specs.declared.search.Goal.{Goal}
+use Rattle.find.specs.declared.search.Goal.the-variants.{End, Upload, NextUpload, Part}
 
 -- how many rows stand before the first that passes a test
 unfoldable pub reach : (Row → Bool) → List Row → ℕ

@@ -1,0 +1,24 @@
+-- `find::uploads::find_upload` meets its contract: what stands there tells whether it is the upload. Assumes nothing.
+use borrow.Author.Needs.{needs}
+use Rattle.layout.specs.Memory.{stateOf, rowsOf}
+use Rattle.find.proofs.Answers.{is-row-place, upload-within, found-upload}
+use Rattle.find.proofs.uploads.find_upload.Statement.{statement}
+use Rattle.find.proofs.uploads.find_upload.Tie as tie
+
+upload-row-requires : tie.Need-upload-row-requires
+upload-row-requires c κs = search needs
+
+stands-requires : tie.Need-stands-requires
+stands-requires c κs =
+    let k = c .before .before .before in
+    let s = stateOf (k .args .tables .now) (k .args .arena .now) in
+    (k .pre, is-row-place (rowsOf s) (c .upload-row .result) _ (c .upload-row .ensures) (upload-within s (k .args .upload)))
+
+returns : tie.Need-returns
+returns c =
+    let k = c .before .before .before .before in
+    let s = stateOf (k .args .tables .now) (k .args .arena .now) in
+    found-upload s (k .args .upload) (c .before .upload-row .result) (c .stands .result) (c .before .upload-row .ensures) (c .stands .ensures)
+
+pub find-upload-spec : {M : Type 1} → statement M
+find-upload-spec = tie.close (tie.spec upload-row-requires stands-requires returns)

@@ -1,0 +1,29 @@
+-- `find::uploads::parts_end` meets its contract: the upload's row, and the parts behind it. Assumes nothing.
+use borrow.Author.Needs.{needs}
+use Rattle.machine.specs.State.{State}
+use Rattle.layout.specs.Memory.{stateOf}
+use Rattle.find.proofs.Answers.{open-row-place, parts-answer}
+use Rattle.find.proofs.uploads.parts_end.Statement.{statement}
+use Rattle.find.proofs.uploads.parts_end.Tie as tie
+
+upload-row-requires : tie.Need-upload-row-requires
+upload-row-requires c κs = search needs
+
+module _ (c : tie.After-upload-row) where
+  abbrev start : tie.Start
+  start = c .before .before .before
+
+  abbrev s : State
+  s = stateOf (start .args .tables .now) (start .args .arena .now)
+
+pass-parts-requires : tie.Need-pass-parts-requires
+pass-parts-requires c κs = (start c .pre .0, open-row-place (s c) (start c .args .upload) (c .upload-row .result) (c .upload-row .ensures) (start c .pre .1))
+
+returns : tie.Need-returns
+returns c x f =
+    let p = c .before in
+    let r = p .before in
+    parts-answer (s r) (start r .args .upload) x f (p .pass-parts .result) (p .pass-parts .ensures (start r .args .upload) x (r .upload-row .ensures) f)
+
+pub parts-end-spec : {M : Type 1} → statement M
+parts-end-spec = tie.close (tie.spec upload-row-requires pass-parts-requires returns)

@@ -1,0 +1,78 @@
+// A search along the rows.
+use crate::RowPlace;
+use crate::counts::row_count;
+use row::Head;
+ghost use mathlib.Core.Path.{_≡_};
+ghost use mathlib.Core.Bool.{true};
+ghost use Prim.Native.Nat.{_+_, _<_};
+ghost use lib.ListN.{length, drop};
+ghost use Rattle.layout.specs.Memory.{whole, stateOf, rowsOf};
+ghost use Rattle.find.specs.Search.{stopsAt, sought, rowPlaceAt, IsRowPlace, leads};
+
+// Where a search along the rows stops: behind them all; at the upload with a number, or the first above it; at the next
+// upload; at the part with a number, the first above it, or the next upload.
+pub(crate) enum Goal {
+    End,
+    Upload(u32),
+    NextUpload,
+    Part(u16),
+}
+
+// Whether a search stops at the row with this head.
+fn stops(h: Head, goal: Goal) -> bool
+    ensures { λ r. ⌜ r ≡ stopsAt goal h ⌝ }
+{
+    match goal {
+        Goal::End => false,
+        Goal::Upload(u) => h.kind == 2 && u <= h.number,
+        Goal::NextUpload => h.kind == 2,
+        Goal::Part(n) => h.kind == 2 || n as u32 <= h.number,
+    }
+}
+
+// The row behind a row.
+pub(crate) fn row_behind(tables: &[u8], arena: &[u8], from: RowPlace) -> RowPlace
+    requires { ⌜ (whole (now tables) (now arena) ≡ true) × ((from ≡ rowPlaceAt (rowsOf (stateOf (now tables) (now arena))) (from .row)) × (from .row < length (rowsOf (stateOf (now tables) (now arena))))) ⌝ }
+    ensures { λ r. ⌜ r ≡ rowPlaceAt (rowsOf (stateOf (now (tables .entry)) (now (arena .entry)))) (from .row + 1) ⌝ }
+{
+    let at = from.at;
+    let h = row::read_head(tables, at);
+    RowPlace {
+        row: from.row + 1,
+        at: at + 36 + h.pathlen as usize,
+        base: from.base + h.size as usize,
+    }
+}
+
+// From a row on, the first row at which the search stops, or the end of the rows.
+pub(crate) fn seek(tables: &[u8], arena: &[u8], from: RowPlace, goal: Goal) -> RowPlace
+    requires { ⌜ (whole (now tables) (now arena) ≡ true) × IsRowPlace (rowsOf (stateOf (now tables) (now arena))) from ⌝ }
+    ensures { λ r. ⌜ r ≡ sought goal (rowsOf (stateOf (now (tables .entry)) (now (arena .entry)))) (from .row) ⌝ }
+{
+    let rows = row_count(tables, arena);
+    let mut row = from.row;
+    let mut at = from.at;
+    let mut base = from.base;
+    while row < rows {
+        let h = row::read_head(tables, at);
+        if stops(h, goal) {
+            return RowPlace { row, at, base };
+        }
+        at = at + 36 + h.pathlen as usize;
+        base += h.size as usize;
+        row += 1;
+    }
+    RowPlace { row, at, base }
+}
+
+// Whether a row of this kind with this number stands there.
+pub(crate) fn stands(tables: &[u8], arena: &[u8], here: RowPlace, kind: u8, number: u32) -> bool
+    requires { ⌜ (whole (now tables) (now arena) ≡ true) × IsRowPlace (rowsOf (stateOf (now tables) (now arena))) here ⌝ }
+    ensures { λ r. ⌜ r ≡ leads kind number (drop (here .row) (rowsOf (stateOf (now (tables .entry)) (now (arena .entry))))) ⌝ }
+{
+    if row_count(tables, arena) <= here.row {
+        return false;
+    }
+    let h = row::read_head(tables, here.at);
+    h.kind == kind && h.number == number
+}

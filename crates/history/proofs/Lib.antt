@@ -1,5 +1,6 @@
 pub mod Running
 pub mod Demand3
+pub mod LastWrites
 pub mod Concluding
 pub mod Reading
 pub mod Aborted

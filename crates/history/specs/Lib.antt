@@ -1,4 +1,5 @@
 pub mod Runs
 pub mod Demand3
+pub mod LastWrites
 pub mod Questions
 pub mod Batch

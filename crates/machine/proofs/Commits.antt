@@ -32,10 +32,10 @@ use Rattle.machine.proofs.Outcome.{Then, then-accept, then-else, then-g
 use Rattle.machine.proofs.KeepsValid.{next-valid, fresh-valid, final-valid}
 
 -- f tells what the last PART carried, and g the start, of each upload so far
-record Agrees (m : Map ℕ Upload) (N : ℕ) (f : ℕ → ℕ → Option Bytes) (g : ℕ → Option (ℕ × Bytes)) : Type 0 where
-  parts : (u : ℕ) (x : Upload) → lookup byNumber u m ≡ some x → (n : ℕ) → lookup byNumber n (x .parts) ≡ mapped newPart (f u n)
-  start : (u : ℕ) (x : Upload) → lookup byNumber u m ≡ some x → g u ≡ some (x .started, x .path)
-  later : (u n : ℕ) → N ≤ u → f u n ≡ none
+pub record Agrees (m : Map ℕ Upload) (N : ℕ) (f : ℕ → ℕ → Option Bytes) (g : ℕ → Option (ℕ × Bytes)) : Type 0 where
+  pub parts : (u : ℕ) (x : Upload) → lookup byNumber u m ≡ some x → (n : ℕ) → lookup byNumber n (x .parts) ≡ mapped newPart (f u n)
+  pub start : (u : ℕ) (x : Upload) → lookup byNumber u m ≡ some x → g u ≡ some (x .started, x .path)
+  pub later : (u n : ℕ) → N ≤ u → f u n ≡ none
 
 -- INITIATE
 initiated : (m : Map ℕ Upload) (N : ℕ) (f : ℕ → ℕ → Option Bytes) (g : ℕ → Option (ℕ × Bytes)) (t : ℕ) (p : Bytes) → Agrees m N f g →
@@ -145,11 +145,11 @@ module _ (A : ℕ) (s : State) (f : ℕ → ℕ → Option Bytes) (g : ℕ → O
       go (refuse bufferShort) h = a
       go (accept r out s′) h = h
 
-or-assoc : {X : Type 0} (a b c : Option X) → (a or b) or c ≡ a or (b or c)
+pub or-assoc : {X : Type 0} (a b c : Option X) → (a or b) or c ≡ a or (b or c)
 or-assoc none b c = refl
 or-assoc (some x) b c = refl
 
-or-none : {X : Type 0} (a : Option X) → a or none ≡ a
+pub or-none : {X : Type 0} (a : Option X) → a or none ≡ a
 or-none none = refl
 or-none (some x) = refl
 
@@ -167,7 +167,7 @@ run-agrees A s (c ∷ cs) f g v a =
     agrees-same _ _ _ _ _ _ (λ u n. sym (or-assoc (lastPart u n (trace A (next A s c) cs)) _ _)) (λ u. sym (or-assoc (startOf u (trace A (next A s c) cs)) _ _))
     (run-agrees A (next A s c) cs _ _ (next-valid A s c v) (step-agrees A s f g v a c))
 
-fresh-agrees : (A : ℕ) (cs : List Call) → Agrees (final A fresh cs .U) (final A fresh cs .N) (λ u n. lastPart u n (trace A fresh cs)) (λ u. startOf u (trace A fresh cs))
+pub fresh-agrees : (A : ℕ) (cs : List Call) → Agrees (final A fresh cs .U) (final A fresh cs .N) (λ u n. lastPart u n (trace A fresh cs)) (λ u. startOf u (trace A fresh cs))
 fresh-agrees A cs =
     agrees-same _ _ _ _ _ _ (λ u n. or-none (lastPart u n (trace A fresh cs))) (λ u. or-none (startOf u (trace A fresh cs)))
     (run-agrees A fresh cs (λ u n. none) (λ u. none) (fresh-valid A)
@@ -186,16 +186,16 @@ length-new : (ds : List Bytes) → length (map newPart ds) ≡ length ds
 length-new [] = refl
 length-new (d ∷ ds) = rw (length-new ds)
 
-joined-new : (x : Upload) (ds : List Bytes) → joinedObject x (map newPart ds) ≡ joinedFrom (x .started) ds
+pub joined-new : (x : Upload) (ds : List Bytes) → joinedObject x (map newPart ds) ≡ joinedFrom (x .started) ds
 joined-new x ds = rw (contents-new ds, digests-new ds, length-new ds)
 
 -- what `fit` finds in parts that agree with the trace
-record Sent (u : ℕ) (t : Trace) (m : Map ℕ Part) (ns : List ℕ) : Type 0 where
-  parts : List Bytes
-  told : lastParts u t ns ≡ some parts
-  made : listedParts m ns ≡ map newPart parts
+pub record Sent (u : ℕ) (t : Trace) (m : Map ℕ Part) (ns : List ℕ) : Type 0 where
+  pub parts : List Bytes
+  pub told : lastParts u t ns ≡ some parts
+  pub made : listedParts m ns ≡ map newPart parts
 
-sent : (u : ℕ) (t : Trace) (m : Map ℕ Part) → ((n : ℕ) → lookup byNumber n m ≡ mapped newPart (lastPart u n t)) → (ns : List ℕ) → allFound m ns ≡ true → Sent u t m ns
+pub sent : (u : ℕ) (t : Trace) (m : Map ℕ Part) → ((n : ℕ) → lookup byNumber n m ≡ mapped newPart (lastPart u n t)) → (ns : List ℕ) → allFound m ns ≡ true → Sent u t m ns
 sent u t m h [] a = record { parts = []; told = refl; made = refl }
 sent u t m h (n ∷ ns) a = let b = both (isSome (lookup byNumber n m)) (allFound m ns) a in go (lastPart u n t) refl (rw (h n) at (b .0)) (sent u t m h ns (b .1))
   where

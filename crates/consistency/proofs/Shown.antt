@@ -1,0 +1,101 @@
+-- Every GET, HEAD and LIST of a list of calls shows the last writes before it. Assumes nothing.
+use Prim.Native.Nat.{ℕ}
+use mathlib.Core.Path.{_≡_, refl, sym, ap, _∙_, subst}
+use mathlib.Core.Bool.{Bool, true, false, cond}
+use mathlib.Core.List.{List, [], _∷_, _++_}
+use mathlib.Core.Option.{Option, none, some}
+use lib.Dec.{leb}
+use lib.ListN.{length, drop}
+use Rattle.order.specs.Order.{byBytes}
+use Rattle.order.specs.OrderLaws.{bytes}
+use Rattle.machine.specs.Map.{Map, lookup, records}
+use Rattle.machine.specs.Names.{Bytes, requestPathOk}
+use Rattle.machine.specs.State.{Object, State, fresh}
+use Rattle.machine.specs.Calls.{Call, GET, HEAD, LIST, Answer, counts, Reply, badRequest, notFound, bufferShort, Outcome, accept, _else_then_, given}
+use Rattle.machine.specs.Steps.{about, write, listed, listRecord, objectAt, act, replyOf, reply}
+use Rattle.machine.specs.Lists.{Trace, trace, final}
+use Rattle.machine.specs.Demand3.{calls}
+use Rattle.machine.proofs.MapLaws.{same-map}
+use Rattle.machine.proofs.KeepsValid.{fresh-valid, final-valid}
+use Rattle.machine.proofs.Traces.{cut}
+use Rattle.consistency.specs.Shown.{refusedBy, shown, dataShown, metadataShown, getShows, headShows, listShows, Objects, OneMap, Consistent}
+use Rattle.consistency.proofs.LastWrites.{reads-last-write}
+
+-- What GET, HEAD and LIST answer over a state ----------------------------------------------------------------------------
+
+write-shows : (a : Answer) (out b : Bytes) (s : State) → replyOf b (write a out b s) ≡ shown a out b
+unfolding _else_then_
+write-shows a out b s = go (leb (length out) (length b))
+  where
+    go : (x : Bool) → replyOf b (x else bufferShort then accept a out s) ≡ cond x (record { result = 0; answer = a; buffer = out ++ drop (length out) b }) (refusedBy 7 b)
+    go true = refl
+    go false = refl
+
+-- a test of the path, then what is found there
+path-shows : (b : Bytes) (ok : Bool) (x y : Option Object) (k : Object → Outcome) (z : Reply) → x ≡ y → replyOf b (given y notFound k) ≡ z →
+    replyOf b (ok else badRequest then given x notFound k) ≡ cond ok z (refusedBy 2 b)
+unfolding _else_then_
+path-shows b true x y k z e h = ap (λ (w : Option Object). replyOf b (given w notFound k)) e ∙ h
+path-shows b false x y k z e h = refl
+
+get-found : (b : Bytes) (s : State) (x : Option Object) → replyOf b (given x notFound λ y. write (about y) (y .content) b s) ≡ dataShown b x
+unfolding given
+get-found b s none = refl
+get-found b s (some x) = write-shows (about x) (x .content) b s
+
+head-found : (s : State) (x : Option Object) → replyOf [] (given x notFound λ y. accept (about y) [] s) ≡ metadataShown x
+unfolding given
+head-found s none = refl
+head-found s (some x) = refl
+
+pub get-shows : (A : ℕ) (s : State) (p b : Bytes) (y : Option Object) → lookup byBytes p (s .O) ≡ y → reply A s (GET p b) ≡ getShows p b y
+unfolding act objectAt
+get-shows A s [] b y e = write-shows _ [] b s
+get-shows A s (c ∷ p) b y e = path-shows b (requestPathOk (c ∷ p)) _ y _ _ e (get-found b s y)
+
+pub head-shows : (A : ℕ) (s : State) (p : Bytes) (y : Option Object) → lookup byBytes p (s .O) ≡ y → reply A s (HEAD p) ≡ headShows p y
+unfolding act objectAt
+head-shows A s [] y e = refl
+head-shows A s (c ∷ p) y e = path-shows [] (requestPathOk (c ∷ p)) _ y _ _ e (head-found s y)
+
+pub list-shows : (A : ℕ) (s : State) (prefix suffix b : Bytes) → reply A s (LIST prefix suffix b) ≡ listShows prefix suffix b (s .O)
+unfolding act
+list-shows A s prefix suffix b =
+    let l = listed prefix suffix (s .O) in
+    let out = records listRecord l in
+    write-shows (counts (length l) (length out)) out b s
+
+-- The claims of a list of calls ------------------------------------------------------------------------------------------
+
+objects : (A : ℕ) (cs : List Call) → Objects (trace A fresh cs) (final A fresh cs .O)
+objects A cs = record { sorted = final-valid A fresh cs (fresh-valid A) .objects; each = reads-last-write A cs }
+
+pub one-map : OneMap
+one-map t o o′ h h′ = same-map bytes o o′ (h .sorted) (h′ .sorted) λ p. h .each p ∙ sym (h′ .each p)
+
+-- what a call of the list answers, and what its state there holds
+module _ (A : ℕ) (cs : List Call) (before after : Trace) (c : Call) (r : Reply) (e : trace A fresh cs ≡ before ++ (c, r) ∷ after) where
+  abbrev there : State
+  there = final A fresh (calls before)
+
+  replied : reply A there c ≡ r
+  replied = cut A fresh cs before after c r e .replied
+
+  objects-there : Objects before (there .O)
+  objects-there = subst (λ (t : Trace). Objects t (there .O)) (cut A fresh cs before after c r e .first) (objects A (calls before))
+
+pub consistent : (A : ℕ) (cs : List Call) → Consistent A cs
+consistent A cs = record {
+  objects = objects A cs;
+  reads = record {
+    get = λ before after p b r e. sym (replied A cs before after (GET p b) r e)
+        ∙ get-shows A _ p b _ (objects-there A cs before after (GET p b) r e .each p);
+    head = λ before after p r e. sym (replied A cs before after (HEAD p) r e)
+        ∙ head-shows A _ p _ (objects-there A cs before after (HEAD p) r e .each p);
+    list = λ before after prefix suffix b r e. (
+      final A fresh (calls before) .O,
+      objects-there A cs before after (LIST prefix suffix b) r e,
+      sym (replied A cs before after (LIST prefix suffix b) r e) ∙ list-shows A _ prefix suffix b,
+    );
+  };
+}

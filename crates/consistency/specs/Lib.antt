@@ -1,0 +1,3 @@
+pub mod LastWrites
+pub mod Shown
+pub mod Origins

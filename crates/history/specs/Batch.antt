@@ -24,7 +24,12 @@ batchTrace stamp path one two early late b early′ late′ =
     ∷ (GET path late, getReply (b .late) late′)
     ∷ []
 
--- FRESH refused, and nothing changed; or the list ran as demand 3 says
+-- FRESH refused by a number that is not 0, and nothing changed; or the list ran as demand 3 says
 abbrev pub Concluded : (m : Memory) (stamp : ℕ) (path one two early late : Bytes) → BatchAnswer → (early′ late′ : Bytes) → (m′ : Memory) → Type 0
-Concluded m stamp path one two early late (answer.Refused n) early′ late′ m′ = (n ≡ freshResult m) × (m′ ≡ m) × (early′ ≡ early) × (late′ ≡ late)
+Concluded m stamp path one two early late (answer.Refused n) early′ late′ m′ = (n ≡ 0 → ⊥) × (n ≡ freshResult m) × (m′ ≡ m) × (early′ ≡ early) × (late′ ≡ late)
 Concluded m stamp path one two early late (answer.Ran b) early′ late′ m′ = Demand3 (length (m .arena)) (batchTrace stamp path one two early late b early′ late′) m′
+
+-- the answer is that of a list that ran
+abbrev pub Ran : BatchAnswer → Type 0
+Ran (answer.Refused n) = ⊥
+Ran (answer.Ran b) = Unit {0}

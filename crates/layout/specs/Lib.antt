@@ -6,3 +6,4 @@ pub mod UploadLaws
 pub mod RowCounts
 pub mod WholeLaws
 pub mod StandsLaws
+pub mod FreeBytes

@@ -4,7 +4,9 @@ PREFIX ?= /usr/local
 INTO = $(DESTDIR)$(PREFIX)
 LIB_DIR = $(or $(RATHNODI_LIB_DIR),target/staticlib)
 LIB = $(LIB_DIR)/librathnodi.a
-HOST_CFLAGS = -std=c11 -O2 -Wall -Wextra -Werror -pedantic -Iinclude
+HOST_CFLAGS = -std=c11 -O2 -Wall -Wextra -Wconversion -Wcast-qual -Werror -pedantic -Iinclude
+# The header is the one place that has the version.
+VERSION = $(shell sed -n 's/^.define RATHNODI_VERSION_[A-Z]* \([0-9]*\)$$/\1/p' include/rathnodi.h | paste -s -d .)
 
 .PHONY: run host-test bench install FORCE
 # One rt at a time, also under make -j.
@@ -15,7 +17,7 @@ run: target/host/panel
 	@target/host/panel
 
 # All tests of the host side; the last line counts.
-host-test: target/host/panel target/host/edges target/host/stack
+host-test: target/host/panel target/host/edges target/host/helpers target/host/stack
 	@host/test "$(abspath $(LIB_DIR))"
 
 bench: $(LIB)
@@ -27,7 +29,7 @@ install: $(LIB)
 	install -d "$(INTO)/include" "$(INTO)/lib/pkgconfig"
 	install -m 644 include/rathnodi.h "$(INTO)/include/rathnodi.h"
 	install -m 644 $(LIB) "$(INTO)/lib/librathnodi.a"
-	sed 's|@PREFIX@|$(PREFIX)|' host/rathnodi.pc.in >"$(INTO)/lib/pkgconfig/rathnodi.pc"
+	sed 's|@PREFIX@|$(PREFIX)|; s|@VERSION@|$(VERSION)|' host/rathnodi.pc.in >"$(INTO)/lib/pkgconfig/rathnodi.pc"
 
 target/host/%: host/panel/%.c include/rathnodi.h $(LIB) target/host/built-by
 	@$(CC) $(HOST_CFLAGS) -o $@ $< $(LIB) $(HOST_LIBS)

@@ -2,28 +2,40 @@
  * Rathnodi: a store of objects by path, in memory that the caller lends.
  *
  * Link librathnodi.a (x86-64, little-endian). The library keeps nothing between calls, allocates nothing and calls
- * nothing of its host but what a C compiler itself may call (memcpy and its like). What a store holds stands in two
+ * nothing of its host but what a C compiler itself may call (memcpy and its like). All that a store holds is in two
  * byte slices, the tables and the arena, which the caller owns and lends at each call.
  *
  * What a caller must know:
  *
- * - A slice is a pointer and a length in bytes. The pointer is never null, also where the length is 0: pass the address
- *   of any byte then. It must point to that many bytes.
- * - No slice that a call may write may overlap another slice of the same call. A call may write those whose pointer is
- *   not to const. Slices that it only reads may overlap each other. No alignment is asked.
- * - One caller at a time: while a call runs, nobody else may read or write the slices lent to it.
+ * - A slice is a pointer and a length in bytes. It must point to that many bytes. A null pointer is never allowed, not
+ *   even with length 0: pass the address of any byte then.
+ * - A call may write the slices whose pointer is not to const. No such slice may overlap another slice of the same
+ *   call. Slices that are only read may overlap each other. No alignment is needed.
+ * - While a call runs, nobody else may write the slices lent to it, nor read those that it may write. So calls that
+ *   only read the store (get, head, list, uploads) may run side by side over one store, each with its own answer and
+ *   reply, while no call that writes the store runs. Calls over different stores never disturb each other.
  * - A call over a store needs the tables and the arena as the call before left them, both with the lengths that
- *   rathnodi_fresh was lent. They may move in memory, and may be saved and brought back, together.
+ *   rathnodi_fresh was lent. They may move in memory.
  * - Bad input is answered, never trusted: every argument and all of the lent memory is judged before a byte is written.
- *   Memory that is no store is answered by RATHNODI_NOT_A_STORE.
- * - Each call returns one of the numbers below: the first that applies, in that order. A refusal leaves every lent byte
- *   as it was, the answer and the reply too.
+ *   Memory that is not a store is answered by RATHNODI_NOT_A_STORE.
+ * - Each call returns one of the results below: the first that applies, in that order. A refusal leaves every lent byte
+ *   as it was, in the answer and the reply too. So look at the result before you read either.
  * - Bytes of an answer past those written do not change.
+ * - To ask "is this a store?", call head with the empty path. It answers 0 or 1, and does nothing but the test that
+ *   every call except fresh begins with. To learn how long an answer get needs, call head first: its reply has the
+ *   length.
  * - A call uses about 10 kilobytes of stack (measured; the tests fail above 16), and always ends.
  *
  * Paths are 1 to 128 bytes, each from 33 to 126, with no '/' first and no two adjacent; the empty path is the root,
- * which only get and head take. They are no C strings: no byte closes them. A stamp is a count of seconds since the
+ * which only get and head take. They are not C strings: no zero byte ends them. A stamp is a count of seconds since the
  * start of 1970, at least 1. Part numbers are 1 to 11,000.
+ *
+ * Saving: save all bytes of the tables and the arena together, while no call writes them. Write both to a new file,
+ * fsync it, rename it to the name of the saves, and keep the last good save. After bringing both back, ask whether they
+ * are a store. Tables of one moment with the arena of another can be a store too, with objects whose bytes no call
+ * wrote, since the test takes stored digests as they stand. So save a checksum of your own over both slices with them.
+ * For an object with a plain etag, the MD5 of its data shows whether they are as they were; a joined etag does not.
+ * docs/LAYOUT.md of the sources says more ("Saving and bringing back").
  */
 #ifndef RATHNODI_H
 #define RATHNODI_H
@@ -33,6 +45,34 @@
 
 #ifdef __cplusplus
 extern "C" {
+#endif
+
+/* The version. MAJOR grows where a caller or a saved store has to change, MINOR where something is added. */
+#define RATHNODI_VERSION_MAJOR 1
+#define RATHNODI_VERSION_MINOR 0
+#define RATHNODI_VERSION_PATCH 0
+/* The same as a text, "1.0.0" for example. */
+#define RATHNODI_VERSION RATHNODI_DOTTED(RATHNODI_VERSION_MAJOR, RATHNODI_VERSION_MINOR, RATHNODI_VERSION_PATCH)
+#define RATHNODI_DOTTED(major, minor, patch) \
+    RATHNODI_QUOTED(major) "." RATHNODI_QUOTED(minor) "." RATHNODI_QUOTED(patch)
+#define RATHNODI_QUOTED(number) #number
+
+/* gcc and clang warn of a null pointer, and of a result that is not looked at: a refused call did nothing. */
+#if defined(__GNUC__)
+#define RATHNODI_NONNULL __attribute__((nonnull))
+#define RATHNODI_CALL __attribute__((nonnull, warn_unused_result))
+#else
+#define RATHNODI_NONNULL
+#define RATHNODI_CALL
+#endif
+
+/* A condition that the compiler tests; the name tells it from the others in C99. */
+#if defined(__cplusplus) && __cplusplus >= 201103L
+#define RATHNODI_ASSERT(name, condition) static_assert(condition, #name)
+#elif defined(__STDC_VERSION__) && __STDC_VERSION__ >= 201112L
+#define RATHNODI_ASSERT(name, condition) _Static_assert(condition, #name)
+#else
+#define RATHNODI_ASSERT(name, condition) typedef char rathnodi_assert_##name[(condition) ? 1 : -1]
 #endif
 
 /* The one right length of the tables. */
@@ -49,15 +89,15 @@ extern "C" {
 #define RATHNODI_UPLOADS_MAX 16
 #define RATHNODI_PARTS_MAX 256
 
-/* The longest record of list and of uploads. An answer of RATHNODI_OBJECTS_MAX or RATHNODI_UPLOADS_MAX of them suffices
- * for every listing. */
+/* The longest record of list and of uploads. Room for RATHNODI_OBJECTS_MAX or RATHNODI_UPLOADS_MAX of them suffices for
+ * every answer. */
 #define RATHNODI_LIST_RECORD_MAX 178
 #define RATHNODI_UPLOADS_RECORD_MAX 143
 
 /* What a call returns. */
 enum {
     RATHNODI_OK = 0,
-    RATHNODI_NOT_A_STORE = 1,     /* tables or reply of the wrong length; memory that is no store */
+    RATHNODI_NOT_A_STORE = 1,     /* tables or reply of the wrong length; memory that is not a store */
     RATHNODI_BAD_REQUEST = 2,     /* a bad path, stamp, part number or part list; an upload that is not open; fresh: an
                                    * arena over RATHNODI_ARENA_MAX */
     RATHNODI_NOT_FOUND = 3,       /* no object at that path */
@@ -66,6 +106,22 @@ enum {
     RATHNODI_NUMBERS_USED_UP = 6, /* upload number 4,294,967,295 has been given out */
     RATHNODI_BUFFER_SHORT = 7     /* the bytes to write exceed the answer */
 };
+
+/* A result as a text of a few words. */
+static inline const char *rathnodi_result_text(uint32_t result)
+{
+    switch (result) {
+    case RATHNODI_OK: return "ok";
+    case RATHNODI_NOT_A_STORE: return "not a store";
+    case RATHNODI_BAD_REQUEST: return "bad request";
+    case RATHNODI_NOT_FOUND: return "not found";
+    case RATHNODI_TABLE_FULL: return "table full";
+    case RATHNODI_ARENA_FULL: return "arena full";
+    case RATHNODI_NUMBERS_USED_UP: return "numbers used up";
+    case RATHNODI_BUFFER_SHORT: return "buffer short";
+    default: return "unknown result";
+    }
+}
 
 /* The kind of an etag. As text, a plain one is the digest's 16 bytes in lower-case hexadecimal; a joined one adds "-"
  * and its count in decimal; an absent one is no bytes. */
@@ -102,65 +158,170 @@ struct rathnodi_reply {
     uint8_t etag_digest[16];
     uint8_t zeros[4];
 };
-#if defined(__STDC_VERSION__) && __STDC_VERSION__ >= 201112L
-_Static_assert(sizeof(struct rathnodi_reply) == RATHNODI_REPLY_LEN, "the struct is laid over a reply");
-#endif
+#define RATHNODI_REPLY_AT(field, offset) \
+    RATHNODI_ASSERT(reply_##field, offsetof(struct rathnodi_reply, field) == (offset))
+RATHNODI_REPLY_AT(created, RATHNODI_REPLY_CREATED);
+RATHNODI_REPLY_AT(length, RATHNODI_REPLY_LENGTH);
+RATHNODI_REPLY_AT(upload, RATHNODI_REPLY_UPLOAD);
+RATHNODI_REPLY_AT(records, RATHNODI_REPLY_RECORDS);
+RATHNODI_REPLY_AT(bytes, RATHNODI_REPLY_BYTES);
+RATHNODI_REPLY_AT(etag_kind, RATHNODI_REPLY_ETAG_KIND);
+RATHNODI_REPLY_AT(zero, RATHNODI_REPLY_ETAG_KIND + 1);
+RATHNODI_REPLY_AT(etag_count, RATHNODI_REPLY_ETAG_COUNT);
+RATHNODI_REPLY_AT(etag_digest, RATHNODI_REPLY_ETAG_DIGEST);
+RATHNODI_REPLY_AT(zeros, RATHNODI_REPLY_ETAG_DIGEST + 16);
+RATHNODI_ASSERT(reply_len, sizeof(struct rathnodi_reply) == RATHNODI_REPLY_LEN);
 #endif
 
 /* RATHNODI_TABLES_LEN, as the library has it. */
 size_t rathnodi_tables_len(void);
 
 /* An empty store, whatever the slices hold. It looks at their lengths only. */
-uint32_t rathnodi_fresh(uint8_t *tables, size_t tables_len, uint8_t *arena, size_t arena_len);
+uint32_t rathnodi_fresh(uint8_t *tables, size_t tables_len, uint8_t *arena, size_t arena_len)
+    RATHNODI_CALL;
 
 /* The object at path becomes the data, with this stamp. */
 uint32_t rathnodi_put(uint8_t *tables, size_t tables_len, uint8_t *arena, size_t arena_len, uint64_t stamp,
-                      const uint8_t *path, size_t path_len, const uint8_t *data, size_t data_len);
+                      const uint8_t *path, size_t path_len, const uint8_t *data, size_t data_len)
+    RATHNODI_CALL;
 
 /* The object's data, at the front of the answer, and its metadata. */
 uint32_t rathnodi_get(const uint8_t *tables, size_t tables_len, const uint8_t *arena, size_t arena_len,
                       const uint8_t *path, size_t path_len, uint8_t *answer, size_t answer_len, uint8_t *reply,
-                      size_t reply_len);
+                      size_t reply_len)
+    RATHNODI_CALL;
 
 /* The object's metadata alone. */
 uint32_t rathnodi_head(const uint8_t *tables, size_t tables_len, const uint8_t *arena, size_t arena_len,
-                       const uint8_t *path, size_t path_len, uint8_t *reply, size_t reply_len);
+                       const uint8_t *path, size_t path_len, uint8_t *reply, size_t reply_len)
+    RATHNODI_CALL;
 
 /* Removes the object. */
 uint32_t rathnodi_delete(uint8_t *tables, size_t tables_len, uint8_t *arena, size_t arena_len, const uint8_t *path,
-                         size_t path_len);
+                         size_t path_len)
+    RATHNODI_CALL;
 
 /* As a put of the source's data at the destination, which may be the source. */
 uint32_t rathnodi_copy(uint8_t *tables, size_t tables_len, uint8_t *arena, size_t arena_len, uint64_t stamp,
-                       const uint8_t *source, size_t source_len, const uint8_t *destination, size_t destination_len);
+                       const uint8_t *source, size_t source_len, const uint8_t *destination, size_t destination_len)
+    RATHNODI_CALL;
 
 /* The paths that begin with the prefix and whose rest ends with the suffix, ascending by bytes. A record is: path
  * length (1 byte), path, data length (4), created (8), length of the etag's text (1), that text. */
 uint32_t rathnodi_list(const uint8_t *tables, size_t tables_len, const uint8_t *arena, size_t arena_len,
                        const uint8_t *prefix, size_t prefix_len, const uint8_t *suffix, size_t suffix_len,
-                       uint8_t *answer, size_t answer_len, uint8_t *reply, size_t reply_len);
+                       uint8_t *answer, size_t answer_len, uint8_t *reply, size_t reply_len)
+    RATHNODI_CALL;
 
 /* Opens an upload to the path; the reply has its number. */
 uint32_t rathnodi_initiate(uint8_t *tables, size_t tables_len, uint8_t *arena, size_t arena_len, uint64_t stamp,
-                           const uint8_t *path, size_t path_len, uint8_t *reply, size_t reply_len);
+                           const uint8_t *path, size_t path_len, uint8_t *reply, size_t reply_len)
+    RATHNODI_CALL;
 
 /* Sets a part of an open upload; the reply has the part's etag. */
 uint32_t rathnodi_part(uint8_t *tables, size_t tables_len, uint8_t *arena, size_t arena_len, uint32_t upload,
-                       uint16_t part, const uint8_t *data, size_t data_len, uint8_t *reply, size_t reply_len);
+                       uint16_t part, const uint8_t *data, size_t data_len, uint8_t *reply, size_t reply_len)
+    RATHNODI_CALL;
 
 /* The parts, joined in listed order, become the object at the upload's path, with the upload's stamp. The list has
  * 16-bit part numbers, low byte first, and names every part of the upload one time. part_list_len is in bytes. */
 uint32_t rathnodi_commit(uint8_t *tables, size_t tables_len, uint8_t *arena, size_t arena_len, uint32_t upload,
-                         const uint8_t *part_list, size_t part_list_len);
+                         const uint8_t *part_list, size_t part_list_len)
+    RATHNODI_CALL;
 
 /* Removes an open upload and its parts. */
-uint32_t rathnodi_abort(uint8_t *tables, size_t tables_len, uint8_t *arena, size_t arena_len, uint32_t upload);
+uint32_t rathnodi_abort(uint8_t *tables, size_t tables_len, uint8_t *arena, size_t arena_len, uint32_t upload)
+    RATHNODI_CALL;
 
 /* The open uploads whose path begins with the prefix, ascending by number. A record is: number (4 bytes), path length
  * (1), path, started (8), count of parts (2). */
 uint32_t rathnodi_uploads(const uint8_t *tables, size_t tables_len, const uint8_t *arena, size_t arena_len,
                           const uint8_t *prefix, size_t prefix_len, uint8_t *answer, size_t answer_len,
-                          uint8_t *reply, size_t reply_len);
+                          uint8_t *reply, size_t reply_len)
+    RATHNODI_CALL;
+
+/* A number of so many bytes, low byte first. */
+RATHNODI_NONNULL static inline uint64_t rathnodi_number(const uint8_t *from, size_t width)
+{
+    uint64_t number = 0;
+    for (size_t i = width; i > 0; i--) {
+        number = number << 8 | from[i - 1];
+    }
+    return number;
+}
+
+/* A record of list. Path and etag point into the answer; no zero byte ends them. */
+struct rathnodi_list_record {
+    const uint8_t *path;
+    size_t path_len;
+    uint32_t length; /* of the data */
+    uint64_t created;
+    const char *etag; /* as text */
+    size_t etag_len;
+};
+
+/* Reads the record at *at, which starts at 0, in list's answer, of which `bytes` are written (as the reply says). It
+ * returns 1 and moves *at past the record; or it returns 0 and changes nothing, where no whole record follows: then *at
+ * is `bytes` unless the answer was cut off. */
+RATHNODI_CALL static inline int rathnodi_list_next(const uint8_t *answer, size_t bytes, size_t *at,
+                                                   struct rathnodi_list_record *record)
+{
+    size_t left = *at < bytes ? bytes - *at : 0;
+    size_t path_len = left > 0 ? answer[*at] : 0;
+    if (left < 1 + path_len + 13) {
+        return 0;
+    }
+    const uint8_t *path = answer + *at + 1;
+    const uint8_t *rest = path + path_len; /* data length (4), created (8), length of the etag's text (1), that text */
+    size_t etag_len = rest[12];
+    if (left < 1 + path_len + 13 + etag_len) {
+        return 0;
+    }
+    record->path = path;
+    record->path_len = path_len;
+    record->length = (uint32_t)rathnodi_number(rest, 4);
+    record->created = rathnodi_number(rest + 4, 8);
+    record->etag = (const char *)(rest + 13);
+    record->etag_len = etag_len;
+    *at += 1 + path_len + 13 + etag_len;
+    return 1;
+}
+
+/* A record of uploads. Its path points into the answer; no zero byte ends it. */
+struct rathnodi_uploads_record {
+    uint32_t upload;
+    const uint8_t *path;
+    size_t path_len;
+    uint64_t started;
+    uint16_t parts; /* how many */
+};
+
+/* As rathnodi_list_next, of uploads' answer. */
+RATHNODI_CALL static inline int rathnodi_uploads_next(const uint8_t *answer, size_t bytes, size_t *at,
+                                                      struct rathnodi_uploads_record *record)
+{
+    size_t left = *at < bytes ? bytes - *at : 0;
+    size_t path_len = left > 4 ? answer[*at + 4] : 0;
+    if (left < 5 + path_len + 10) {
+        return 0;
+    }
+    const uint8_t *path = answer + *at + 5;
+    const uint8_t *rest = path + path_len; /* started (8), count of parts (2) */
+    record->upload = (uint32_t)rathnodi_number(answer + *at, 4);
+    record->path = path;
+    record->path_len = path_len;
+    record->started = rathnodi_number(rest, 8);
+    record->parts = (uint16_t)rathnodi_number(rest + 8, 2);
+    *at += 5 + path_len + 10;
+    return 1;
+}
+
+/* Sets the number at this place, from 0, of a part list, which has two bytes for each number. */
+RATHNODI_NONNULL static inline void rathnodi_part_list_set(uint8_t *part_list, size_t place, uint16_t part)
+{
+    part_list[2 * place] = (uint8_t)(part & 255);
+    part_list[2 * place + 1] = (uint8_t)(part >> 8);
+}
 
 #ifdef __cplusplus
 }

@@ -25,23 +25,8 @@ static struct rathnodi_reply reply;
 /* Seconds since 1970 at the start of the shift, 3 in the morning of 14 November 2023. */
 static const uint64_t SHIFT = 1699930800;
 
-/* Calls that were answered otherwise than the shift expects. */
+/* How often the store answered otherwise than the shift expects. */
 static int surprises;
-
-static const char *name_of(uint32_t number)
-{
-    switch (number) {
-    case RATHNODI_OK: return "ok";
-    case RATHNODI_NOT_A_STORE: return "not a store";
-    case RATHNODI_BAD_REQUEST: return "bad request";
-    case RATHNODI_NOT_FOUND: return "not found";
-    case RATHNODI_TABLE_FULL: return "table full";
-    case RATHNODI_ARENA_FULL: return "arena full";
-    case RATHNODI_NUMBERS_USED_UP: return "numbers used up";
-    case RATHNODI_BUFFER_SHORT: return "buffer short";
-    default: return "an unknown number";
-    }
-}
 
 /* Ends the line of a call with its answer. */
 static int answered(uint32_t number, uint32_t expected)
@@ -49,10 +34,10 @@ static int answered(uint32_t number, uint32_t expected)
     if (number == RATHNODI_OK) {
         printf("-> ok");
     } else {
-        printf("-> refused, %" PRIu32 ": %s", number, name_of(number));
+        printf("-> refused, %" PRIu32 ": %s", number, rathnodi_result_text(number));
     }
     if (number != expected) {
-        printf("  (expected %" PRIu32 ": %s)", expected, name_of(expected));
+        printf("  (expected %" PRIu32 ": %s)", expected, rathnodi_result_text(expected));
         surprises++;
     }
     return number == RATHNODI_OK;
@@ -70,15 +55,6 @@ static void print_etag(uint8_t kind, const uint8_t *digest, unsigned count)
     if (kind == RATHNODI_ETAG_JOINED) {
         printf("-%u", count);
     }
-}
-
-static uint64_t number_at(const uint8_t *bytes, int width)
-{
-    uint64_t number = 0;
-    for (int i = width; i > 0; i--) {
-        number = number << 8 | bytes[i - 1];
-    }
-    return number;
 }
 
 static void say(const char *line)
@@ -143,19 +119,13 @@ static void list(const char *prefix, const char *suffix, size_t room, uint32_t e
         return;
     }
     printf(", records %" PRIu32 ", bytes %" PRIu32 "\n", reply.records, reply.bytes);
-    const uint8_t *at = answer;
-    for (uint32_t i = 0; i < reply.records; i++) {
-        int path_len = *at++;
-        const uint8_t *path = at;
-        at += path_len;
-        uint64_t length = number_at(at, 4);
-        uint64_t created = number_at(at + 4, 8);
-        int etag_len = at[12];
-        at += 13;
-        printf("              %-24.*s %5" PRIu64 " bytes  %" PRIu64 "  %.*s\n", path_len, (const char *)path, length,
-               created, etag_len, (const char *)at);
-        at += etag_len;
+    struct rathnodi_list_record record;
+    uint32_t records = 0;
+    for (size_t at = 0; rathnodi_list_next(answer, reply.bytes, &at, &record); records++) {
+        printf("              %-24.*s %5" PRIu32 " bytes  %" PRIu64 "  %.*s\n", (int)record.path_len,
+               (const char *)record.path, record.length, record.created, (int)record.etag_len, record.etag);
     }
+    surprises += records != reply.records;
 }
 
 /* The number of the upload, 0 if none was opened. */
@@ -183,15 +153,14 @@ static void part(uint32_t upload, uint16_t number, const char *text, uint32_t ex
 
 static void commit(uint32_t upload, const uint16_t *numbers, size_t count, uint32_t expected)
 {
-    uint8_t bytes[2 * RATHNODI_PARTS_MAX];
+    uint8_t part_list[2 * RATHNODI_PARTS_MAX];
     printf("  commit    %" PRIu32 ", parts", upload);
     for (size_t i = 0; i < count; i++) {
         printf(" %" PRIu16, numbers[i]);
-        bytes[2 * i] = (uint8_t)(numbers[i] & 255);
-        bytes[2 * i + 1] = (uint8_t)(numbers[i] >> 8);
+        rathnodi_part_list_set(part_list, i, numbers[i]);
     }
     printf(" ");
-    answered(rathnodi_commit(STORE, upload, bytes, 2 * count), expected);
+    answered(rathnodi_commit(STORE, upload, part_list, 2 * count), expected);
     printf("\n");
 }
 
@@ -210,16 +179,13 @@ static void uploads(const char *prefix, uint32_t expected)
         return;
     }
     printf(", records %" PRIu32 ", bytes %" PRIu32 "\n", reply.records, reply.bytes);
-    const uint8_t *at = answer;
-    for (uint32_t i = 0; i < reply.records; i++) {
-        uint64_t number = number_at(at, 4);
-        int path_len = at[4];
-        const uint8_t *path = at + 5;
-        at += 5 + path_len;
-        printf("              upload %" PRIu64 " to %.*s, started %" PRIu64 ", parts %" PRIu64 "\n", number, path_len,
-               (const char *)path, number_at(at, 8), number_at(at + 8, 2));
-        at += 10;
+    struct rathnodi_uploads_record record;
+    uint32_t records = 0;
+    for (size_t at = 0; rathnodi_uploads_next(answer, reply.bytes, &at, &record); records++) {
+        printf("              upload %" PRIu32 " to %.*s, started %" PRIu64 ", parts %" PRIu16 "\n", record.upload,
+               (int)record.path_len, (const char *)record.path, record.started, record.parts);
     }
+    surprises += records != reply.records;
 }
 
 /* A label of 96 by 32 dots as a portable bitmap: a frame and bars. */

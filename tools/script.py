@@ -32,7 +32,7 @@ def low_first(n, size):
 
 class Store:
     def __init__(self, length):
-        self.length, self.objects, self.uploads, self.coming = length, {}, {}, 1
+        self.length, self.objects, self.uploads, self.next = length, {}, {}, 1
 
     def fit(self, objects, uploads):
         """The ceilings, of the state after a call: counts first, then bytes."""
@@ -60,9 +60,9 @@ class Store:
 
     def initiate(self, stamp, path):
         need(stamp >= 1 and path_ok(path), 2)
-        self.fit(self.objects, {**self.uploads, self.coming: (path, stamp, {})})
-        self.coming += 1
-        return f", upload {self.coming - 1}"
+        self.fit(self.objects, {**self.uploads, self.next: (path, stamp, {})})
+        self.next += 1
+        return f", upload {self.next - 1}"
 
     def part(self, upload, number, data):
         need(1 <= number <= 11000 and upload in self.uploads, 2)
@@ -97,7 +97,7 @@ class Store:
     def memory(self):
         """docs/LAYOUT.md: the header and the rows; the rows' data."""
         parts = sum(len(u[2]) for u in self.uploads.values())
-        tables = low_first(self.length, 4) + low_first(self.coming, 8)
+        tables = low_first(self.length, 4) + low_first(self.next, 8)
         tables += low_first(len(self.objects), 2) + low_first(len(self.uploads), 2) + low_first(parts, 2)
         arena = b""
 
@@ -128,12 +128,12 @@ def metadata(store, path):
 
 
 def parts_of(text):
-    """A part list's numbers, or one that no upload has where a byte is left over."""
+    """A part list's numbers; a byte left over becomes number 0, which no upload has."""
     return [0 if n == "+" else int(n) for n in text.split(",")] if text else []
 
 
 def answer(store, word, fields):
-    """What stands behind the line, and the answer buffer (None for none), which starts as dots."""
+    """What is printed after the line, and the answer buffer (None for none), which starts as dots."""
     texts = [b"" if f == "~" else f.encode() for f in fields] + [b"", b"", b""]
     number = int(fields[0]) if fields and fields[0].isdigit() else 0
     if word in ("TABLES", "ARENA"):

@@ -1,4 +1,4 @@
-//! The stores that are measured, behind one set of calls. Each call must succeed.
+//! The stores that are measured, by one set of calls. Each call must succeed.
 
 use model::{Answer, Call, Model};
 use rathnodi::{slices, REPLY_LEN, TABLES_LEN};

@@ -62,7 +62,7 @@ fn search(bytes: &[u8]) -> usize {
 
 pub fn table() {
     println!("\n### The test \"whole\" on a full store, and what GET and HEAD add\n");
-    println!("256 objects, 16 uploads and 256 parts; the best of 2,000 turns, in microseconds. A HEAD of a bad path is refused right behind");
+    println!("256 objects, 16 uploads and 256 parts; the best of 2,000 turns, in microseconds. A HEAD of a bad path is refused right after");
     println!("\"whole\", so it stands for that test. The plain passes go over the same header and rows.\n");
     println!("| bytes of each path | whole | HEAD, last object | GET, last object | UPLOADS | byte loop | search | HEAD / whole | GET / whole |");
     println!("|---|---|---|---|---|---|---|---|---|");

@@ -33,7 +33,7 @@ struct Search<F> {
 }
 
 impl<F: FnMut(&List) -> Option<usize>> Search<F> {
-    /// Takes the list where it fails, without the steps behind.
+    /// Takes the list where it fails, without the steps after that.
     fn accepts(&mut self, list: List) -> bool {
         if self.start.elapsed() > LONGEST || self.best.steps.is_empty() {
             return false;

@@ -221,7 +221,7 @@ pub fn marked() -> Vec<Case> {
     ]
 }
 
-/// The sentences behind "Unmarked".
+/// The sentences after "Unmarked".
 pub fn unmarked() -> Vec<Case> {
     let long = "p".repeat(128);
     let too_long = "p".repeat(129);

@@ -1,5 +1,5 @@
-//! The calls over slices, each with the number that it returns. A slice is never null, and one that
-//! is lent by `&mut` overlaps no other, which is all that the C interface asks of its caller.
+//! The calls over slices, each with the number that it returns. A slice is never null, and a slice
+//! lent by `&mut` overlaps no other, which is all that the C interface asks of its caller.
 
 use crate::c;
 

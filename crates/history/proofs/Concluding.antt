@@ -19,5 +19,5 @@ conclude m m₀ m′ n t made z run =
 -- the list runs wherever FRESH accepts
 pub accepted-runs : (m : Memory) (stamp : ℕ) (path one two early late : Bytes) (a : BatchAnswer) (early′ late′ : Bytes) (m′ : Memory)
     → freshResult m ≡ 0 → Concluded m stamp path one two early late a early′ late′ m′ → Ran a
-accepted-runs m stamp path one two early late (answer.Refused n) early′ late′ m′ z h = absurd (h .0 (h .1 .0 ∙ z))
+accepted-runs m stamp path one two early late (answer.Refused n) early′ late′ m′ z h = absurd (h .0 (h .1 ∙ z))
 accepted-runs m stamp path one two early late (answer.Ran b) early′ late′ m′ z h = tt

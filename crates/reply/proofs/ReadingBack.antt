@@ -1,0 +1,88 @@
+-- What `replyBytes` writes is read back, where the values fit their widths. Assumes nothing.
+use Prim.Native.Nat.{ℕ, _<_, _^_}
+use mathlib.Core.Path.{_≡_, ap, ap₂}
+use native.Mathlib.Omega.{arith}
+use lib.ListN.{length, take, drop}
+use lib.Seq.{take-at}
+use Rattle.number.specs.Number.{le, fromLe}
+use Rattle.number.specs.NumberLaws.{length-le, fromLe-le}
+use Rattle.machine.specs.Names.{Bytes}
+use Rattle.machine.specs.Etags.{Etag, absent, plain, joined, countOf, digestOf}
+use Rattle.machine.specs.Calls.{Answer, metadata, etag, number, counts}
+use Rattle.reply.specs.Reply.{kindOf, fieldBytes, fieldsWith, replyBytes}
+use Rattle.reply.specs.ReadBack.{numberAt, etagFrom, etagIn, metadataIn, numberIn, countsIn}
+
+-- an etag that fits its fields: 16 bytes of digest, a count of 16 bits
+abbrev pub EtagFits : Etag → Type 0
+EtagFits absent = Unit {0}
+EtagFits (plain digest) = length digest ≡ 16
+EtagFits (joined digest count) = (length digest ≡ 16) × (count < 65536)
+
+module _ (created size upload records bytes kind count : ℕ) (digest : Bytes) where
+  abbrev o : Bytes
+  o = fieldBytes created size upload records bytes kind count digest
+
+  created-at : created < 256 ^ 8 → numberAt 0 8 o ≡ created
+  unfolding fieldBytes le
+  created-at h = fromLe-le 8 created h
+
+  length-at : size < 256 ^ 4 → numberAt 8 4 o ≡ size
+  unfolding fieldBytes le
+  length-at h = fromLe-le 4 size h
+
+  upload-at : upload < 256 ^ 4 → numberAt 12 4 o ≡ upload
+  unfolding fieldBytes le
+  upload-at h = fromLe-le 4 upload h
+
+  records-at : records < 256 ^ 4 → numberAt 16 4 o ≡ records
+  unfolding fieldBytes le
+  records-at h = fromLe-le 4 records h
+
+  bytes-at : bytes < 256 ^ 4 → numberAt 20 4 o ≡ bytes
+  unfolding fieldBytes le
+  bytes-at h = fromLe-le 4 bytes h
+
+  kind-at : kind < 256 ^ 1 → numberAt 24 1 o ≡ kind
+  unfolding fieldBytes le
+  kind-at h = fromLe-le 1 kind h
+
+  count-at : count < 256 ^ 2 → numberAt 26 2 o ≡ count
+  unfolding fieldBytes le
+  count-at h = fromLe-le 2 count h
+
+  digest-at : length digest ≡ 16 → take 16 (drop 28 o) ≡ digest
+  unfolding fieldBytes le
+  digest-at h = take-at digest (le 4 0) 16 h
+
+  etag-at : kind < 256 ^ 1 → count < 256 ^ 2 → length digest ≡ 16 → etagIn o ≡ etagFrom kind count digest
+  unfolding etagIn
+  etag-at hk hc hd = λ i. etagFrom (kind-at hk i) (count-at hc i) (digest-at hd i)
+
+-- the etag, whatever stands in the other fields
+etag-with : (created size upload records bytes : ℕ) (e : Etag) → EtagFits e → etagIn (fieldsWith created size upload records bytes e) ≡ e
+etag-with created size upload records bytes absent h = etag-at created size upload records bytes 0 0 (le 16 0) (omega arith) (omega arith) (length-le 16 0)
+etag-with created size upload records bytes (plain digest) h = etag-at created size upload records bytes 1 0 digest (omega arith) (omega arith) h
+etag-with created size upload records bytes (joined digest count) h =
+    let n = h .1 in
+    etag-at created size upload records bytes 2 count digest (omega arith) (omega arith) (h .0)
+
+pub metadata-back : (size created : ℕ) (e : Etag) → size < 4294967296 → created < 18446744073709551616 → EtagFits e
+    → metadataIn (replyBytes (metadata size created e)) ≡ metadata size created e
+unfolding replyBytes metadataIn
+metadata-back size created e hs hc he =
+    let l = length-at created size 0 0 0 (kindOf e) (countOf e) (digestOf e) (omega arith) in
+    let c = created-at created size 0 0 0 (kindOf e) (countOf e) (digestOf e) (omega arith) in
+    λ i. metadata (l i) (c i) (etag-with created size 0 0 0 e he i)
+
+pub etag-back : (e : Etag) → EtagFits e → etagIn (replyBytes (etag e)) ≡ e
+unfolding replyBytes
+etag-back e h = etag-with 0 0 0 0 0 e h
+
+pub number-back : (n : ℕ) → n < 4294967296 → numberIn (replyBytes (number n)) ≡ number n
+unfolding replyBytes numberIn
+number-back n h = ap number (upload-at 0 0 n 0 0 _ _ _ (omega arith))
+
+pub counts-back : (records bytes : ℕ) → records < 4294967296 → bytes < 4294967296 → countsIn (replyBytes (counts records bytes)) ≡ counts records bytes
+unfolding replyBytes countsIn
+counts-back records bytes hr hb =
+    ap₂ counts (records-at 0 0 0 records bytes _ _ _ (omega arith)) (bytes-at 0 0 0 records bytes _ _ _ (omega arith))

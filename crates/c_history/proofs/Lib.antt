@@ -1,0 +1,5 @@
+pub mod Sizes
+pub mod Telling
+pub mod Hearing
+pub mod Demand3
+pub mod Questions

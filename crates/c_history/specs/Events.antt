@@ -1,0 +1,29 @@
+-- What a C program passes to one exported function and sees of it, and what it hears by that. Assumes nothing.
+use Prim.Native.Nat.{ℕ}
+use mathlib.Core.Bool.{cond}
+use mathlib.Core.List.{List, [], _∷_}
+use lib.Dec.{eqb}
+use lib.ListN.{length}
+use Rattle.machine.specs.Names.{Bytes}
+use Rattle.machine.specs.Calls.{Call, Reply, nothing}
+use Rattle.machine.specs.Lists.{Trace}
+use Rattle.reply.specs.Reply.{replyLength}
+use Rattle.reply.specs.ReadBack.{answerIn}
+use Rattle.rathnodi.specs.Exported.{numbered}
+
+-- One call. Its arguments, and the bytes of its answer buffer before, are those of the machine's call.
+pub data Event : Type 0 where
+  -- without a reply slice: the number returned
+  alone : (call : Call) (number : ℕ) → Event
+  -- with one that held `before`: the number returned, then the answer buffer and the reply slice after the call
+  replied : (call : Call) (before : Bytes) (number : ℕ) (buffer after : Bytes) → Event
+
+-- what a reply of 48 bytes tells with the number and the answer buffer; a refusal (not 0) answers nothing
+abbrev pub told : Call → (number : ℕ) (buffer reply : Bytes) → Reply
+told k n b o = record { result = n; answer = cond (eqb n 0) (answerIn k o) nothing; buffer = b }
+
+-- what C hears of a list of calls, as a trace of the machine; a call with a reply of another length adds nothing
+unfoldable pub heard : List Event → Trace
+heard [] = []
+heard (alone k n ∷ es) = (k, numbered n) ∷ heard es
+heard (replied k o n b o′ ∷ es) = cond (eqb (length o) replyLength) ((k, told k n b o′) ∷ heard es) (heard es)

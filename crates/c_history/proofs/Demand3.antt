@@ -1,15 +1,17 @@
 -- Demand 3 of every list of exported calls from FRESH, by what C hears. Assumes nothing.
 use Prim.Native.Nat.{ℕ}
-use mathlib.Core.Path.{_≡_}
+use mathlib.Core.Path.{_≡_, refl, subst}
 use mathlib.Core.List.{List}
+use lib.ListN.{length}
 use Rattle.number.specs.NumberLaws as number
-use Rattle.calls.specs.Made.{Memory}
+use Rattle.calls.specs.Made.{Memory, MadeFresh}
 use Rattle.history.specs.Runs.{Run, FromFresh}
 use Rattle.history.specs.Demand3.{Demand3}
 use Rattle.history.proofs.Demand3 as history
 use Rattle.c_history.specs.Events.{Event, heard}
 use Rattle.c_history.specs.Lists.{CRun, CFromFresh}
-use Rattle.c_history.proofs.Hearing.{bytes-sound, fresh-sound, sound-run}
+use Rattle.c_history.proofs.Sound.{bytes-sound, fresh-sound}
+use Rattle.c_history.proofs.Hearing.{sound-run}
 
 -- over any memory of bytes, damaged or not
 pub is-run : {es : List Event} {m m′ : Memory} → number.Bytes (m .tables) → CRun es m m′ → Run (heard es) m m′
@@ -27,3 +29,8 @@ from-fresh A es m f =
 
 pub demand3 : (A : ℕ) (es : List Event) (m : Memory) → CFromFresh A es m → Demand3 A (heard es) m
 demand3 A es m f = history.demand3 A (heard es) m (from-fresh A es m f)
+
+-- what a caller concludes once FRESH answered 0 and its calls were made
+pub conclude : (m m₀ m′ : Memory) (n : ℕ) (es : List Event) → MadeFresh m n m₀ → n ≡ 0 → CRun es m₀ m′ → Demand3 (length (m .arena)) (heard es) m′
+conclude m m₀ m′ n es made z run =
+    demand3 (length (m .arena)) es m′ (record { lent = m; start = m₀; arena = refl; fresh = subst (λ (k : ℕ). MadeFresh m k m₀) z made; run = run })

@@ -2,80 +2,25 @@
 use Prim.Native.Nat.{ℕ}
 use native.Mathlib.Decide.{ℕ-discrete}
 use mathlib.Core.Path.{_≡_, refl, sym, ap, _∙_, subst}
-use mathlib.Core.Bool.{Bool, true, false, cond}
-use mathlib.Core.List.{List, [], _∷_}
+use mathlib.Core.Bool.{Bool, true, false}
+use mathlib.Core.List.{List, _∷_}
 use borrow.Author.Tests.{eq-eqb, ne-eqb}
 use lib.ListN.{length}
-use Rattle.number.specs.NumberLaws as number
 use Rattle.machine.specs.Names.{Bytes}
-use Rattle.machine.specs.State.{State}
 use Rattle.machine.specs.Calls.{Call, Answer, Reply, badRequest, notFound, tableFull, arenaFull, numbersUsedUp, bufferShort, Outcome, refuse, accept, lent}
 use Rattle.machine.specs.Steps.{act, replyOf}
 use Rattle.machine.proofs.Outcome.{Then}
-use Rattle.layout.specs.Memory.{Stands}
-use Rattle.layout.specs.WholeLaws.{whole-stands}
-use Rattle.calls.specs.Made.{Memory, wholeMemory, stateIn, meantReply, meantState, Made, MadeFresh}
+use Rattle.calls.specs.Made.{Memory, wholeMemory, stateIn, meantReply, Made}
 use Rattle.history.specs.Runs.{Run}
 use Rattle.history.specs.Runs as runs
 use Rattle.reply.specs.Reply.{replyLength}
-use Rattle.rathnodi.specs.Exported.{numbered, answerWith, replyAfter, Exported}
+use Rattle.rathnodi.specs.Exported.{answerWith, replyAfter, Exported}
 use Rattle.c_history.specs.Events.{Event, alone, replied, told, heard}
-use Rattle.c_history.specs.Lists.{Step, put, get, head, delete, copy, list, initiate, part, commit, abort, uploads, CRun, stop, call}
+use Rattle.c_history.specs.Lists.{Step, CRun, stop, call}
 use Rattle.c_history.proofs.Telling.{ReadBack, reads-back}
+use Rattle.c_history.proofs.Sound.{Promised, promised, Sound, promised-sound}
 
--- what a step's function promised
-Promised : Event → Memory → Memory → Type 0
-Promised (alone k n) m m′ = Made k m (numbered n) m′
-Promised (replied k o n b o′) m m′ = Exported k m o n b o′ m′
-
-promised : {e : Event} {m m′ : Memory} → Step e m m′ → Promised e m m′
-unfolding Promised
-promised (put h) = h
-promised (get h) = h
-promised (head h) = h
-promised (delete h) = h
-promised (copy h) = h
-promised (list h) = h
-promised (initiate h) = h
-promised (part h) = h
-promised (commit l h) = h
-promised (abort h) = h
-promised (uploads h) = h
-
--- Memory that stands for a valid state where it is whole --------------------------------------------------------------------
-
-pub Sound : Memory → Type 0
-Sound m = wholeMemory m ≡ true → Stands (m .tables) (m .arena) (stateIn m)
-
--- memory of bytes is so
-pub bytes-sound : (m : Memory) → number.Bytes (m .tables) → Sound m
-unfolding Sound
-bytes-sound m b w = whole-stands (m .tables) (m .arena) b w
-
-pub fresh-sound : (m m′ : Memory) → MadeFresh m 0 m′ → Sound m′
-unfolding Sound
-fresh-sound m m′ made w = subst (Stands (m′ .tables) (m′ .arena)) (sym (made .state refl)) (made .bytes refl)
-
--- a call keeps it
-made-sound : (k : Call) (m : Memory) (r : Reply) (m′ : Memory) → Sound m → Made k m r m′ → Sound m′
-unfolding Sound
-made-sound k m r m′ h made = go (ℕ-discrete (r .result) 0)
-  where
-    go : Dec (r .result ≡ 0) → wholeMemory m′ ≡ true → Stands (m′ .tables) (m′ .arena) (stateIn m′)
-    go (yes z) w = subst (Stands (m′ .tables) (m′ .arena)) (sym (made .state)) (made .bytes z)
-    go (no z) w = subst Sound (sym (made .refusal z)) h w
-
-promised-sound : (e : Event) (m m′ : Memory) → Sound m → Promised e m m′ → Sound m′
-unfolding Promised
-promised-sound (alone k n) m m′ h made = made-sound k m (numbered n) m′ h made
-promised-sound (replied k o n b o′) m m′ h x = go (ℕ-discrete (length o) replyLength)
-  where
-    go : Dec (length o ≡ replyLength) → Sound m′
-    go (yes l) = made-sound k m (meantReply k m) m′ h (x .made l)
-    go (no l) = subst Sound (sym (x .kept l)) h
-
--- What a reply of 48 bytes tells ---------------------------------------------------------------------------------------------
-
+-- what an outcome's reply tells
 outcome-told : (k : Call) (b o : Bytes) (x : Outcome) → Then (ReadBack k) x
     → told k (replyOf b x .result) (replyOf b x .buffer) (replyAfter (replyOf b x) o) ≡ replyOf b x
 unfolding replyAfter Then
@@ -108,8 +53,7 @@ exported-told k m o n b o′ m′ h l x =
     let at-o = x .reply ∙ ap (λ (r : Reply). replyAfter r o) is in
     (λ i. told k (at-n i) (at-b i) (at-o i)) ∙ meant-told k m o h
 
--- The list ---------------------------------------------------------------------------------------------------------------------
-
+-- one call before the rest of the list
 one-heard : (e : Event) (es : List Event) (m m₁ m₂ : Memory) → Sound m → Promised e m m₁ → Run (heard es) m₁ m₂ → Run (heard (e ∷ es)) m m₂
 unfolding Promised heard
 one-heard (alone k n) es m m₁ m₂ h made rest = runs.call made rest

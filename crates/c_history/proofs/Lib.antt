@@ -1,5 +1,6 @@
 pub mod Sizes
 pub mod Telling
+pub mod Sound
 pub mod Hearing
 pub mod Demand3
 pub mod Questions

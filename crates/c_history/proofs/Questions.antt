@@ -1,22 +1,22 @@
 -- The auditor's two questions, of every list of exported calls. Assumes nothing.
 use Prim.Native.Nat.{ℕ}
 use native.Mathlib.Decide.{ℕ-discrete}
-use mathlib.Core.Path.{_≡_, refl, sym, ap, _∙_}
+use mathlib.Core.Path.{_≡_, sym, ap, _∙_}
 use mathlib.Core.Bool.{true}
 use mathlib.Core.List.{List, _∷_, _++_}
 use borrow.Author.Tests.{eq-eqb, ne-eqb}
 use lib.ListN.{length}
 use Rattle.number.specs.NumberLaws as number
 use Rattle.machine.specs.Names.{Bytes}
-use Rattle.machine.specs.Calls.{Call, ABORT, Reply}
+use Rattle.machine.specs.Calls.{ABORT, Reply}
 use Rattle.machine.specs.Lists.{Trace}
-use Rattle.machine.specs.Demand3.{kind, isLook, accepted}
+use Rattle.machine.specs.Demand3.{accepted}
 use Rattle.calls.specs.Made.{Memory}
 use Rattle.history.specs.Questions.{ChangesNone, SameReads, StaysOut}
 use Rattle.history.proofs.Reading as reading
 use Rattle.history.proofs.Aborted as aborted
 use Rattle.reply.specs.Reply.{replyLength}
-use Rattle.rathnodi.specs.Exported.{answerWith, replyAfter, Exported}
+use Rattle.rathnodi.specs.Exported.{answerWith, replyAfter}
 use Rattle.c_history.specs.Events.{Event, heard}
 use Rattle.c_history.specs.Lists.{CRun, CFromFresh}
 use Rattle.c_history.specs.Questions.{CReadsSame}

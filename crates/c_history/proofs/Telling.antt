@@ -12,8 +12,8 @@ use Rattle.machine.specs.Map.{lookup, records}
 use Rattle.machine.specs.Names.{Bytes, lastUploadNumber}
 use Rattle.machine.specs.Digest.{md5, length-md5}
 use Rattle.machine.specs.Etags.{Etag, absent, plain, joined}
-use Rattle.machine.specs.State.{Object, State, objectLength, uploadLength, held}
-use Rattle.machine.specs.Calls.{Call, PUT, GET, HEAD, DELETE, COPY, LIST, INITIATE, PART, COMMIT, ABORT, UPLOADS, Answer, etag, Outcome, accept}
+use Rattle.machine.specs.State.{Object, State, objectLength, held}
+use Rattle.machine.specs.Calls.{Call, PUT, GET, HEAD, DELETE, COPY, LIST, INITIATE, PART, COMMIT, ABORT, UPLOADS, Answer, etag, Outcome}
 use Rattle.machine.specs.Steps.{about, objectAt, listed, listRecord, openUnder, uploadRecord, act}
 use Rattle.machine.specs.Valid.{EtagOk, ObjectOk, Valid}
 use Rattle.machine.proofs.MapLaws.{every-lookup}

@@ -4,11 +4,11 @@ use mathlib.Core.Path.{_≡_, ap, ap₂}
 use native.Mathlib.Omega.{arith}
 use lib.ListN.{length, take, drop}
 use lib.Seq.{take-at}
-use Rattle.number.specs.Number.{le, fromLe}
+use Rattle.number.specs.Number.{le}
 use Rattle.number.specs.NumberLaws.{length-le, fromLe-le}
 use Rattle.machine.specs.Names.{Bytes}
 use Rattle.machine.specs.Etags.{Etag, absent, plain, joined, countOf, digestOf}
-use Rattle.machine.specs.Calls.{Answer, metadata, etag, number, counts}
+use Rattle.machine.specs.Calls.{metadata, etag, number, counts}
 use Rattle.reply.specs.Reply.{kindOf, fieldBytes, fieldsWith, replyBytes}
 use Rattle.reply.specs.ReadBack.{numberAt, etagFrom, etagIn, metadataIn, numberIn, countsIn}
 

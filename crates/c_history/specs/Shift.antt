@@ -1,0 +1,43 @@
+-- A caller's lists of exported calls, with what it sees of them, and what demand 3 says of the second. Assumes nothing.
+use Prim.Native.Nat.{ℕ}
+use mathlib.Core.Path.{_≡_}
+use mathlib.Core.List.{List, [], _∷_}
+use lib.ListN.{length}
+use Rattle.machine.specs.Names.{Bytes}
+use Rattle.machine.specs.Calls.{PUT, GET, HEAD, DELETE, COPY, LIST, INITIATE, PART, COMMIT, ABORT, UPLOADS}
+use Rattle.calls.specs.Answers.{partList}
+use Rattle.calls.specs.Made.{Memory, freshResult}
+use Rattle.history.specs.Demand3.{Demand3}
+use Rattle.c_history.specs.declared.shift.Shelf.{Shelf}
+use Rattle.c_history.specs.declared.shift.Weighed.{Weighed}
+use Rattle.c_history.specs.declared.shift.ShiftAnswer.{ShiftAnswer}
+use Rattle.c_history.specs.declared.shift.ShiftAnswer.the-variants as answer
+use Rattle.c_history.specs.Events.{Event, alone, replied, heard}
+
+-- the calls on objects; each answer buffer and each reply before the calls, then after them
+unfoldable pub shelfEvents : (stamp : ℕ) (path content other : Bytes) → Shelf → (answer found about listing counts : Bytes) → (answer′ found′ about′ listing′ counts′ : Bytes) → List Event
+shelfEvents stamp path content other n answer found about listing counts answer′ found′ about′ listing′ counts′ =
+    alone (PUT stamp path content) (n .put)
+    ∷ replied (GET path answer) found (n .got) answer′ found′
+    ∷ replied (HEAD path) about (n .head) [] about′
+    ∷ alone (COPY stamp path other) (n .copied)
+    ∷ replied (LIST path other listing) counts (n .listed) listing′ counts′
+    ∷ alone (DELETE path) (n .deleted)
+    ∷ []
+
+-- the calls on an upload, with its number 1 and its part 1
+unfoldable pub weighEvents : (stamp : ℕ) (path content list : Bytes) → Weighed → (opened sent answer counts : Bytes) → (opened′ sent′ answer′ counts′ : Bytes) → List Event
+weighEvents stamp path content list n opened sent answer counts opened′ sent′ answer′ counts′ =
+    replied (INITIATE stamp path) opened (n .opened) [] opened′
+    ∷ replied (PART 1 1 content) sent (n .sent) [] sent′
+    ∷ replied (UPLOADS path answer) counts (n .listed) answer′ counts′
+    ∷ alone (COMMIT 1 (partList list)) (n .committed)
+    ∷ alone (ABORT 1) (n .aborted)
+    ∷ []
+
+-- FRESH refused, and nothing changed; or what C heard of the list is as demand 3 says
+abbrev pub Concluded : (m : Memory) (stamp : ℕ) (path content list : Bytes) → ShiftAnswer → (opened sent answer counts : Bytes) → (opened′ sent′ answer′ counts′ : Bytes) → (m′ : Memory) → Type 0
+Concluded m stamp path content list (answer.Refused n) opened sent buffer counts opened′ sent′ buffer′ counts′ m′ =
+    (n ≡ freshResult m) × (m′ ≡ m) × (opened′ ≡ opened) × (sent′ ≡ sent) × (buffer′ ≡ buffer) × (counts′ ≡ counts)
+Concluded m stamp path content list (answer.Ran n) opened sent buffer counts opened′ sent′ buffer′ counts′ m′ =
+    Demand3 (length (m .arena)) (heard (weighEvents stamp path content list n opened sent buffer counts opened′ sent′ buffer′ counts′)) m′

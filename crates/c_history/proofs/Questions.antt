@@ -13,6 +13,8 @@ use Rattle.machine.specs.Lists.{Trace}
 use Rattle.machine.specs.Demand3.{accepted}
 use Rattle.calls.specs.Made.{Memory}
 use Rattle.history.specs.Questions.{ChangesNone, SameReads, StaysOut}
+use Rattle.history.specs.LastWrites.{Consistent}
+use Rattle.history.proofs.LastWrites as history
 use Rattle.history.proofs.Reading as reading
 use Rattle.history.proofs.Aborted as aborted
 use Rattle.reply.specs.Reply.{replyLength}
@@ -22,7 +24,11 @@ use Rattle.c_history.specs.Lists.{CRun, CFromFresh}
 use Rattle.c_history.specs.Questions.{CReadsSame}
 use Rattle.c_history.proofs.Demand3.{is-run, from-fresh}
 
--- "Can a batch record be read before its last weighing is committed?"
+-- "Can a batch record be read before its last weighing is committed?" What is read at a path is what its last accepted write left there.
+pub consistent : (A : ℕ) (es : List Event) (m : Memory) → CFromFresh A es m → Consistent A (heard es) m
+consistent A es m f = history.consistent A (heard es) m (from-fresh A es m f)
+
+-- over any memory of bytes, damaged or not: calls that set and remove no object change nothing that is read
 pub unread : {es : List Event} {m m′ : Memory} → number.Bytes (m .tables) → CRun es m m′ → ChangesNone (heard es) → SameReads m m′
 unread b run h = reading.unread (is-run b run) h
 
@@ -44,6 +50,6 @@ pub c-unread : {es : List Event} {m m′ : Memory} → number.Bytes (m .tables) 
 c-unread {m} {m′} b run h = c-reads-same m m′ (unread b run h)
 
 -- "Can weighings of an aborted upload turn up in a later record?"
-pub stays-out : (A : ℕ) (es : List Event) (m : Memory) → CFromFresh A es m → (before behind : Trace) (u : ℕ) (r : Reply)
-    → heard es ≡ before ++ (ABORT u, r) ∷ behind → accepted r ≡ true → StaysOut A before u r behind m
+pub stays-out : (A : ℕ) (es : List Event) (m : Memory) → CFromFresh A es m → (before after : Trace) (u : ℕ) (r : Reply)
+    → heard es ≡ before ++ (ABORT u, r) ∷ after → accepted r ≡ true → StaysOut A before u r after m
 stays-out A es m f = aborted.stays-out A (heard es) m (from-fresh A es m f)

@@ -35,9 +35,9 @@ weighEvents stamp path content list n opened sent answer counts opened′ sent�
     ∷ alone (ABORT 1) (n .aborted)
     ∷ []
 
--- FRESH refused, and nothing changed; or what C heard of the list is as demand 3 says
+-- FRESH refused by a number that is not 0, and nothing changed; or what C heard of the list is as demand 3 says
 abbrev pub Concluded : (m : Memory) (stamp : ℕ) (path content list : Bytes) → ShiftAnswer → (opened sent answer counts : Bytes) → (opened′ sent′ answer′ counts′ : Bytes) → (m′ : Memory) → Type 0
 Concluded m stamp path content list (answer.Refused n) opened sent buffer counts opened′ sent′ buffer′ counts′ m′ =
-    (n ≡ freshResult m) × (m′ ≡ m) × (opened′ ≡ opened) × (sent′ ≡ sent) × (buffer′ ≡ buffer) × (counts′ ≡ counts)
+    (n ≡ 0 → ⊥) × (n ≡ freshResult m) × (m′ ≡ m) × (opened′ ≡ opened) × (sent′ ≡ sent) × (buffer′ ≡ buffer) × (counts′ ≡ counts)
 Concluded m stamp path content list (answer.Ran n) opened sent buffer counts opened′ sent′ buffer′ counts′ m′ =
     Demand3 (length (m .arena)) (heard (weighEvents stamp path content list n opened sent buffer counts opened′ sent′ buffer′ counts′)) m′

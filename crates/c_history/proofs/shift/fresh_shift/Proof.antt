@@ -15,7 +15,7 @@ same-length-2 : tie.Need-same-length-2
 same-length-2 c = search needs
 
 returns : tie.Need-returns
-returns c = (c .before .before .before .before .before .rathnodi-fresh .ensures .answers, c .before .before .before .before .before .rathnodi-fresh .ensures .refusal (c .if1 .taken), refl, refl, refl, refl)
+returns c = (c .if1 .taken, c .before .before .before .before .before .rathnodi-fresh .ensures .answers, c .before .before .before .before .before .rathnodi-fresh .ensures .refusal (c .if1 .taken), refl, refl, refl, refl)
 
 weigh-requires : tie.Need-weigh-requires
 weigh-requires c κs = search needs

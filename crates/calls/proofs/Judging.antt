@@ -1,7 +1,7 @@
 -- A step through its checks: its outcome where each is passed or not, and what a result of 0 shows. Assumes nothing.
 use Prim.Native.Nat.{ℕ}
 use mathlib.Core.Path.{_≡_, refl, ap}
-use mathlib.Core.Bool.{Bool, true, false}
+use mathlib.Core.Bool.{Bool, true, false, cond}
 use mathlib.Core.List.{List}
 use mathlib.Core.Option.{Option, none, some}
 use native.Mathlib.Omega.{arith}
@@ -40,6 +40,12 @@ pub passed : (b : Bool) (n : Refusal) (o : Outcome) → resultOf (b else n then 
 unfolding _else_then_
 passed true n o e = (refl, refl)
 passed false n o e = absurd (code-not-zero n e)
+
+-- the last test: the result number
+pub result-last : (b : Bool) (n : Refusal) (a : Answer) (out : List ℕ) (s : State) → resultOf (b else n then accept a out s) ≡ cond b 0 (code n)
+unfolding _else_then_
+result-last true n a out s = refl
+result-last false n a out s = refl
 
 -- A search -------------------------------------------------------------------------------------------------------------
 

@@ -1,3 +1,4 @@
-pub mod MadeLaws
 pub mod Judging
+pub mod MadeLaws
+pub mod Reading
 pub mod Unseen

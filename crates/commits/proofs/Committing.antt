@@ -23,10 +23,9 @@ use Rattle.find.proofs.Found.{is-some, is-none}
 use Rattle.calls.specs.Answers.{partList, success}
 use Rattle.calls.specs.Made.{Memory, memory, stateIn, outcome, resultOf, Made}
 use Rattle.calls.proofs.MadeLaws.{done}
-use Rattle.calls.proofs.Judging.{result-pass, result-stop, passed, result-found, result-missing, was-found}
+use Rattle.calls.proofs.Judging.{result-pass, result-stop, result-last, passed, result-found, result-missing, was-found}
 use Rattle.join.specs.Joined.{Listed, joinedState, Joinable}
 use Rattle.commits.proofs.Fitting.{upload-ok}
-use Rattle.commits.proofs.PathRoom.{counted-result}
 
 -- The checks -----------------------------------------------------------------------------------------------------------
 
@@ -65,7 +64,7 @@ module _ (m : Memory) (u : ℕ) (ns : List ℕ) where
     fit-judged e r is =
         let xs = listedParts (x .parts) ns in
         is (joinedObject x xs)
-        ∙ sym (open-is ∙ result-pass (fits ns (x .parts)) badRequest (joinIn (stateIn m) u x xs) e ∙ counted-result (counted (joinedAt (stateIn m) u x xs)) (joinedAt (stateIn m) u x xs))
+        ∙ sym (open-is ∙ result-pass (fits ns (x .parts)) badRequest (joinIn (stateIn m) u x xs) e ∙ result-last (counted (joinedAt (stateIn m) u x xs)) tableFull nothing [] (joinedAt (stateIn m) u x xs))
 
   -- result 0: all checks were passed
   module _ (zero-result : resultOf (outcome (COMMIT u ns) m) ≡ 0) where

@@ -1,7 +1,7 @@
 -- The room for the object at an upload's path. Assumes nothing.
 use Prim.Native.Nat.{ℕ, _+_, _-_, _≤_}
 use mathlib.Core.Path.{_≡_, refl, sym, ap, _∙_}
-use mathlib.Core.Bool.{Bool, true, false, cond}
+use mathlib.Core.Bool.{Bool, true, cond}
 use mathlib.Core.List.{List, []}
 use mathlib.Core.Option.{some}
 use native.Mathlib.Omega.{arith}
@@ -29,12 +29,8 @@ use Rattle.find.specs.declared.Place.{Place}
 use Rattle.find.specs.Places.{uploadPlace}
 use Rattle.find.proofs.Found.{is-some}
 use Rattle.calls.specs.Made.{resultOf}
-use Rattle.calls.proofs.Judging.{pass, result-pass, result-stop}
+use Rattle.calls.proofs.Judging.{pass, result-last}
 use Rattle.join.proofs.PathRead.{head-inside, path-inside, path-copied}
-
-pub counted-result : (b : Bool) (s : State) → resultOf (b else tableFull then accept nothing [] s) ≡ cond b 0 4
-counted-result true s = result-pass true tableFull (accept nothing [] s) refl
-counted-result false s = result-stop false tableFull (accept nothing [] s) refl
 
 -- The room for the object: what PUT of no bytes asks -------------------------------------------------------------------
 
@@ -53,7 +49,7 @@ module _ (A : ℕ) (s : State) (v : Valid A s) (u : ℕ) (p : Bytes) (y : Object
       let s′ = withObject s p (plainObject 0 []) in
       let l : held s′ ≤ A = let r = v .room in omega (arith, held-put s p (plainObject 0 [])) in
       ap (λ (o : Outcome). resultOf (counted s′ else tableFull then o)) (pass (leb (held s′) A) arenaFull (accept nothing [] s′) (le-leb _ _ l))
-      ∙ counted-result (counted s′) s′
+      ∙ result-last (counted s′) tableFull nothing [] s′
       ∙ ap (λ (b : Bool). cond b 0 4) same-counted
 
 -- what `commit_room` reads off whole memory

@@ -81,7 +81,7 @@ fn commit_room(tables: &[u8], arena: &[u8], upload: UploadNumber) -> u8
     let h = row::read_head(tables, at);
     let from = at + 36;
     let to = from + h.pathlen as usize;
-    writes::judges::room_judge(tables, arena, &tables[from..to], 0)
+    room::object_judge(tables, arena, &tables[from..to], 0)
 }
 
 // COMMIT's refusal over whole memory, 0 for none.

@@ -5,18 +5,15 @@ use mathlib.Core.Bool.{Bool, true, false, _&&_}
 use mathlib.Core.List.{List, []}
 use mathlib.Core.Option.{some}
 use native.Mathlib.Omega.{arith}
-use lib.Dec.{leb}
 use lib.ListN.{length, take, drop}
 use Rattle.number.specs.NumberLaws as byte
 use Rattle.md5.specs.declared.words.Digest.{Digest}
-use Rattle.md5.specs.Md5.{md5, bytesOf}
-use Rattle.md5.specs.DigestBytes.{digestBytes-is}
+use Rattle.md5.specs.Md5.{md5}
 use Rattle.order.specs.Order.{byBytes}
 use Rattle.machine.specs.Map.{isSome, lookup}
 use Rattle.machine.specs.Names.{Bytes, stampOk, requestPathOk, newPathOk}
-use Rattle.machine.specs.Etags.{plain}
-use Rattle.machine.specs.State.{Object, State, held, counted, withObject}
-use Rattle.machine.specs.Calls.{COPY, nothing, accept, badRequest, notFound, tableFull, arenaFull, _else_then_}
+use Rattle.machine.specs.State.{Object, State, withObject}
+use Rattle.machine.specs.Calls.{COPY, nothing, accept, badRequest, notFound}
 use Rattle.machine.specs.Steps.{plainObject, putAt, act, after}
 use Rattle.machine.specs.Valid.{Valid}
 use Rattle.machine.proofs.KeepsValid.{next-valid}
@@ -31,6 +28,7 @@ use Rattle.find.proofs.RowsAt.{At, row-at}
 use Rattle.find.proofs.Found.{is-some, is-none}
 use Rattle.edit.specs.Objects.{plainWith}
 use Rattle.edit_copy.specs.Copy.{contentIn, contentAt, Copiable}
+use Rattle.room.proofs.PutAt.{put-at-accepted, plain-is}
 use Rattle.calls.specs.Answers.{success}
 use Rattle.calls.specs.Made.{Memory, memory, stateIn, outcome, resultOf, Made}
 use Rattle.calls.proofs.MadeLaws.{done}
@@ -137,20 +135,13 @@ module _ (m : Memory) (t : ℕ) (p q : Bytes) where
     content-is = sym (ap contentIn (second .1))
 
     pub copy-accepted : outcome (COPY t p q) m ≡ accept nothing [] (withObject (stateIn m) q (plainObject t (contentAt (stateIn m) p)))
-    unfolding putAt
     copy-accepted =
-        let s′ = withObject (stateIn m) q (plainObject t (second .0 .content)) in
-        let z : resultOf (putAt A (stateIn m) t q (second .0 .content)) ≡ 0 = sym (ap resultOf (first .1 ∙ second .2)) ∙ zero-result in
-        let three = passed (counted s′) tableFull (leb (held s′) A else arenaFull then accept nothing [] s′) z in
-        let four = passed (leb (held s′) A) arenaFull (accept nothing [] s′) (sym (ap resultOf (three .1)) ∙ z) in
-        first .1 ∙ second .2 ∙ three .1 ∙ four .1 ∙ ap (λ (d : List ℕ). accept nothing [] (withObject (stateIn m) q (plainObject t d))) content-is
+        let z = sym (ap resultOf (first .1 ∙ second .2)) ∙ zero-result in
+        first .1 ∙ second .2 ∙ put-at-accepted A (stateIn m) t q (second .0 .content) z ∙ ap (λ (d : List ℕ). accept nothing [] (withObject (stateIn m) q (plainObject t d))) content-is
 
     pub copy-valid : Valid A (stateIn m) → Valid A (withObject (stateIn m) q (plainObject t (contentAt (stateIn m) p)))
     unfolding outcome
     copy-valid v = subst (Valid A) (ap (after (stateIn m)) copy-accepted) (next-valid A (stateIn m) (COPY t p q) v)
-
-plain-is : (t : ℕ) (d : Bytes) (digest : Digest) → digest ≡ md5 d → plainWith t digest d ≡ plainObject t d
-plain-is t d digest e = ap (λ (x : List ℕ). record { content = d; created = t; etag = plain x }) (ap bytesOf e ∙ sym (digestBytes-is d))
 
 module _ (tables arena p q : List ℕ) (t : ℕ) (digest : Digest) (w : whole tables arena ≡ true) (zero-result : resultOf (outcome (COPY t p q) (memory tables arena)) ≡ 0)
     (e : digest ≡ md5 (contentAt (stateOf tables arena) p)) where

@@ -25,7 +25,7 @@ fn source_judge(tables: &[u8], arena: &[u8], stamp: Stamp, source: &[u8], destin
         return 3;
     }
     let h = row::read_head(tables, place.at);
-    writes::judges::room_judge(tables, arena, destination, h.size as usize)
+    room::object_judge(tables, arena, destination, h.size as usize)
 }
 
 // COPY's refusal over whole memory, 0 for none.

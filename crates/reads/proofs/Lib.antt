@@ -1,4 +1,3 @@
-pub mod Reading
 pub mod Stored
 pub mod Lookups
 pub mod Replies

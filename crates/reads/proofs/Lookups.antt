@@ -14,7 +14,7 @@ use Rattle.machine.specs.Names.{Bytes, requestPathOk}
 use Rattle.machine.specs.Etags.{absent}
 use Rattle.machine.specs.State.{Object, State}
 use Rattle.machine.specs.Calls.{Outcome, badRequest, notFound, given, _else_then_}
-use Rattle.machine.specs.Steps.{objectAt, replyOf}
+use Rattle.machine.specs.Steps.{objectAt, replyOf, after}
 use Rattle.machine.specs.Valid.{ObjectOk}
 use Rattle.machine.proofs.MapLaws.{every-lookup}
 use Rattle.row.specs.declared.Head.{Head}
@@ -83,6 +83,17 @@ named-root s (c ∷ p) k e = absurd (go (requestPathOk (c ∷ p)) (isSome (looku
     go true true q = let z : _≡_ {A = ℕ} 0 1 = cc in omega arith
     go true false q = let z : _≡_ {A = ℕ} 0 1 = cc in omega arith
     go false held q = let z : _≡_ {A = ℕ} 0 1 = cc in omega arith
+
+-- the state stays where an object is looked at
+pub object-keeps : (s : State) (p : Bytes) (k : Object → Outcome) → ((x : Object) → after s (k x) ≡ s) → after s (objectAt s p k) ≡ s
+unfolding objectAt _else_then_ given
+object-keeps s [] k h = h _
+object-keeps s (b ∷ p) k h = go (requestPathOk (b ∷ p)) (lookup byBytes (b ∷ p) (s .O))
+  where
+    go : (ok : Bool) (o : Option Object) → after s (ok else badRequest then given o notFound k) ≡ s
+    go true none = refl
+    go true (some x) = h x
+    go false o = refl
 
 -- an object
 pub record Here (s : State) (p : Bytes) (at base : ℕ) : Type 0 where

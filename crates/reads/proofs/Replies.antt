@@ -19,12 +19,12 @@ use Rattle.layout.specs.Memory.{whole, stateOf}
 use Rattle.layout.specs.WholeLaws.{whole-stands}
 use Rattle.calls.specs.Answers.{metadataOf, getReply, success}
 use Rattle.calls.specs.Made.{memory, outcome, Made}
-use Rattle.reads.proofs.Reading.{reads, write-keeps, object-keeps}
+use Rattle.calls.proofs.Reading.{reads, write-keeps}
 use Rattle.reads.specs.declared.Named.{Named}
 use Rattle.reads.specs.declared.Named.the-variants as named
 use Rattle.reads.specs.Named.{namedIn, metadataAt, storedAt}
 use Rattle.reads.proofs.Stored.{stored-about}
-use Rattle.reads.proofs.Lookups.{Here, named-refused, named-root, named-object, here-inside, here-data, here-stored}
+use Rattle.reads.proofs.Lookups.{Here, named-refused, named-root, object-keeps, named-object, here-inside, here-data, here-stored}
 
 module _ (t a : List ℕ) (p : Bytes) (r : Named) (told : r ≡ namedIn (stateOf t a) p) where
   abbrev s : State

@@ -18,7 +18,7 @@ use Rattle.layout.specs.Memory.{whole, stateOf}
 use Rattle.layout.specs.WholeLaws.{whole-stands}
 use Rattle.calls.specs.Answers.{listReply, success}
 use Rattle.calls.specs.Made.{memory, outcome, Made}
-use Rattle.reads.proofs.Reading.{reads, write-keeps}
+use Rattle.calls.proofs.Reading.{reads, write-keeps}
 
 module _ (t a : List ℕ) (prefix b : Bytes) where
   abbrev s : State

@@ -1,4 +1,3 @@
 pub mod Putting
-pub mod Room
 pub mod Deleting
 pub mod Freshness

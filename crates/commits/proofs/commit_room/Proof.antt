@@ -39,24 +39,24 @@ cast-to c = search needs
 add-to : tie.Need-add-to
 add-to c = omega (arith, ends (c .before))
 
-sub-room-judge : tie.Need-sub-room-judge
-sub-room-judge c = search needs
+sub-object-judge : tie.Need-sub-object-judge
+sub-object-judge c = search needs
 
-part-room-judge-start : tie.Need-part-room-judge-start
-part-room-judge-start c = search needs
+part-object-judge-start : tie.Need-part-object-judge-start
+part-object-judge-start c = search needs
 
-part-room-judge-end : tie.Need-part-room-judge-end
-part-room-judge-end c = omega (arith, ends (c .before))
+part-object-judge-end : tie.Need-part-object-judge-end
+part-object-judge-end c = omega (arith, ends (c .before))
 
-room-judge-requires : tie.Need-room-judge-requires
-room-judge-requires c κs = search needs
+object-judge-requires : tie.Need-object-judge-requires
+object-judge-requires c κs = search needs
 
 returns : tie.Need-returns
 returns c =
     let d = c .before .before .before in
     let a = start d .args in
     let f = d .before .find-upload in
-    λ x is. path-room (a .tables .now) (a .arena .now) (bytes d) (start d .pre .0) (a .upload .0) (f .result) (f .ensures) (d .read-head .result) (d .read-head .ensures) x is (c .room-judge .result) (c .room-judge .ensures)
+    λ x is. path-room (a .tables .now) (a .arena .now) (bytes d) (start d .pre .0) (a .upload .0) (f .result) (f .ensures) (d .read-head .result) (d .read-head .ensures) x is (c .object-judge .result) (c .object-judge .ensures)
 
 pub commit-room-spec : {M : Type 1} → statement M
 commit-room-spec =
@@ -67,8 +67,8 @@ commit-room-spec =
     add-from
     cast-to
     add-to
-    sub-room-judge
-    part-room-judge-start
-    part-room-judge-end
-    room-judge-requires
+    sub-object-judge
+    part-object-judge-start
+    part-object-judge-end
+    object-judge-requires
     returns)

@@ -29,11 +29,11 @@ read-head-requires c κs =
     let f = c .before .before .find-object in
     head-inside (a .tables .now) (a .arena .now) (a .source .now) b w (f .result) (f .ensures) (place-found (stateOf (a .tables .now) (a .arena .now)) (a .source .now) (f .result) true (f .ensures) (not-false _ (c .if1 .left)))
 
-cast-room-judge : tie.Need-cast-room-judge
-cast-room-judge c = search needs
+cast-object-judge : tie.Need-cast-object-judge
+cast-object-judge c = search needs
 
-room-judge-requires : tie.Need-room-judge-requires
-room-judge-requires c κs = search needs
+object-judge-requires : tie.Need-object-judge-requires
+object-judge-requires c κs = search needs
 
 returns-2 : tie.Need-returns-2
 returns-2 c =
@@ -42,7 +42,7 @@ returns-2 c =
     let w = c .before .before .before .before .before .before .before .before .before .before .pre in
     let f = c .before .before .before .before .before .find-object in
     let h = c .before .before .read-head in
-    judged-source (a .tables .now) (a .arena .now) (a .source .now) b w (f .result) (f .ensures) (place-found (stateOf (a .tables .now) (a .arena .now)) (a .source .now) (f .result) true (f .ensures) (not-false _ (c .before .before .before .if1 .left))) (h .result) (h .ensures) (c .room-judge .result) (a .stamp .0) (a .destination .now) (c .room-judge .ensures)
+    judged-source (a .tables .now) (a .arena .now) (a .source .now) b w (f .result) (f .ensures) (place-found (stateOf (a .tables .now) (a .arena .now)) (a .source .now) (f .result) true (f .ensures) (not-false _ (c .before .before .before .if1 .left))) (h .result) (h .ensures) (c .object-judge .result) (a .stamp .0) (a .destination .now) (c .object-judge .ensures)
 
 pub source-judge-spec : {M : Type 1} → statement M
 source-judge-spec =
@@ -51,6 +51,6 @@ source-judge-spec =
     find-object-requires
     returns
     read-head-requires
-    cast-room-judge
-    room-judge-requires
+    cast-object-judge
+    object-judge-requires
     returns-2)

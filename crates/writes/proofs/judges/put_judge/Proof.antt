@@ -26,15 +26,15 @@ returns-2 c =
     let no = said-no (c .before .new-path-ok .ensures) (c .if2 .taken) in
     put-bad (memory (a .tables .now) (a .arena .now)) (a .stamp .0) (a .path .now) (a .content .now) (rw (yes, no))
 
-room-judge-requires : tie.Need-room-judge-requires
-room-judge-requires c κs = search needs
+object-judge-requires : tie.Need-object-judge-requires
+object-judge-requires c κs = search needs
 
 returns-3 : tie.Need-returns-3
 returns-3 c =
     let a = c .before .before .before .before .before .before .before .before .before .args in
     let yes = said-yes (c .before .before .before .before .stamp-ok .ensures) (c .before .before .before .if1 .left) in
     let also = said-yes (c .before .before .new-path-ok .ensures) (c .before .if2 .left) in
-    put-judged (memory (a .tables .now) (a .arena .now)) (a .stamp .0) (a .path .now) (a .content .now) yes also (c .room-judge .result) (c .room-judge .ensures (a .stamp .0) (a .content .now) refl)
+    put-judged (memory (a .tables .now) (a .arena .now)) (a .stamp .0) (a .path .now) (a .content .now) yes also (c .object-judge .result) (c .object-judge .ensures (a .stamp .0) (a .content .now) refl)
 
 pub put-judge-spec : {M : Type 1} → statement M
 put-judge-spec =
@@ -44,5 +44,5 @@ put-judge-spec =
     returns
     new-path-ok-requires
     returns-2
-    room-judge-requires
+    object-judge-requires
     returns-3)

@@ -1,10 +1,10 @@
--- `writes::judges::room_judge` meets its contract: the readers say what the checks ask. Assumes nothing.
+-- `room::object_judge` meets its contract: the readers say what the checks ask. Assumes nothing.
 use Rattle.number.specs.NumberLaws.{Bytes}
-use Rattle.writes.proofs.Room.{held-inside, head-inside, old-inside, judged-old, judged-full, judged-new}
+use Rattle.room.proofs.Room.{held-inside, head-inside, old-inside, judged-old, judged-full, judged-new}
 use native.Mathlib.Omega.{arith}
 use borrow.Author.Needs.{needs}
-use Rattle.writes.proofs.judges.room_judge.Statement.{statement}
-use Rattle.writes.proofs.judges.room_judge.Tie as tie
+use Rattle.room.proofs.object_judge.Statement.{statement}
+use Rattle.room.proofs.object_judge.Tie as tie
 
 find-object-requires : tie.Need-find-object-requires
 find-object-requires c κs = search needs
@@ -81,8 +81,8 @@ returns-3 c =
     let o = c .before .before .object-count in
     judged-new (a .tables .now) (a .arena .now) b (c .before .before .before .before .before .before .before .before .before .pre) (a .path .now) (f .result) (f .ensures) (e .result) (e .ensures) (c .before .before .before .if1 .left) (o .result) (o .ensures) (c .before .if2 .left) (c .arena-judge2 .result) (a .n) (c .arena-judge2 .ensures)
 
-pub room-judge-spec : {M : Type 1} → statement M
-room-judge-spec =
+pub object-judge-spec : {M : Type 1} → statement M
+object-judge-spec =
     tie.close
     (tie.spec
     find-object-requires

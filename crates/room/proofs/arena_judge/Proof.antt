@@ -1,10 +1,10 @@
--- `writes::judges::arena_judge` meets its contract: the test without the sum. Assumes nothing.
+-- `room::arena_judge` meets its contract: the test without the sum. Assumes nothing.
 use Prim.Native.Nat.{_+_, _≤_, _<_}
 use borrow.Author.Tests.{le-leb, lt-leb}
 use native.Mathlib.Omega.{arith}
 use borrow.Author.Needs.{needs}
-use Rattle.writes.proofs.judges.arena_judge.Statement.{statement}
-use Rattle.writes.proofs.judges.arena_judge.Tie as tie
+use Rattle.room.proofs.arena_judge.Statement.{statement}
+use Rattle.room.proofs.arena_judge.Tie as tie
 
 sub-if1 : tie.Need-sub-if1
 sub-if1 c = search needs

@@ -1,4 +1,4 @@
--- What `room_judge` reads is what the checks of an object put at a path ask. Assumes nothing.
+-- What `object_judge` reads is what the checks of an object put at a path ask. Assumes nothing.
 use Prim.Native.Nat.{ℕ, _+_, _-_, _≤_, _<_}
 use mathlib.Core.Path.{_≡_, sym, ap, _∙_}
 use mathlib.Core.Bool.{true, false, cond}
@@ -23,7 +23,7 @@ use Rattle.find.proofs.RowsAt.{row-at}
 use Rattle.find.proofs.Found.{is-some, is-none}
 use Rattle.edit.proofs.PutLaws.{place-found}
 use Rattle.calls.specs.Made.{resultOf}
-use Rattle.writes.proofs.Putting.{object-share, room-old, room-new, room-none}
+use Rattle.room.proofs.PutAt.{object-share, room-old, room-new, room-none}
 
 module _ (t a : List ℕ) (b : Bytes t) (w : whole t a ≡ true) (p : List ℕ) (place : Place) (place-is : place ≡ objectPlace (stateOf t a) p)
     (bytes : ℕ) (bytes-are : bytes ≡ held (stateOf t a)) where
@@ -68,7 +68,7 @@ module _ (t a : List ℕ) (b : Bytes t) (w : whole t a ≡ true) (p : List ℕ) 
           → (stamp : ℕ) (content : List ℕ) → length content ≡ n → r ≡ resultOf (putAt (length a) s stamp p content)
       judged-old r n is stamp content l =
           let q : bytes - head .size + n ≡ held s - objectLength x + length content = omega (arith, size-is, bytes-are) in
-          rw (is, q) (sym (room-old (length a) s (stands .valid) stamp p content x found))
+          rw (is, q) (sym (room-old (length a) s stamp p content (stands .valid) x found))
 
   -- at a path that has none
   module _ (e : place .found ≡ false) (objects : ℕ) (objects-are : objects ≡ length (stateOf t a .O)) where
@@ -76,10 +76,10 @@ module _ (t a : List ℕ) (b : Bytes t) (w : whole t a ≡ true) (p : List ℕ) 
     absent = is-none _ (place-found s p place false place-is e)
 
     pub judged-full : 256 ≤ objects → (stamp : ℕ) (content : List ℕ) → 4 ≡ resultOf (putAt (length a) s stamp p content)
-    judged-full l stamp content = sym (room-none (length a) s (stands .valid) stamp p content absent (omega (arith, objects-are)))
+    judged-full l stamp content = sym (room-none (length a) s stamp p content (stands .valid) absent (omega (arith, objects-are)))
 
     pub judged-new : objects < 256 → (r n : ℕ) → r ≡ cond (leb (bytes + n) (length a)) 0 5
         → (stamp : ℕ) (content : List ℕ) → length content ≡ n → r ≡ resultOf (putAt (length a) s stamp p content)
     judged-new m r n is stamp content l =
         let q : bytes + n ≡ held s + length content = omega (arith, bytes-are) in
-        rw (is, q) (sym (room-new (length a) s (stands .valid) stamp p content absent (omega (arith, objects-are))))
+        rw (is, q) (sym (room-new (length a) s stamp p content (stands .valid) absent (omega (arith, objects-are))))

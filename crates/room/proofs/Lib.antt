@@ -1,0 +1,2 @@
+pub mod PutAt
+pub mod Room

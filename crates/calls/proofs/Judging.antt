@@ -69,9 +69,3 @@ pub was-found : {X : Type 0} (m : Option X) (n : Refusal) (k : X → Outcome) �
 unfolding given
 was-found none n k e = absurd (code-not-zero n e)
 was-found (some x) n k e = (x, refl, refl)
-
--- Result 0: the outcome is accepted ------------------------------------------------------------------------------------
-
-pub accepted : (o : Outcome) → resultOf o ≡ 0 → (a : Answer) × (out : List ℕ) × (s : State) × (o ≡ accept a out s)
-accepted (refuse n) e = absurd (code-not-zero n e)
-accepted (accept a out s) e = (a, out, s, refl)

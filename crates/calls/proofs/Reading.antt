@@ -1,5 +1,5 @@
 -- How a call that changes nothing meets its contract. Assumes nothing.
-use mathlib.Core.Path.{_≡_, refl, sym, _∙_}
+use mathlib.Core.Path.{_≡_, refl}
 use mathlib.Core.Bool.{Bool, true, false}
 use lib.Dec.{leb}
 use lib.ListN.{length}
@@ -8,23 +8,21 @@ use Rattle.machine.specs.State.{State}
 use Rattle.machine.specs.Calls.{Call, Answer, Reply, accept, bufferShort, _else_then_, lent}
 use Rattle.machine.specs.Steps.{write, replyOf, after}
 use Rattle.layout.specs.Memory.{Stands}
-use Rattle.calls.specs.Made.{Memory, wholeMemory, stateIn, outcome, meantReply, meantState, Made}
+use Rattle.calls.specs.Made.{Memory, wholeMemory, stateIn, outcome, Made}
+use Rattle.calls.proofs.MadeLaws.{over-whole}
 
 -- it replies as the machine, whose state stays
 pub reads : (k : Call) (m : Memory) (r : Reply) → wholeMemory m ≡ true → Stands (m .tables) (m .arena) (stateIn m) → after (stateIn m) (outcome k m) ≡ stateIn m
     → r ≡ replyOf (lent k) (outcome k m) → Made k m r m
-unfolding meantReply meantState outcome
 reads k m r w h same e =
-    let next-is : meantState k m ≡ stateIn m = rw w same in
-    record {
-      answers = e ∙ sym (rw w);
-      state = sym next-is;
-      keeps-whole = λ g. g;
-      bytes = λ _. rw next-is h;
+    over-whole w
+    (record {
+      answers = e;
+      bytes = λ _. rw same h;
       tables-length = refl;
       arena-length = refl;
       refusal = λ _. refl;
-    }
+    })
 
 -- the state stays where bytes are written to the answer buffer
 pub write-keeps : (x : Answer) (out b : Bytes) (s : State) → after s (write x out b s) ≡ s

@@ -7,7 +7,7 @@ use lib.Dec.{eqb}
 use lib.ListN.{length}
 use Rattle.machine.specs.State.{State, fresh}
 use Rattle.machine.specs.Calls.{Call, Reply, Outcome, refuse, accept, code, lent}
-use Rattle.machine.specs.Steps.{act, FRESH, reply, next}
+use Rattle.machine.specs.Steps.{act, FRESH, replyOf, after, reply, next}
 use Rattle.layout.specs.Memory.{whole, stateOf, Stands, tablesLength}
 use Rattle.calls.specs.Answers.{refused}
 
@@ -50,6 +50,16 @@ pub record Made (k : Call) (m : Memory) (r : Reply) (m′ : Memory) : Type 0 whe
   pub keeps-whole : wholeMemory m ≡ true → wholeMemory m′ ≡ true
   -- accepted: tables and arena are that state's encoding, each followed by free bytes
   pub bytes : r .result ≡ 0 → Stands (m′ .tables) (m′ .arena) (meantState k m)
+  pub tables-length : length (m′ .tables) ≡ length (m .tables)
+  pub arena-length : length (m′ .arena) ≡ length (m .arena)
+  -- refused: every byte is as it was
+  pub refusal : (r .result ≡ 0 → ⊥) → m′ ≡ m
+
+-- Call k over whole memory m answered r and left memory m′: what `Made` comes to there (`over-whole`).
+pub record MadeWhole (k : Call) (m : Memory) (r : Reply) (m′ : Memory) : Type 0 where
+  pub answers : r ≡ replyOf (lent k) (outcome k m)
+  -- accepted: tables and arena are the encoding of the state after, each followed by free bytes
+  pub bytes : r .result ≡ 0 → Stands (m′ .tables) (m′ .arena) (after (stateIn m) (outcome k m))
   pub tables-length : length (m′ .tables) ≡ length (m .tables)
   pub arena-length : length (m′ .arena) ≡ length (m .arena)
   -- refused: every byte is as it was

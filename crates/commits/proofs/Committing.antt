@@ -15,14 +15,13 @@ use Rattle.machine.specs.Steps.{fit, joinedObject, act, after}
 use Rattle.machine.specs.Fits.{fits, listedParts}
 use Rattle.machine.proofs.Fit.{given-fit}
 use Rattle.machine.proofs.KeepsValid.{next-valid}
-use Rattle.layout.specs.Memory.{whole, stateOf, Stands}
+use Rattle.layout.specs.Memory.{whole, stateOf}
 use Rattle.layout.specs.WholeLaws.{whole-stands}
 use Rattle.find.specs.declared.Place.{Place}
 use Rattle.find.specs.Places.{uploadPlace}
 use Rattle.find.proofs.Found.{is-some, is-none}
-use Rattle.calls.specs.Answers.{partList, success}
-use Rattle.calls.specs.Made.{Memory, memory, stateIn, outcome, resultOf, Made}
-use Rattle.calls.proofs.MadeLaws.{done}
+use Rattle.calls.specs.Answers.{partList}
+use Rattle.calls.specs.Made.{Memory, memory, stateIn, outcome, resultOf}
 use Rattle.calls.proofs.Judging.{result-pass, result-stop, result-last, passed, result-found, result-missing, was-found}
 use Rattle.join.specs.Joined.{Listed, joinedState, Joinable}
 use Rattle.commits.proofs.Fitting.{upload-ok}
@@ -114,22 +113,17 @@ module _ (t a : List ℕ) (u : ℕ) (list : Bytes) (place : Place) (place-is : p
         → k ≡ resultOf (outcome (COMMIT u (partList list)) (memory t a))
     room-judged y k is = fit-judged (memory t a) u (partList list) valid (upload .0) (upload .1) (sym (fit-is (upload .0) (upload .1)) ∙ y) k (is (upload .0) (upload .1))
 
--- What `join` asks, and the contract ------------------------------------------------------------------------------------
+-- What `join` asks, and what the machine does ---------------------------------------------------------------------------
 
-module _ (t a : List ℕ) (u : ℕ) (list : Bytes) (w : whole t a ≡ true) (n : ℕ) (judged : n ≡ resultOf (outcome (COMMIT u (partList list)) (memory t a))) (zero : n ≡ 0) where
-  zero-result : resultOf (outcome (COMMIT u (partList list)) (memory t a)) ≡ 0
-  zero-result = sym judged ∙ zero
-
-  pub commit-ready : byte.Bytes t → Joinable t a u list
-  commit-ready b =
+module _ (t a : List ℕ) (u : ℕ) (list : Bytes) (w : whole t a ≡ true) (zero-result : resultOf (outcome (COMMIT u (partList list)) (memory t a)) ≡ 0) (b : byte.Bytes t) where
+  pub commit-ready : Joinable t a u list
+  commit-ready =
       record {
         is-whole = w;
         listed = commit-listed (memory t a) u (partList list) zero-result;
         valid = commit-valid (memory t a) u (partList list) zero-result (whole-stands t a b w .valid);
       }
 
-  pub commit-made : byte.Bytes t → (t′ a′ : List ℕ) → ((k : Joinable t a u list) → Stands t′ a′ (joinedState (stateOf t a) u (partList list) (k .listed)))
-      → length t′ ≡ length t → length a′ ≡ length a → Made (COMMIT u (partList list)) (memory t a) (success nothing []) (memory t′ a′)
+  pub commit-done : outcome (COMMIT u (partList list)) (memory t a) ≡ accept nothing [] (joinedState (stateOf t a) u (partList list) (commit-ready .listed))
   unfolding commit-ready
-  commit-made b t′ a′ h l l′ =
-      done (COMMIT u (partList list)) (memory t a) (memory t′ a′) (success nothing []) nothing [] _ w (commit-accepted (memory t a) u (partList list) zero-result) refl (h (commit-ready b)) l l′
+  commit-done = commit-accepted (memory t a) u (partList list) zero-result

@@ -9,13 +9,13 @@ ghost use Prim.Native.Nat.{ℕ, _+_, _*_, _≤_};
 ghost use lib.ListN.{length};
 ghost use Rattle.machine.specs.Map.{isSome, byNumber, lookup};
 ghost use Rattle.machine.specs.State.{Object, Upload, withObject, withoutUpload, counted};
-ghost use Rattle.machine.specs.Calls.{COMMIT};
+ghost use Rattle.machine.specs.Calls.{COMMIT, tableFull, code};
 ghost use Rattle.machine.specs.Fits.{member, fits};
 ghost use Rattle.layout.specs.Memory.{whole, stateOf, rowsOf};
 ghost use Rattle.find.specs.Places.{beforeUpload};
 ghost use Rattle.find.specs.Search.{rowPlaceAt, IsRowPlace};
 ghost use Rattle.calls.specs.Answers.{WellNumbered, doneReply, partList};
-ghost use Rattle.calls.specs.Made.{memory, outcome, resultOf, Made};
+ghost use Rattle.calls.specs.Made.{memory, outcome, resultOf, Made, MadeWhole};
 ghost use Rattle.commits.specs.Numbers.{firstNumbers, numberFits};
 
 // Whether a number is one of the list's first i.
@@ -69,12 +69,12 @@ fn list_fits(tables: &[u8], arena: &[u8], upload: UploadNumber, list: &[u8]) -> 
     true
 }
 
-// 4 where the object at an open upload's path would be the 257th, 0 for none. The upload's data are held already, so the
+// Table full where the object at an open upload's path would be the 257th, or 0. The upload's data are held already, so the
 // object asks the room of one without data.
 fn commit_room(tables: &[u8], arena: &[u8], upload: UploadNumber) -> u8
     requires { ⌜ (whole (now tables) (now arena) ≡ true) × (isSome (lookup byNumber (upload .0) (stateOf (now tables) (now arena) .U)) ≡ true) ⌝ }
     ensures { λ r. ⌜ ((x : Upload) → lookup byNumber (upload .0) (stateOf (now (tables .entry)) (now (arena .entry)) .U) ≡ some x
-        → (y : Object) → r ≡ cond (counted (withoutUpload (withObject (stateOf (now (tables .entry)) (now (arena .entry))) (x .path) y) (upload .0))) 0 4) ⌝ }
+        → (y : Object) → r ≡ cond (counted (withoutUpload (withObject (stateOf (now (tables .entry)) (now (arena .entry))) (x .path) y) (upload .0))) 0 (code tableFull)) ⌝ }
 {
     let place = find::find_upload(tables, arena, upload.0);
     let at = place.at;
@@ -91,12 +91,30 @@ fn commit_judge(tables: &[u8], arena: &[u8], upload: UploadNumber, list: &[u8]) 
 {
     let place = find::find_upload(tables, arena, upload.0);
     if !place.found {
-        return 2;
+        return types::BAD_REQUEST;
     }
     if !list_fits(tables, arena, upload, list) {
-        return 2;
+        return types::BAD_REQUEST;
     }
     commit_room(tables, arena, upload)
+}
+
+// COMMIT over whole memory.
+pub fn commit_whole(
+    tables: &mut [u8],
+    arena: &mut [u8],
+    upload: UploadNumber,
+    list: &[u8],
+) -> DoneAnswer
+    requires { ⌜ whole (now tables) (now arena) ≡ true ⌝ }
+    ensures { λ r. ⌜ MadeWhole (COMMIT (upload .0) (partList (now (list .entry)))) (memory (now (tables .entry)) (now (arena .entry))) (doneReply r) (memory (now (tables .exit)) (now (arena .exit))) × WellNumbered r ⌝ }
+{
+    let n = commit_judge(tables, arena, upload, list);
+    if n != 0 {
+        return DoneAnswer::Refused(n);
+    }
+    join::join(tables, arena, upload.0, list);
+    DoneAnswer::Done
 }
 
 // COMMIT: the parts, joined in listed order, become the object at the upload's path, and the upload is closed.
@@ -104,12 +122,7 @@ pub fn commit(tables: &mut [u8], arena: &mut [u8], upload: UploadNumber, list: &
     ensures { λ r. ⌜ Made (COMMIT (upload .0) (partList (now (list .entry)))) (memory (now (tables .entry)) (now (arena .entry))) (doneReply r) (memory (now (tables .exit)) (now (arena .exit))) × WellNumbered r ⌝ }
 {
     if !scan::whole(tables, arena) {
-        return DoneAnswer::Refused(1);
+        return DoneAnswer::Refused(types::NOT_A_STORE);
     }
-    let n = commit_judge(tables, arena, upload, list);
-    if n != 0 {
-        return DoneAnswer::Refused(n);
-    }
-    join::join(tables, arena, upload.0, list);
-    DoneAnswer::Done
+    commit_whole(tables, arena, upload, list)
 }

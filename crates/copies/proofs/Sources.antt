@@ -1,7 +1,7 @@
 -- COPY: the source, its refusals in checking order, and what it leaves. Assumes nothing.
 use Prim.Native.Nat.{ℕ, _+_, _-_, _≤_}
-use mathlib.Core.Path.{_≡_, refl, sym, ap, ap₂, _∙_, subst}
-use mathlib.Core.Bool.{Bool, true, false, _&&_}
+use mathlib.Core.Path.{_≡_, sym, ap, ap₂, _∙_, subst}
+use mathlib.Core.Bool.{true, false, _&&_}
 use mathlib.Core.List.{List, []}
 use mathlib.Core.Option.{some}
 use native.Mathlib.Omega.{arith}
@@ -29,9 +29,7 @@ use Rattle.find.proofs.Found.{is-some, is-none}
 use Rattle.edit.specs.Objects.{plainWith}
 use Rattle.edit_copy.specs.Copy.{contentIn, contentAt, Copiable}
 use Rattle.room.proofs.PutAt.{put-at-accepted, plain-is}
-use Rattle.calls.specs.Answers.{success}
-use Rattle.calls.specs.Made.{Memory, memory, stateIn, outcome, resultOf, Made}
-use Rattle.calls.proofs.MadeLaws.{done}
+use Rattle.calls.specs.Made.{Memory, memory, stateIn, outcome, resultOf}
 use Rattle.calls.proofs.Judging.{result-pass, result-stop, passed, result-found, result-missing, was-found}
 use Rattle.copies.specs.Source.{sourceOutcome}
 
@@ -93,25 +91,9 @@ module _ (m : Memory) (t : ℕ) (p q : Bytes) where
   abbrev A : ℕ
   A = length (m .arena)
 
-  copy-bad : (stampOk t && requestPathOk p && newPathOk q) ≡ false → 2 ≡ resultOf (outcome (COPY t p q) m)
+  pub copy-bad : (stampOk t && requestPathOk p && newPathOk q) ≡ false → 2 ≡ resultOf (outcome (COPY t p q) m)
   unfolding outcome act sourceOutcome
   copy-bad e = sym (result-stop (stampOk t && requestPathOk p && newPathOk q) badRequest (sourceOutcome A (stateIn m) t p q) e)
-
-  and-false : (x y : Bool) → x ≡ false → (x && y) ≡ false
-  and-false x y e = rw e
-
-  and-false′ : (x y : Bool) → y ≡ false → (x && y) ≡ false
-  and-false′ true y e = e
-  and-false′ false y e = refl
-
-  pub bad-stamp : stampOk t ≡ false → 2 ≡ resultOf (outcome (COPY t p q) m)
-  bad-stamp e = copy-bad (and-false (stampOk t && requestPathOk p) (newPathOk q) (and-false (stampOk t) (requestPathOk p) e))
-
-  pub bad-source : requestPathOk p ≡ false → 2 ≡ resultOf (outcome (COPY t p q) m)
-  bad-source e = copy-bad (and-false (stampOk t && requestPathOk p) (newPathOk q) (and-false′ (stampOk t) (requestPathOk p) e))
-
-  pub bad-destination : newPathOk q ≡ false → 2 ≡ resultOf (outcome (COPY t p q) m)
-  bad-destination e = copy-bad (and-false′ (stampOk t && requestPathOk p) (newPathOk q) e)
 
   pub copy-judged : stampOk t ≡ true → requestPathOk p ≡ true → newPathOk q ≡ true → (r : ℕ) → r ≡ resultOf (sourceOutcome A (stateIn m) t p q) → r ≡ resultOf (outcome (COPY t p q) m)
   unfolding outcome act sourceOutcome
@@ -139,7 +121,7 @@ module _ (m : Memory) (t : ℕ) (p q : Bytes) where
         let z = sym (ap resultOf (first .1 ∙ second .2)) ∙ zero-result in
         first .1 ∙ second .2 ∙ put-at-accepted A (stateIn m) t q (second .0 .content) z ∙ ap (λ (d : List ℕ). accept nothing [] (withObject (stateIn m) q (plainObject t d))) content-is
 
-    pub copy-valid : Valid A (stateIn m) → Valid A (withObject (stateIn m) q (plainObject t (contentAt (stateIn m) p)))
+    copy-valid : Valid A (stateIn m) → Valid A (withObject (stateIn m) q (plainObject t (contentAt (stateIn m) p)))
     unfolding outcome
     copy-valid v = subst (Valid A) (ap (after (stateIn m)) copy-accepted) (next-valid A (stateIn m) (COPY t p q) v)
 
@@ -153,8 +135,6 @@ module _ (tables arena p q : List ℕ) (t : ℕ) (digest : Digest) (w : whole ta
         valid = subst (λ (y : Object). Valid (length arena) (withObject (stateOf tables arena) q y)) (sym (plain-is t _ digest e)) (copy-valid (memory tables arena) t p q zero-result (whole-stands tables arena b w .valid));
       }
 
-  pub copy-made : (t′ a′ : List ℕ) → Stands t′ a′ (withObject (stateOf tables arena) q (plainWith t digest (contentAt (stateOf tables arena) p)))
-      → length t′ ≡ length tables → length a′ ≡ length arena → Made (COPY t p q) (memory tables arena) (success nothing []) (memory t′ a′)
-  copy-made t′ a′ h l l′ =
-      done (COPY t p q) (memory tables arena) (memory t′ a′) (success nothing []) nothing [] _ w (copy-accepted (memory tables arena) t p q zero-result) refl
-      (subst (λ (y : Object). Stands t′ a′ (withObject (stateOf tables arena) q y)) (plain-is t _ digest e) h) l l′
+  pub copy-stands : (t′ a′ : List ℕ) → Stands t′ a′ (withObject (stateOf tables arena) q (plainWith t digest (contentAt (stateOf tables arena) p)))
+      → Stands t′ a′ (withObject (stateOf tables arena) q (plainObject t (contentAt (stateOf tables arena) p)))
+  copy-stands t′ a′ h = subst (λ (y : Object). Stands t′ a′ (withObject (stateOf tables arena) q y)) (plain-is t _ digest e) h

@@ -13,16 +13,16 @@ ghost use Rattle.layout.specs.Memory.{whole, stateOf};
 ghost use Rattle.edit_copy.specs.Copy.{contentAt};
 ghost use Rattle.calls.specs.Answers.{WellNumbered, doneReply};
 ghost use Rattle.copies.specs.Source.{sourceOutcome};
-ghost use Rattle.calls.specs.Made.{memory, outcome, resultOf, Made};
+ghost use Rattle.calls.specs.Made.{memory, outcome, resultOf, Made, MadeWhole};
 
-// The refusal of COPY from a source that is there: 4, 5 or 0.
+// The refusal of COPY whose arguments keep their rules: not found, table full, arena full or 0.
 fn source_judge(tables: &[u8], arena: &[u8], stamp: Stamp, source: &[u8], destination: &[u8]) -> u8
     requires { ⌜ whole (now tables) (now arena) ≡ true ⌝ }
     ensures { λ r. ⌜ r ≡ resultOf (sourceOutcome (length (now (arena .entry))) (stateOf (now (tables .entry)) (now (arena .entry))) (stamp .0) (now (source .entry)) (now (destination .entry))) ⌝ }
 {
     let place = find::find_object(tables, arena, source);
     if !place.found {
-        return 3;
+        return types::NOT_FOUND;
     }
     let h = row::read_head(tables, place.at);
     room::object_judge(tables, arena, destination, h.size as usize)
@@ -34,13 +34,13 @@ fn copy_judge(tables: &[u8], arena: &[u8], stamp: Stamp, source: &[u8], destinat
     ensures { λ r. ⌜ r ≡ resultOf (outcome (COPY (stamp .0) (now (source .entry)) (now (destination .entry))) (memory (now (tables .entry)) (now (arena .entry)))) ⌝ }
 {
     if !names::stamp_ok(stamp.0) {
-        return 2;
+        return types::BAD_REQUEST;
     }
     if !names::request_path_ok(source) {
-        return 2;
+        return types::BAD_REQUEST;
     }
     if !names::new_path_ok(destination) {
-        return 2;
+        return types::BAD_REQUEST;
     }
     source_judge(tables, arena, stamp, source, destination)
 }
@@ -57,6 +57,26 @@ fn source_digest(tables: &[u8], arena: &[u8], source: &[u8]) -> Digest
     md5::digest(&arena[from..to])
 }
 
+// COPY over whole memory.
+pub fn copy_whole(
+    tables: &mut [u8],
+    arena: &mut [u8],
+    stamp: Stamp,
+    source: &[u8],
+    destination: &[u8],
+) -> DoneAnswer
+    requires { ⌜ whole (now tables) (now arena) ≡ true ⌝ }
+    ensures { λ r. ⌜ MadeWhole (COPY (stamp .0) (now (source .entry)) (now (destination .entry))) (memory (now (tables .entry)) (now (arena .entry))) (doneReply r) (memory (now (tables .exit)) (now (arena .exit))) × WellNumbered r ⌝ }
+{
+    let n = copy_judge(tables, arena, stamp, source, destination);
+    if n != 0 {
+        return DoneAnswer::Refused(n);
+    }
+    let digest = source_digest(tables, arena, source);
+    edit_copy::copy_object(tables, arena, stamp.0, digest, source, destination);
+    DoneAnswer::Done
+}
+
 // COPY: the destination becomes what PUT of the source's data with this stamp would make.
 pub fn copy(
     tables: &mut [u8],
@@ -68,13 +88,7 @@ pub fn copy(
     ensures { λ r. ⌜ Made (COPY (stamp .0) (now (source .entry)) (now (destination .entry))) (memory (now (tables .entry)) (now (arena .entry))) (doneReply r) (memory (now (tables .exit)) (now (arena .exit))) × WellNumbered r ⌝ }
 {
     if !scan::whole(tables, arena) {
-        return DoneAnswer::Refused(1);
+        return DoneAnswer::Refused(types::NOT_A_STORE);
     }
-    let n = copy_judge(tables, arena, stamp, source, destination);
-    if n != 0 {
-        return DoneAnswer::Refused(n);
-    }
-    let digest = source_digest(tables, arena, source);
-    edit_copy::copy_object(tables, arena, stamp.0, digest, source, destination);
-    DoneAnswer::Done
+    copy_whole(tables, arena, stamp, source, destination)
 }

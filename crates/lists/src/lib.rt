@@ -26,7 +26,7 @@ fn list_whole(
 {
     let counts = measuring::measure_rows(tables, arena, prefix, suffix);
     if answer.len() < counts.bytes as usize {
-        return ListAnswer::Refused(7);
+        return ListAnswer::Refused(types::BUFFER_SHORT);
     }
     writing::write_rows(tables, arena, prefix, suffix, answer);
     ListAnswer::Written(counts)
@@ -46,7 +46,7 @@ pub fn list(
         (memory (now (tables .entry)) (now (arena .entry))) ⌝ }
 {
     if !scan::whole(tables, arena) {
-        return ListAnswer::Refused(1);
+        return ListAnswer::Refused(types::NOT_A_STORE);
     }
     list_whole(tables, arena, prefix, suffix, answer)
 }

@@ -15,7 +15,7 @@ use Rattle.machine.specs.Names.{newPathOk, stampOk, lastUploadNumber}
 use Rattle.machine.specs.State.{Upload, State, counted, withUpload, withNext}
 use Rattle.machine.specs.Valid.{UploadOk, Valid}
 use Rattle.machine.specs.Calls.{INITIATE, number, badRequest, tableFull, numbersUsedUp, Outcome, accept, _else_then_}
-use Rattle.machine.specs.Steps.{act, newUpload, next}
+use Rattle.machine.specs.Steps.{newUpload, act, after}
 use Rattle.machine.proofs.Counts.{initiate-counted}
 use Rattle.machine.proofs.KeepsValid.{next-valid}
 use Rattle.machine.proofs.MapSums.{length-insert}
@@ -24,11 +24,8 @@ use Rattle.layout.specs.declared.Header.{Header}
 use Rattle.layout.specs.Memory.{headerAt, whole, stateOf, Stands}
 use Rattle.layout.specs.WholeLaws.{whole-stands}
 use Rattle.layout.specs.StandsLaws.{header-back}
-use Rattle.edit.specs.Header.{headerOf}
-use Rattle.calls.specs.Answers.{success}
-use Rattle.calls.specs.Made.{memory, resultOf, outcome, Made}
+use Rattle.calls.specs.Made.{memory, outcome, resultOf}
 use Rattle.calls.proofs.Judging.{pass, stop, passed}
-use Rattle.calls.proofs.MadeLaws.{done}
 
 -- a number above those of all uploads is not among them
 absent : (N : ℕ) (us : Map ℕ Upload) → Every (UploadOk N) us → lookup byNumber N us ≡ none
@@ -51,51 +48,48 @@ module _ (t a p : List ℕ) (b : Bytes t) (w : whole t a ≡ true) (stamp : ℕ)
   abbrev checks : Outcome
   checks = counted s′ else tableFull then counts
 
-  header-is : headerAt t ≡ headerOf (length a) s
-  header-is = header-back t a s stands
+  pub next-is : (header : Header) → header ≡ headerAt t → header .next ≡ s .N
+  next-is header read = ap (λ (h : Header). h .next) (read ∙ header-back t a s stands)
 
   pub header-inside : 18 ≤ length t
   header-inside = let z = stands .size in omega arith
 
-  pub bad-stamp : stampOk stamp ≡ false → 2 ≡ resultOf (act (length a) s (INITIATE stamp p))
-  unfolding act
+  pub bad-stamp : stampOk stamp ≡ false → 2 ≡ resultOf (outcome (INITIATE stamp p) (memory t a))
+  unfolding outcome act
   bad-stamp e = sym (ap resultOf (stop (stampOk stamp && newPathOk p) badRequest checks (rw e)))
 
-  pub bad-path : stampOk stamp ≡ true → newPathOk p ≡ false → 2 ≡ resultOf (act (length a) s (INITIATE stamp p))
-  unfolding act
+  pub bad-path : stampOk stamp ≡ true → newPathOk p ≡ false → 2 ≡ resultOf (outcome (INITIATE stamp p) (memory t a))
+  unfolding outcome act
   bad-path e f = sym (ap resultOf (stop (stampOk stamp && newPathOk p) badRequest checks (rw (e, f))))
 
   opens : length (insert byNumber (s .N) (newUpload stamp p) (s .U)) ≡ length (s .U) + 1
   opens = let l = length-insert numbers (s .N) (newUpload stamp p) (s .U) in omega (arith, rw (absent (s .N) (s .U) (stands .valid .upload)) at l)
 
   module _ (e : stampOk stamp ≡ true) (f : newPathOk p ≡ true) (uploads : ℕ) (uploads-are : uploads ≡ length (stateOf t a .U)) where
-    request-ok : act (length a) s (INITIATE stamp p) ≡ checks
-    unfolding act
+    request-ok : outcome (INITIATE stamp p) (memory t a) ≡ checks
+    unfolding outcome act
     request-ok = pass (stampOk stamp && newPathOk p) badRequest checks (rw (e, f))
 
     counted-is : counted s′ ≡ leb (length (s .U) + 1) 16
     counted-is = initiate-counted (length a) s (stands .valid) (s .N) stamp p ∙ ap (λ (n : ℕ). leb n 16) opens
 
-    pub full : 16 ≤ uploads → 4 ≡ resultOf (act (length a) s (INITIATE stamp p))
+    pub full : 16 ≤ uploads → 4 ≡ resultOf (outcome (INITIATE stamp p) (memory t a))
     full l = sym (ap resultOf (request-ok ∙ stop (counted s′) tableFull counts (counted-is ∙ lt-leb (length (s .U) + 1) 16 (omega (arith, uploads-are)))))
 
     module _ (l : uploads < 16) (header : Header) (read : header ≡ headerAt t) where
-      next-is : header .next ≡ s .N
-      next-is = ap (λ (h : Header). h .next) (read ∙ header-is)
-
-      room-ok : act (length a) s (INITIATE stamp p) ≡ counts
+      room-ok : outcome (INITIATE stamp p) (memory t a) ≡ counts
       room-ok = request-ok ∙ pass (counted s′) tableFull counts (counted-is ∙ le-leb (length (s .U) + 1) 16 (omega (arith, uploads-are)))
 
-      pub used-up : 4294967295 < header .next → 6 ≡ resultOf (act (length a) s (INITIATE stamp p))
-      used-up n = sym (ap resultOf (room-ok ∙ stop (leb (s .N) lastUploadNumber) numbersUsedUp (accept (number (s .N)) [] s′) (lt-leb (s .N) lastUploadNumber (omega (arith, next-is)))))
+      pub used-up : 4294967295 < header .next → 6 ≡ resultOf (outcome (INITIATE stamp p) (memory t a))
+      used-up n = sym (ap resultOf (room-ok ∙ stop (leb (s .N) lastUploadNumber) numbersUsedUp (accept (number (s .N)) [] s′) (lt-leb (s .N) lastUploadNumber (omega (arith, next-is header read)))))
 
-      pub opened : header .next ≤ 4294967295 → 0 ≡ resultOf (act (length a) s (INITIATE stamp p))
-      opened n = sym (ap resultOf (room-ok ∙ pass (leb (s .N) lastUploadNumber) numbersUsedUp (accept (number (s .N)) [] s′) (le-leb (s .N) lastUploadNumber (omega (arith, next-is)))))
+      pub opened : header .next ≤ 4294967295 → 0 ≡ resultOf (outcome (INITIATE stamp p) (memory t a))
+      opened n = sym (ap resultOf (room-ok ∙ pass (leb (s .N) lastUploadNumber) numbersUsedUp (accept (number (s .N)) [] s′) (le-leb (s .N) lastUploadNumber (omega (arith, next-is header read)))))
 
   -- result 0: all checks were passed
-  module _ (zero-result : resultOf (act (length a) s (INITIATE stamp p)) ≡ 0) where
-    first : (stampOk stamp && newPathOk p ≡ true) × (act (length a) s (INITIATE stamp p) ≡ checks)
-    unfolding act
+  module _ (zero-result : resultOf (outcome (INITIATE stamp p) (memory t a)) ≡ 0) where
+    first : (stampOk stamp && newPathOk p ≡ true) × (outcome (INITIATE stamp p) (memory t a) ≡ checks)
+    unfolding outcome act
     first = passed (stampOk stamp && newPathOk p) badRequest checks zero-result
 
     second : (counted s′ ≡ true) × (checks ≡ counts)
@@ -104,21 +98,12 @@ module _ (t a p : List ℕ) (b : Bytes t) (w : whole t a ≡ true) (stamp : ℕ)
     third : (leb (s .N) lastUploadNumber ≡ true) × (counts ≡ accept (number (s .N)) [] s′)
     third = passed (leb (s .N) lastUploadNumber) numbersUsedUp (accept (number (s .N)) [] s′) (sym (ap resultOf (first .1 ∙ second .1)) ∙ zero-result)
 
-    act-is : act (length a) s (INITIATE stamp p) ≡ accept (number (s .N)) [] s′
-    act-is = first .1 ∙ second .1 ∙ third .1
+    pub initiate-accepted : outcome (INITIATE stamp p) (memory t a) ≡ accept (number (s .N)) [] s′
+    initiate-accepted = first .1 ∙ second .1 ∙ third .1
 
-    pub next-small : headerAt t .next ≤ 4294967295
-    next-small = let n = leb-true (s .N) lastUploadNumber (third .0) in omega (arith, ap (λ (h : Header). h .next) header-is)
+    pub next-small : (header : Header) → header ≡ headerAt t → header .next ≤ 4294967295
+    next-small header read = let n = leb-true (s .N) lastUploadNumber (third .0) in omega (arith, next-is header read)
 
     pub target-valid : Valid (length a) s′
-    target-valid = subst (Valid (length a)) (next-accepted (act-is)) (next-valid (length a) s (INITIATE stamp p) (stands .valid))
-      where
-        next-accepted : act (length a) s (INITIATE stamp p) ≡ accept (number (s .N)) [] s′ → next (length a) s (INITIATE stamp p) ≡ s′
-        next-accepted e = rw e
-
-    pub initiate-made : (header : Header) (t′ : List ℕ) → header ≡ headerAt t → Stands t′ a s′ → length t′ ≡ length t
-        → Made (INITIATE stamp p) (memory t a) (success (number (header .next)) []) (memory t′ a)
     unfolding outcome
-    initiate-made header t′ read h l =
-        let n : header .next ≡ s .N = ap (λ (x : Header). x .next) (read ∙ header-is) in
-        done (INITIATE stamp p) (memory t a) (memory t′ a) (success (number (header .next)) []) (number (s .N)) [] s′ w act-is (ap (λ (i : ℕ). success (number i) []) n) h l refl
+    target-valid = subst (Valid (length a)) (ap (after s) initiate-accepted) (next-valid (length a) s (INITIATE stamp p) (stands .valid))

@@ -20,7 +20,7 @@ use Rattle.machine.specs.Etags.{plain}
 use Rattle.machine.specs.State.{Part, Upload, State, partsIn, held, counted, withUpload, withPart}
 use Rattle.machine.specs.Valid.{Valid}
 use Rattle.machine.specs.Calls.{PART, etag, badRequest, tableFull, arenaFull, accept, Outcome, _else_then_}
-use Rattle.machine.specs.Steps.{newPart, act, next}
+use Rattle.machine.specs.Steps.{newPart, act, after}
 use Rattle.machine.proofs.Counts.{part-counted, held-part, parts-part}
 use Rattle.machine.proofs.KeepsValid.{next-valid}
 use Rattle.row.specs.declared.Head.{Head}
@@ -33,10 +33,8 @@ use Rattle.find.proofs.Splits.{part-found}
 use Rattle.find.proofs.RowsAt.{At, row-at}
 use Rattle.find.proofs.Found.{is-some, is-none}
 use Rattle.edit_uploads.specs.Parts.{partWith, PartPuttable}
-use Rattle.calls.specs.Answers.{success}
-use Rattle.calls.specs.Made.{memory, resultOf, outcome, Made}
+use Rattle.calls.specs.Made.{Memory, memory, stateIn, outcome, resultOf}
 use Rattle.calls.proofs.Judging.{pass, stop, passed, result-found, result-missing, result-stop, was-found}
-use Rattle.calls.proofs.MadeLaws.{done}
 use Rattle.multipart.specs.Part.{partIn, partOutcome}
 
 -- the last two checks, by the numbers that code has at hand
@@ -163,16 +161,22 @@ module _ (t a d : List ℕ) (b : byte.Bytes t) (w : whole t a ≡ true) (u n : �
     new-zero l k = let i = held-inside in new-fits (length a) m (h .valid) u n d x₀ open₀ absent (omega (arith, parts-are)) (omega (arith, bytes-are))
 
 -- the first two checks
-module _ (A : ℕ) (s : State) (u n : ℕ) (d : Bytes) where
-  pub bad-number : requestPartOk n ≡ false → 2 ≡ resultOf (act A s (PART u n d))
-  unfolding act partOutcome partIn
+module _ (m : Memory) (u n : ℕ) (d : Bytes) where
+  abbrev A : ℕ
+  A = length (m .arena)
+
+  abbrev s : State
+  s = stateIn m
+
+  pub bad-number : requestPartOk n ≡ false → 2 ≡ resultOf (outcome (PART u n d) m)
+  unfolding outcome act partOutcome partIn
   bad-number e = sym (result-stop (requestPartOk n) badRequest (partOutcome A s u n d) e)
 
-  number-ok : requestPartOk n ≡ true → act A s (PART u n d) ≡ partOutcome A s u n d
-  unfolding act partOutcome partIn
+  number-ok : requestPartOk n ≡ true → outcome (PART u n d) m ≡ partOutcome A s u n d
+  unfolding outcome act partOutcome partIn
   number-ok e = pass (requestPartOk n) badRequest (partOutcome A s u n d) e
 
-  pub not-open : requestPartOk n ≡ true → (place : Place) → place ≡ uploadPlace s u → place .found ≡ false → 2 ≡ resultOf (act A s (PART u n d))
+  pub not-open : requestPartOk n ≡ true → (place : Place) → place ≡ uploadPlace s u → place .found ≡ false → 2 ≡ resultOf (outcome (PART u n d) m)
   unfolding partOutcome uploadPlace
   not-open e place is f =
       sym (ap resultOf (number-ok e) ∙ result-missing (lookup byNumber u (s .U)) badRequest (partIn A s u n d) (is-none _ (sym (ap (λ (p : Place). p .found) is) ∙ f)))
@@ -181,61 +185,60 @@ module _ (A : ℕ) (s : State) (u n : ℕ) (d : Bytes) where
   unfolding uploadPlace
   open-found place is f = sym (ap (λ (p : Place). p .found) is) ∙ f
 
-  pub part-judged : requestPartOk n ≡ true → (r : ℕ) → r ≡ resultOf (partOutcome A s u n d) → r ≡ resultOf (act A s (PART u n d))
+  pub part-judged : requestPartOk n ≡ true → (r : ℕ) → r ≡ resultOf (partOutcome A s u n d) → r ≡ resultOf (outcome (PART u n d) m)
   part-judged e r is = is ∙ sym (ap resultOf (number-ok e))
 
   -- result 0: all checks were passed
-  module _ (zero-result : resultOf (act A s (PART u n d)) ≡ 0) where
-    first : (requestPartOk n ≡ true) × (act A s (PART u n d) ≡ partOutcome A s u n d)
-    unfolding act partOutcome partIn
+  module _ (zero-result : resultOf (outcome (PART u n d) m) ≡ 0) where
+    first : (requestPartOk n ≡ true) × (outcome (PART u n d) m ≡ partOutcome A s u n d)
+    unfolding outcome act partOutcome partIn
     first = passed (requestPartOk n) badRequest (partOutcome A s u n d) zero-result
 
-    second : (x : Upload) × (lookup byNumber u (s .U) ≡ some x) × (partOutcome A s u n d ≡ partIn A s u n d x)
+    -- the open upload
+    pub opened : (x : Upload) × (lookup byNumber u (s .U) ≡ some x) × (partOutcome A s u n d ≡ partIn A s u n d x)
     unfolding partOutcome
-    second = was-found (lookup byNumber u (s .U)) badRequest (partIn A s u n d) (sym (ap resultOf (first .1)) ∙ zero-result)
+    opened = was-found (lookup byNumber u (s .U)) badRequest (partIn A s u n d) (sym (ap resultOf (first .1)) ∙ zero-result)
 
     abbrev x₁ : Upload
-    x₁ = second .0
+    x₁ = opened .0
 
     abbrev s₁ : State
     s₁ = withUpload s u (withPart x₁ n (newPart d))
 
-    act-is : act A s (PART u n d) ≡ accept (etag (plain (md5 d))) [] s₁
+    pub part-accepted : outcome (PART u n d) m ≡ accept (etag (plain (md5 d))) [] s₁
     unfolding partIn
-    act-is =
-        let z : resultOf (partIn A s u n d x₁) ≡ 0 = sym (ap resultOf (first .1 ∙ second .2)) ∙ zero-result in
+    part-accepted =
+        let z : resultOf (partIn A s u n d x₁) ≡ 0 = sym (ap resultOf (first .1 ∙ opened .2)) ∙ zero-result in
         let three = passed (counted s₁) tableFull (leb (held s₁) A else arenaFull then accept (etag (plain (md5 d))) [] s₁) z in
         let four = passed (leb (held s₁) A) arenaFull (accept (etag (plain (md5 d))) [] s₁) (sym (ap resultOf (three .1)) ∙ z) in
-        first .1 ∙ second .2 ∙ three .1 ∙ four .1
+        first .1 ∙ opened .2 ∙ three .1 ∙ four .1
 
     target-valid : Valid A s → Valid A s₁
-    target-valid v = subst (Valid A) (next-is act-is) (next-valid A s (PART u n d) v)
-      where
-        next-is : act A s (PART u n d) ≡ accept (etag (plain (md5 d))) [] s₁ → next A s (PART u n d) ≡ s₁
-        next-is e = rw e
+    unfolding outcome
+    target-valid v = subst (Valid A) (ap (after s) part-accepted) (next-valid A s (PART u n d) v)
+
+-- the part that is set, by the digest of its data
+pub part-digest : (d : Bytes) (digest : Digest) → digest ≡ rfc.md5 d → bytesOf digest ≡ md5 d
+part-digest d digest e = ap bytesOf e ∙ sym (digestBytes-is d)
 
 part-is : (d : Bytes) (digest : Digest) → digest ≡ rfc.md5 d → partWith digest d ≡ newPart d
-part-is d digest e = ap (λ (z : List ℕ). record { content = d; digest = z }) (ap bytesOf e ∙ sym (digestBytes-is d))
+part-is d digest e = ap (λ (z : List ℕ). record { content = d; digest = z }) (part-digest d digest e)
 
-module _ (t a d : List ℕ) (u n : ℕ) (digest : Digest) (w : whole t a ≡ true) (zero-result : resultOf (act (length a) (stateOf t a) (PART u n d)) ≡ 0) (e : digest ≡ rfc.md5 d) where
-  pub part-ready : byte.Bytes t → PartPuttable t a u n digest d
-  part-ready b =
+module _ (t a d : List ℕ) (u n : ℕ) (digest : Digest) (zero-result : resultOf (outcome (PART u n d) (memory t a)) ≡ 0) (e : digest ≡ rfc.md5 d) where
+  abbrev x₂ : Upload
+  x₂ = opened (memory t a) u n d zero-result .0
+
+  pub part-ready : byte.Bytes t → whole t a ≡ true → PartPuttable t a u n digest d
+  part-ready b w =
       record {
         is-whole = w;
-        upload = second (length a) (stateOf t a) u n d zero-result .0;
-        is-open = second (length a) (stateOf t a) u n d zero-result .1;
+        upload = x₂;
+        is-open = opened (memory t a) u n d zero-result .1;
         valid =
-            subst (λ (y : Part). Valid (length a) (withUpload (stateOf t a) u (withPart (second (length a) (stateOf t a) u n d zero-result .0) n y))) (sym (part-is d digest e))
-            (target-valid (length a) (stateOf t a) u n d zero-result (whole-stands t a b w .valid));
+            subst (λ (y : Part). Valid (length a) (withUpload (stateOf t a) u (withPart x₂ n y))) (sym (part-is d digest e))
+            (target-valid (memory t a) u n d zero-result (whole-stands t a b w .valid));
       }
 
-  pub part-made : (t′ a′ : List ℕ) → ((x : Upload) → lookup byNumber u (stateOf t a .U) ≡ some x → Stands t′ a′ (withUpload (stateOf t a) u (withPart x n (partWith digest d))))
-      → length t′ ≡ length t → length a′ ≡ length a → Made (PART u n d) (memory t a) (success (etag (plain (bytesOf digest))) []) (memory t′ a′)
-  unfolding outcome
-  part-made t′ a′ g l l′ =
-      let two = second (length a) (stateOf t a) u n d zero-result in
-      let tag : bytesOf digest ≡ md5 d = ap bytesOf e ∙ sym (digestBytes-is d) in
-      done (PART u n d) (memory t a) (memory t′ a′) (success (etag (plain (bytesOf digest))) []) (etag (plain (md5 d))) [] _ w
-      (act-is (length a) (stateOf t a) u n d zero-result)
-      (ap (λ (z : List ℕ). success (etag (plain z)) []) tag)
-      (subst (λ (y : Part). Stands t′ a′ (withUpload (stateOf t a) u (withPart (two .0) n y))) (part-is d digest e) (g (two .0) (two .1))) l l′
+  pub part-stands : (t′ a′ : List ℕ) → ((x : Upload) → lookup byNumber u (stateOf t a .U) ≡ some x → Stands t′ a′ (withUpload (stateOf t a) u (withPart x n (partWith digest d))))
+      → Stands t′ a′ (withUpload (stateOf t a) u (withPart x₂ n (newPart d)))
+  part-stands t′ a′ h = subst (λ (y : Part). Stands t′ a′ (withUpload (stateOf t a) u (withPart x₂ n y))) (part-is d digest e) (h x₂ (opened (memory t a) u n d zero-result .1))

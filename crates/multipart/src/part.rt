@@ -8,13 +8,12 @@ ghost use mathlib.Core.Bool.{true};
 ghost use lib.ListN.{length};
 ghost use Rattle.machine.specs.Map.{isSome, byNumber, lookup};
 ghost use Rattle.machine.specs.Calls.{PART};
-ghost use Rattle.machine.specs.Steps.{act};
 ghost use Rattle.layout.specs.Memory.{whole, stateOf};
 ghost use Rattle.calls.specs.Answers.{partReply};
-ghost use Rattle.calls.specs.Made.{memory, resultOf, Made};
+ghost use Rattle.calls.specs.Made.{memory, outcome, resultOf, Made, MadeWhole};
 ghost use Rattle.multipart.specs.Part.{partOutcome};
 
-// The refusal of a part of n bytes for an open upload: 4, 5 or 0. The bytes of the part that stands there are free.
+// The refusal of a part of an open upload: table full, arena full or 0. The bytes of the part that stands there are free.
 fn part_room(
     tables: &[u8],
     arena: &[u8],
@@ -30,16 +29,16 @@ fn part_room(
     if old.found {
         let h = row::read_head(tables, old.at);
         if room + (h.size as usize) < content.len() {
-            return 5;
+            return types::ARENA_FULL;
         }
         return 0;
     }
     let parts = find::part_count(tables, arena);
     if 256 <= parts {
-        return 4;
+        return types::TABLE_FULL;
     }
     if room < content.len() {
-        return 5;
+        return types::ARENA_FULL;
     }
     0
 }
@@ -53,16 +52,36 @@ fn part_judge(
     content: &[u8],
 ) -> u8
     requires { ⌜ whole (now tables) (now arena) ≡ true ⌝ }
-    ensures { λ r. ⌜ r ≡ resultOf (act (length (now (arena .entry))) (stateOf (now (tables .entry)) (now (arena .entry))) (PART (upload .0) (number .0) (now (content .entry)))) ⌝ }
+    ensures { λ r. ⌜ r ≡ resultOf (outcome (PART (upload .0) (number .0) (now (content .entry))) (memory (now (tables .entry)) (now (arena .entry)))) ⌝ }
 {
     if !names::request_part_ok(number.0) {
-        return 2;
+        return types::BAD_REQUEST;
     }
     let place = find::find_upload(tables, arena, upload.0);
     if !place.found {
-        return 2;
+        return types::BAD_REQUEST;
     }
     part_room(tables, arena, upload, number, content)
+}
+
+// PART over whole memory.
+pub fn part_whole(
+    tables: &mut [u8],
+    arena: &mut [u8],
+    upload: UploadNumber,
+    number: PartNumber,
+    content: &[u8],
+) -> PartAnswer
+    requires { ⌜ whole (now tables) (now arena) ≡ true ⌝ }
+    ensures { λ r. ⌜ MadeWhole (PART (upload .0) (number .0) (now (content .entry))) (memory (now (tables .entry)) (now (arena .entry))) (partReply r) (memory (now (tables .exit)) (now (arena .exit))) ⌝ }
+{
+    let n = part_judge(tables, arena, upload, number, content);
+    if n != 0 {
+        return PartAnswer::Refused(n);
+    }
+    let digest = md5::digest(content);
+    edit_uploads::parts::put_part(tables, arena, upload.0, number.0, digest, content);
+    PartAnswer::Stored(Etag::Plain(digest))
 }
 
 // PART: a part of an open upload is set; the answer is its etag.
@@ -76,13 +95,7 @@ pub fn part(
     ensures { λ r. ⌜ Made (PART (upload .0) (number .0) (now (content .entry))) (memory (now (tables .entry)) (now (arena .entry))) (partReply r) (memory (now (tables .exit)) (now (arena .exit))) ⌝ }
 {
     if !scan::whole(tables, arena) {
-        return PartAnswer::Refused(1);
+        return PartAnswer::Refused(types::NOT_A_STORE);
     }
-    let n = part_judge(tables, arena, upload, number, content);
-    if n != 0 {
-        return PartAnswer::Refused(n);
-    }
-    let digest = md5::digest(content);
-    edit_uploads::parts::put_part(tables, arena, upload.0, number.0, digest, content);
-    PartAnswer::Stored(Etag::Plain(digest))
+    part_whole(tables, arena, upload, number, content)
 }

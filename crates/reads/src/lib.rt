@@ -34,11 +34,11 @@ fn look_up(tables: &[u8], arena: &[u8], path: &[u8]) -> Named
         return Named::Root;
     }
     if !names::request_path_ok(path) {
-        return Named::Refused(2);
+        return Named::Refused(types::BAD_REQUEST);
     }
     let place = find::find_object(tables, arena, path);
     if !place.found {
-        return Named::Refused(3);
+        return Named::Refused(types::NOT_FOUND);
     }
     Named::Object {
         at: place.at,
@@ -92,7 +92,7 @@ fn get_object(tables: &[u8], arena: &[u8], at: usize, base: usize, answer: &mut 
     let m = metadata(tables, at);
     let n = m.length as usize;
     if answer.len() < n {
-        return GetAnswer::Refused(7);
+        return GetAnswer::Refused(types::BUFFER_SHORT);
     }
     buffer::copy_at(answer, 0, &arena[base..base + n]);
     GetAnswer::Found(m)
@@ -132,7 +132,7 @@ pub fn get(tables: &[u8], arena: &[u8], path: &[u8], answer: &mut [u8]) -> GetAn
         (memory (now (tables .entry)) (now (arena .entry))) ⌝ }
 {
     if !scan::whole(tables, arena) {
-        return GetAnswer::Refused(1);
+        return GetAnswer::Refused(types::NOT_A_STORE);
     }
     get_whole(tables, arena, path, answer)
 }
@@ -145,7 +145,7 @@ pub fn head(tables: &[u8], arena: &[u8], path: &[u8]) -> GetAnswer
         (memory (now (tables .entry)) (now (arena .entry))) ⌝ }
 {
     if !scan::whole(tables, arena) {
-        return GetAnswer::Refused(1);
+        return GetAnswer::Refused(types::NOT_A_STORE);
     }
     head_whole(tables, arena, path)
 }

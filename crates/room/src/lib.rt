@@ -5,22 +5,24 @@ ghost use Prim.Native.Nat.{ℕ, _+_, _≤_};
 ghost use lib.Dec.{leb};
 ghost use lib.ListN.{length};
 ghost use Rattle.machine.specs.Names.{Bytes};
+ghost use Rattle.machine.specs.Calls.{arenaFull, code};
 ghost use Rattle.machine.specs.Steps.{putAt};
 ghost use Rattle.layout.specs.Memory.{whole, stateOf};
 ghost use Rattle.calls.specs.Made.{resultOf};
 
-// 5 where n more bytes pass the arena's length.
+// Arena full where n more bytes pass its length.
 fn arena_judge(held: usize, n: usize, arena: usize) -> u8
     requires { ⌜ held ≤ arena ⌝ }
-    ensures { λ r. ⌜ r ≡ cond (leb (held + n) arena) 0 5 ⌝ }
+    ensures { λ r. ⌜ r ≡ cond (leb (held + n) arena) 0 (code arenaFull) ⌝ }
 {
     if arena - held < n {
-        return 5;
+        return types::ARENA_FULL;
     }
     0
 }
 
-// An object of n bytes at path, as PUT and COPY put it: 4, 5 or 0. The bytes of the object that stands there are free.
+// An object of n bytes at path, as PUT and COPY put it: table full, arena full or 0. The bytes of the object that stands there are
+// free.
 pub fn object_judge(tables: &[u8], arena: &[u8], path: &[u8], n: usize) -> u8
     requires { ⌜ whole (now tables) (now arena) ≡ true ⌝ }
     ensures { λ r. ⌜ ((stamp : ℕ) (content : Bytes) → length content ≡ n → r ≡ resultOf (putAt (length (now (arena .entry))) (stateOf (now (tables .entry)) (now (arena .entry))) stamp (now (path .entry)) content)) ⌝ }
@@ -33,7 +35,7 @@ pub fn object_judge(tables: &[u8], arena: &[u8], path: &[u8], n: usize) -> u8
     }
     let objects = find::object_count(tables, arena);
     if 256 <= objects {
-        return 4;
+        return types::TABLE_FULL;
     }
     arena_judge(held, n, arena.len())
 }

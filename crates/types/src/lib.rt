@@ -30,7 +30,22 @@ pub struct Counts {
     pub bytes: u32,
 }
 
-// PUT, DELETE, COPY, COMMIT and ABORT. A refusal has its number, 1 to 7, here and below.
+// The refusals' numbers, in checking order.
+pub const NOT_A_STORE: u8 = 1;
+
+pub const BAD_REQUEST: u8 = 2;
+
+pub const NOT_FOUND: u8 = 3;
+
+pub const TABLE_FULL: u8 = 4;
+
+pub const ARENA_FULL: u8 = 5;
+
+pub const NUMBERS_USED_UP: u8 = 6;
+
+pub const BUFFER_SHORT: u8 = 7;
+
+// PUT, DELETE, COPY, COMMIT and ABORT. A refusal has its number, here and below.
 pub enum DoneAnswer {
     Refused(u8),
     Done,

@@ -19,7 +19,7 @@ fn uploads_whole(tables: &[u8], arena: &[u8], prefix: &[u8], answer: &mut [u8]) 
 {
     let counts = measuring::measure(tables, arena, prefix);
     if answer.len() < counts.bytes as usize {
-        return ListAnswer::Refused(7);
+        return ListAnswer::Refused(types::BUFFER_SHORT);
     }
     writing::write(tables, arena, prefix, answer);
     ListAnswer::Written(counts)
@@ -33,7 +33,7 @@ pub fn uploads(tables: &[u8], arena: &[u8], prefix: &[u8], answer: &mut [u8]) ->
         (memory (now (tables .entry)) (now (arena .entry))) ⌝ }
 {
     if !scan::whole(tables, arena) {
-        return ListAnswer::Refused(1);
+        return ListAnswer::Refused(types::NOT_A_STORE);
     }
     uploads_whole(tables, arena, prefix, answer)
 }

@@ -1,25 +1,19 @@
 -- DELETE: what its judge and its step meet. Assumes nothing.
-use Prim.Native.Nat.{ℕ}
-use mathlib.Core.Path.{_≡_, refl, sym, ap, _∙_}
+use mathlib.Core.Path.{_≡_, sym, ap, _∙_}
 use mathlib.Core.Bool.{true, false}
 use mathlib.Core.List.{[]}
 use mathlib.Core.Option.{some}
-use lib.ListN.{length}
-use Rattle.types.specs.declared.DoneAnswer.{DoneAnswer}
 use Rattle.order.specs.Order.{byBytes}
 use Rattle.machine.specs.Map.{isSome, lookup}
 use Rattle.machine.specs.Names.{Bytes, requestPathOk}
 use Rattle.machine.specs.State.{Object, State, withoutObject}
 use Rattle.machine.specs.Calls.{DELETE, nothing, Outcome, accept, badRequest, notFound, given}
 use Rattle.machine.specs.Steps.{act}
-use Rattle.layout.specs.Memory.{Stands}
 use Rattle.find.specs.declared.Place.{Place}
 use Rattle.find.specs.Places.{objectPlace}
 use Rattle.find.proofs.Found.{is-some, is-none}
 use Rattle.edit.proofs.PutLaws.{place-found}
-use Rattle.calls.specs.Answers.{doneReply}
-use Rattle.calls.specs.Made.{Memory, wholeMemory, stateIn, outcome, resultOf, Made}
-use Rattle.calls.proofs.MadeLaws.{done}
+use Rattle.calls.specs.Made.{Memory, stateIn, outcome, resultOf}
 use Rattle.calls.proofs.Judging.{result-pass, result-stop, result-found, result-missing, passed, was-found}
 
 -- DELETE over the memory m
@@ -62,9 +56,3 @@ module _ (m : Memory) (p : Bytes) where
 
     pub delete-there : isSome (lookup byBytes p (s .O)) ≡ true
     delete-there = ap isSome (there .1)
-
--- DELETE, judged and done
-pub delete-made : (m m′ : Memory) (p : Bytes) (n : ℕ) → wholeMemory m ≡ true → n ≡ resultOf (outcome (DELETE p) m) → n ≡ 0
-    → Stands (m′ .tables) (m′ .arena) (withoutObject (stateIn m) p) → length (m′ .tables) ≡ length (m .tables) → length (m′ .arena) ≡ length (m .arena)
-    → Made (DELETE p) m (doneReply DoneAnswer.Done) m′
-delete-made m m′ p n w e z h l l′ = done (DELETE p) m m′ _ nothing [] _ w (delete-accepted m p (sym e ∙ z)) refl h l l′

@@ -1,13 +1,12 @@
 -- PUT: what its judge and its step meet. Assumes nothing.
 use Prim.Native.Nat.{ℕ}
-use mathlib.Core.Path.{_≡_, refl, sym, ap, _∙_, subst}
+use mathlib.Core.Path.{_≡_, sym, ap, _∙_, subst}
 use mathlib.Core.Bool.{true, false, _&&_}
 use mathlib.Core.List.{List, []}
 use lib.ListN.{length}
 use Rattle.number.specs.NumberLaws as bytes
 use Rattle.md5.specs.declared.words.Digest.{Digest}
 use Rattle.md5.specs.Md5.{md5}
-use Rattle.types.specs.declared.DoneAnswer.{DoneAnswer}
 use Rattle.machine.specs.Names.{Bytes, stampOk, newPathOk}
 use Rattle.machine.specs.State.{Object, State, withObject}
 use Rattle.machine.specs.Calls.{PUT, nothing, accept, badRequest}
@@ -18,9 +17,7 @@ use Rattle.layout.specs.Memory.{whole, stateOf, Stands}
 use Rattle.layout.specs.WholeLaws.{whole-stands}
 use Rattle.edit.specs.Objects.{plainWith}
 use Rattle.room.proofs.PutAt.{put-at-accepted, plain-is}
-use Rattle.calls.specs.Answers.{doneReply}
-use Rattle.calls.specs.Made.{Memory, memory, wholeMemory, stateIn, outcome, resultOf, Made}
-use Rattle.calls.proofs.MadeLaws.{done}
+use Rattle.calls.specs.Made.{Memory, memory, stateIn, outcome, resultOf}
 use Rattle.calls.proofs.Judging.{result-pass, result-stop, passed}
 
 -- PUT over the memory m
@@ -46,15 +43,9 @@ module _ (m : Memory) (t : ℕ) (p d : Bytes) where
       let one = passed (stampOk t && newPathOk p) badRequest (putAt A (stateIn m) t p d) e in
       one .1 ∙ put-at-accepted A (stateIn m) t p d (sym (ap resultOf (one .1)) ∙ e)
 
-  pub put-valid : Valid A (stateIn m) → resultOf (outcome (PUT t p d) m) ≡ 0 → Valid A after-put
+  put-valid : Valid A (stateIn m) → resultOf (outcome (PUT t p d) m) ≡ 0 → Valid A after-put
   unfolding outcome
   put-valid v e = subst (Valid A) (ap (after (stateIn m)) (put-accepted e)) (next-valid A (stateIn m) (PUT t p d) v)
-
--- PUT, judged and done
-pub put-made : (m m′ : Memory) (t : ℕ) (p d : Bytes) (n : ℕ) → wholeMemory m ≡ true → n ≡ resultOf (outcome (PUT t p d) m) → n ≡ 0
-    → Stands (m′ .tables) (m′ .arena) (withObject (stateIn m) p (plainObject t d)) → length (m′ .tables) ≡ length (m .tables) → length (m′ .arena) ≡ length (m .arena)
-    → Made (PUT t p d) m (doneReply DoneAnswer.Done) m′
-put-made m m′ t p d n w e z h l l′ = done (PUT t p d) m m′ _ nothing [] _ w (put-accepted m t p d (sym e ∙ z)) refl h l l′
 
 -- the object that is put, by the digest of its data
 module _ (t : ℕ) (p d : Bytes) (digest : Digest) (e : digest ≡ md5 d) where

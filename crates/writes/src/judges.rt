@@ -18,10 +18,10 @@ pub(crate) fn put_judge(
     ensures { λ r. ⌜ r ≡ resultOf (outcome (Call.PUT (stamp .0) (now (path .entry)) (now (content .entry))) (memory (now (tables .entry)) (now (arena .entry)))) ⌝ }
 {
     if !names::stamp_ok(stamp.0) {
-        return 2;
+        return types::BAD_REQUEST;
     }
     if !names::new_path_ok(path) {
-        return 2;
+        return types::BAD_REQUEST;
     }
     room::object_judge(tables, arena, path, content.len())
 }
@@ -32,11 +32,11 @@ pub(crate) fn delete_judge(tables: &[u8], arena: &[u8], path: &[u8]) -> u8
     ensures { λ r. ⌜ r ≡ resultOf (outcome (Call.DELETE (now (path .entry))) (memory (now (tables .entry)) (now (arena .entry)))) ⌝ }
 {
     if !names::request_path_ok(path) {
-        return 2;
+        return types::BAD_REQUEST;
     }
     let place = find::find_object(tables, arena, path);
     if !place.found {
-        return 3;
+        return types::NOT_FOUND;
     }
     0
 }

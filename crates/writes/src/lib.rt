@@ -1,27 +1,25 @@
 // FRESH, PUT and DELETE.
-pub mod judges;
+mod judges;
 
 use layout::Header;
 use types::DoneAnswer;
 use types::Stamp;
 ghost use mathlib.Core.Path.{_≡_};
 ghost use mathlib.Core.Bool.{true};
-ghost use Rattle.machine.specs.State.{withObject};
 ghost use Rattle.machine.specs.Calls.{Call};
-ghost use Rattle.machine.specs.Steps.{plainObject};
-ghost use Rattle.layout.specs.Memory.{whole, stateOf, Stands};
+ghost use Rattle.layout.specs.Memory.{whole};
 ghost use Rattle.calls.specs.Answers.{WellNumbered, doneReply};
-ghost use Rattle.calls.specs.Made.{memory, outcome, resultOf, Made, MadeFresh};
+ghost use Rattle.calls.specs.Made.{memory, Made, MadeWhole, MadeFresh};
 
 // FRESH: an empty store, whatever the slices hold.
 pub fn fresh(tables: &mut [u8], arena: &mut [u8]) -> u8
     ensures { λ r. ⌜ MadeFresh (memory (now (tables .entry)) (now (arena .entry))) r (memory (now (tables .exit)) (now (arena .exit))) ⌝ }
 {
     if tables.len() != 53842 {
-        return 1;
+        return types::NOT_A_STORE;
     }
     if 1048576 < arena.len() {
-        return 2;
+        return types::BAD_REQUEST;
     }
     let header = Header {
         arena: arena.len() as u32,
@@ -34,13 +32,24 @@ pub fn fresh(tables: &mut [u8], arena: &mut [u8]) -> u8
     0
 }
 
-// PUT where nothing refuses it.
-fn put_done(tables: &mut [u8], arena: &mut [u8], stamp: Stamp, path: &[u8], content: &[u8])
-    requires { ⌜ (whole (now tables) (now arena) ≡ true) × (resultOf (outcome (Call.PUT (stamp .0) (now path) (now content)) (memory (now tables) (now arena))) ≡ 0) ⌝ }
-    ensures { λ _. ⌜ Stands (now (tables .exit)) (now (arena .exit)) (withObject (stateOf (now (tables .entry)) (now (arena .entry))) (now (path .entry)) (plainObject (stamp .0) (now (content .entry)))) ⌝ }
+// PUT over whole memory.
+pub fn put_whole(
+    tables: &mut [u8],
+    arena: &mut [u8],
+    stamp: Stamp,
+    path: &[u8],
+    content: &[u8],
+) -> DoneAnswer
+    requires { ⌜ whole (now tables) (now arena) ≡ true ⌝ }
+    ensures { λ r. ⌜ MadeWhole (Call.PUT (stamp .0) (now (path .entry)) (now (content .entry))) (memory (now (tables .entry)) (now (arena .entry))) (doneReply r) (memory (now (tables .exit)) (now (arena .exit))) × WellNumbered r ⌝ }
 {
+    let n = judges::put_judge(tables, arena, stamp, path, content);
+    if n != 0 {
+        return DoneAnswer::Refused(n);
+    }
     let digest = md5::digest(content);
     edit::objects::put_object(tables, arena, stamp.0, digest, path, content);
+    DoneAnswer::Done
 }
 
 // PUT: the object at path becomes the content, with this stamp.
@@ -54,13 +63,21 @@ pub fn put(
     ensures { λ r. ⌜ Made (Call.PUT (stamp .0) (now (path .entry)) (now (content .entry))) (memory (now (tables .entry)) (now (arena .entry))) (doneReply r) (memory (now (tables .exit)) (now (arena .exit))) × WellNumbered r ⌝ }
 {
     if !scan::whole(tables, arena) {
-        return DoneAnswer::Refused(1);
+        return DoneAnswer::Refused(types::NOT_A_STORE);
     }
-    let n = judges::put_judge(tables, arena, stamp, path, content);
-    if n != 0 {
-        return DoneAnswer::Refused(n);
+    put_whole(tables, arena, stamp, path, content)
+}
+
+// DELETE over whole memory.
+pub fn delete_whole(tables: &mut [u8], arena: &mut [u8], path: &[u8]) -> DoneAnswer
+    requires { ⌜ whole (now tables) (now arena) ≡ true ⌝ }
+    ensures { λ r. ⌜ MadeWhole (Call.DELETE (now (path .entry))) (memory (now (tables .entry)) (now (arena .entry))) (doneReply r) (memory (now (tables .exit)) (now (arena .exit))) × WellNumbered r ⌝ }
+{
+    let refusal = judges::delete_judge(tables, arena, path);
+    if refusal != 0 {
+        return DoneAnswer::Refused(refusal);
     }
-    put_done(tables, arena, stamp, path, content);
+    edit::objects::remove_object(tables, arena, path);
     DoneAnswer::Done
 }
 
@@ -69,12 +86,7 @@ pub fn delete(tables: &mut [u8], arena: &mut [u8], path: &[u8]) -> DoneAnswer
     ensures { λ r. ⌜ Made (Call.DELETE (now (path .entry))) (memory (now (tables .entry)) (now (arena .entry))) (doneReply r) (memory (now (tables .exit)) (now (arena .exit))) × WellNumbered r ⌝ }
 {
     if !scan::whole(tables, arena) {
-        return DoneAnswer::Refused(1);
+        return DoneAnswer::Refused(types::NOT_A_STORE);
     }
-    let refusal = judges::delete_judge(tables, arena, path);
-    if refusal != 0 {
-        return DoneAnswer::Refused(refusal);
-    }
-    edit::objects::remove_object(tables, arena, path);
-    DoneAnswer::Done
+    delete_whole(tables, arena, path)
 }

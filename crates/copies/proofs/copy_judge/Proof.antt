@@ -1,8 +1,7 @@
--- `copies::copy_judge` meets its contract: one law for each check. Assumes nothing.
-use mathlib.Core.Path.{sym, _∙_}
-use borrow.Author.Tests.{not-true, not-false}
+-- `copies::copy_judge` meets its contract: stamp and paths, then the source. Assumes nothing.
+use Rattle.names.proofs.Tests.{said-no, said-yes}
 use Rattle.calls.specs.Made.{memory}
-use Rattle.copies.proofs.Sources.{bad-stamp, bad-source, bad-destination, copy-judged}
+use Rattle.copies.proofs.Sources.{copy-bad, copy-judged}
 use borrow.Author.Needs.{needs}
 use Rattle.copies.proofs.copy_judge.Statement.{statement}
 use Rattle.copies.proofs.copy_judge.Tie as tie
@@ -13,7 +12,8 @@ stamp-ok-requires c κs = search needs
 returns : tie.Need-returns
 returns c =
     let a = c .before .before .before .before .before .before .args in
-    bad-stamp (memory (a .tables .now) (a .arena .now)) (a .stamp .0) (a .source .now) (a .destination .now) (sym (c .before .stamp-ok .ensures) ∙ not-true _ (c .if1 .taken))
+    let no = said-no (c .before .stamp-ok .ensures) (c .if1 .taken) in
+    copy-bad (memory (a .tables .now) (a .arena .now)) (a .stamp .0) (a .source .now) (a .destination .now) (rw no)
 
 request-path-ok-requires : tie.Need-request-path-ok-requires
 request-path-ok-requires c κs = search needs
@@ -21,7 +21,9 @@ request-path-ok-requires c κs = search needs
 returns-2 : tie.Need-returns-2
 returns-2 c =
     let a = c .before .before .before .before .before .before .before .before .args in
-    bad-source (memory (a .tables .now) (a .arena .now)) (a .stamp .0) (a .source .now) (a .destination .now) (sym (c .before .request-path-ok .ensures) ∙ not-true _ (c .if2 .taken))
+    let stamp = said-yes (c .before .before .before .stamp-ok .ensures) (c .before .before .if1 .left) in
+    let no = said-no (c .before .request-path-ok .ensures) (c .if2 .taken) in
+    copy-bad (memory (a .tables .now) (a .arena .now)) (a .stamp .0) (a .source .now) (a .destination .now) (rw (stamp, no))
 
 new-path-ok-requires : tie.Need-new-path-ok-requires
 new-path-ok-requires c κs = search needs
@@ -29,7 +31,10 @@ new-path-ok-requires c κs = search needs
 returns-3 : tie.Need-returns-3
 returns-3 c =
     let a = c .before .before .before .before .before .before .before .before .before .before .args in
-    bad-destination (memory (a .tables .now) (a .arena .now)) (a .stamp .0) (a .source .now) (a .destination .now) (sym (c .before .new-path-ok .ensures) ∙ not-true _ (c .if3 .taken))
+    let stamp = said-yes (c .before .before .before .before .before .stamp-ok .ensures) (c .before .before .before .before .if1 .left) in
+    let source = said-yes (c .before .before .before .request-path-ok .ensures) (c .before .before .if2 .left) in
+    let no = said-no (c .before .new-path-ok .ensures) (c .if3 .taken) in
+    copy-bad (memory (a .tables .now) (a .arena .now)) (a .stamp .0) (a .source .now) (a .destination .now) (rw (stamp, source, no))
 
 source-judge-requires : tie.Need-source-judge-requires
 source-judge-requires c κs = search needs
@@ -37,7 +42,10 @@ source-judge-requires c κs = search needs
 returns-4 : tie.Need-returns-4
 returns-4 c =
     let a = c .before .before .before .before .before .before .before .before .before .before .before .args in
-    copy-judged (memory (a .tables .now) (a .arena .now)) (a .stamp .0) (a .source .now) (a .destination .now) (sym (c .before .before .before .before .before .before .stamp-ok .ensures) ∙ not-false _ (c .before .before .before .before .before .if1 .left)) (sym (c .before .before .before .before .request-path-ok .ensures) ∙ not-false _ (c .before .before .before .if2 .left)) (sym (c .before .before .new-path-ok .ensures) ∙ not-false _ (c .before .if3 .left)) (c .source-judge .result) (c .source-judge .ensures)
+    let stamp = said-yes (c .before .before .before .before .before .before .stamp-ok .ensures) (c .before .before .before .before .before .if1 .left) in
+    let source = said-yes (c .before .before .before .before .request-path-ok .ensures) (c .before .before .before .if2 .left) in
+    let destination = said-yes (c .before .before .new-path-ok .ensures) (c .before .if3 .left) in
+    copy-judged (memory (a .tables .now) (a .arena .now)) (a .stamp .0) (a .source .now) (a .destination .now) stamp source destination (c .source-judge .result) (c .source-judge .ensures)
 
 pub copy-judge-spec : {M : Type 1} → statement M
 copy-judge-spec =

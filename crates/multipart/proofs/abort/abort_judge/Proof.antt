@@ -1,6 +1,5 @@
 -- `multipart::abort::abort_judge` meets its contract. Assumes nothing.
-use lib.ListN.{length}
-use Rattle.layout.specs.Memory.{stateOf}
+use Rattle.calls.specs.Made.{memory}
 use Rattle.multipart.proofs.Aborting.{abort-open, abort-closed}
 use borrow.Author.Needs.{needs}
 use Rattle.multipart.proofs.abort.abort_judge.Statement.{statement}
@@ -13,13 +12,13 @@ returns : tie.Need-returns
 returns c =
     let a = c .before .before .before .before .args in
     let f = c .before .find-upload in
-    abort-open (length (a .arena .now)) (stateOf (a .tables .now) (a .arena .now)) (a .upload .0) (f .result) (f .ensures) (c .if1 .taken)
+    abort-open (memory (a .tables .now) (a .arena .now)) (a .upload .0) (f .result) (f .ensures) (c .if1 .taken)
 
 returns-2 : tie.Need-returns-2
 returns-2 c =
     let a = c .before .before .before .before .args in
     let f = c .before .find-upload in
-    abort-closed (length (a .arena .now)) (stateOf (a .tables .now) (a .arena .now)) (a .upload .0) (f .result) (f .ensures) (c .if1 .left)
+    abort-closed (memory (a .tables .now) (a .arena .now)) (a .upload .0) (f .result) (f .ensures) (c .if1 .left)
 
 pub abort-judge-spec : {M : Type 1} → statement M
 abort-judge-spec = tie.close (tie.spec find-upload-requires returns returns-2)

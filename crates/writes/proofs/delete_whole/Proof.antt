@@ -1,0 +1,55 @@
+-- `writes::delete_whole` meets its contract: refused, or the object removed. Assumes nothing.
+use mathlib.Core.Path.{refl, sym, _∙_}
+use mathlib.Core.List.{[]}
+use borrow.Author.Needs.{needs}
+use Rattle.machine.specs.Calls.{nothing}
+use Rattle.calls.specs.Made.{memory}
+use Rattle.calls.proofs.MadeLaws.{judged, done}
+use Rattle.writes.proofs.Deleting.{delete-accepted, delete-there}
+use Rattle.writes.proofs.delete_whole.Statement.{statement}
+use Rattle.writes.proofs.delete_whole.Tie as tie
+
+delete-judge-requires : tie.Need-delete-judge-requires
+delete-judge-requires c κs = search needs
+
+same-length : tie.Need-same-length
+same-length c = search needs
+
+same-length-2 : tie.Need-same-length-2
+same-length-2 c = search needs
+
+returns : tie.Need-returns
+returns c = (judged _ (c .before .delete-judge .ensures) (c .if1 .taken), c .if1 .taken)
+
+remove-object-requires : tie.Need-remove-object-requires
+remove-object-requires c κs =
+    let k = c .before .before in
+    let s = k .before .before .before .before .before .before .before in
+    (s .pre, delete-there (memory (s .args .tables .now) (s .args .arena .now)) (s .args .path .now) (sym (k .before .delete-judge .ensures) ∙ k .if1 .left))
+
+same-length-3 : tie.Need-same-length-3
+same-length-3 c = search needs
+
+same-length-4 : tie.Need-same-length-4
+same-length-4 c = search needs
+
+returns-2 : tie.Need-returns-2
+returns-2 c =
+    let k = c .before .before .before .before .before .before .before in
+    let a = k .before .before .before .before .before .before .before .args in
+    let o = c .before .before .before .before .remove-object in
+    let accepted = delete-accepted (memory (a .tables .now) (a .arena .now)) (a .path .now) (sym (k .before .delete-judge .ensures) ∙ k .if1 .left) in
+    (done nothing [] _ accepted refl (o .ensures) (o .kept .0) (o .kept .1 .0), tt)
+
+pub delete-whole-spec : {M : Type 1} → statement M
+delete-whole-spec =
+    tie.close
+    (tie.spec
+    delete-judge-requires
+    same-length
+    same-length-2
+    returns
+    remove-object-requires
+    same-length-3
+    same-length-4
+    returns-2)

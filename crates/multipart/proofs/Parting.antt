@@ -1,7 +1,7 @@
 -- PART: its refusals in checking order, and what it leaves. Assumes nothing.
 use Prim.Native.Nat.{ℕ, _+_, _-_, _≤_, _<_}
 use mathlib.Core.Path.{_≡_, sym, ap, _∙_, subst}
-use mathlib.Core.Bool.{true, false}
+use mathlib.Core.Bool.{true, false, cond}
 use mathlib.Core.List.{List, []}
 use mathlib.Core.Option.{none, some}
 use native.Mathlib.Omega.{arith}
@@ -34,7 +34,7 @@ use Rattle.find.proofs.RowsAt.{At, row-at}
 use Rattle.find.proofs.Found.{is-some, is-none}
 use Rattle.edit_uploads.specs.Parts.{partWith, PartPuttable}
 use Rattle.calls.specs.Made.{Memory, memory, stateIn, outcome, resultOf}
-use Rattle.calls.proofs.Judging.{pass, stop, passed, result-found, result-missing, result-stop, was-found}
+use Rattle.calls.proofs.Judging.{pass, result-stop, result-last, passed, result-found, result-missing, was-found}
 use Rattle.multipart.specs.Part.{partIn, partOutcome}
 
 -- the last two checks, by the numbers that code has at hand
@@ -53,40 +53,30 @@ module _ (A : ℕ) (s : State) (v : Valid A s) (u n : ℕ) (d : Bytes) (x : Uplo
   unfolding partIn
   counts-pass l = pass (counted s′) tableFull (leb (held s′) A else arenaFull then stored) (part-counted A s v u x (withPart x n (newPart d)) f ∙ le-leb _ _ l)
 
-  over : total partsIn (s′ .U) ≤ 256 → A < held s′ → resultOf (partIn A s u n d x) ≡ 5
-  over l h = ap resultOf (counts-pass l ∙ stop (leb (held s′) A) arenaFull stored (lt-leb _ _ h))
-
-  fits : total partsIn (s′ .U) ≤ 256 → held s′ ≤ A → resultOf (partIn A s u n d x) ≡ 0
-  fits l h = ap resultOf (counts-pass l ∙ pass (leb (held s′) A) arenaFull stored (le-leb _ _ h))
+  room : total partsIn (s′ .U) ≤ 256 → (kept : ℕ) → kept + length d ≡ held s′ → resultOf (partIn A s u n d x) ≡ cond (leb (kept + length d) A) 0 5
+  room l kept e = ap resultOf (counts-pass l) ∙ result-last (leb (held s′) A) arenaFull (etag (plain (md5 d))) [] s′ ∙ ap (λ (k : ℕ). cond (leb k A) 0 5) (sym e)
 
   is-outcome : (r : ℕ) → resultOf (partIn A s u n d x) ≡ r → r ≡ resultOf (partOutcome A s u n d)
   unfolding partOutcome
   is-outcome r e = sym (result-found (lookup byNumber u (s .U)) badRequest (partIn A s u n d) x f ∙ e)
 
-  -- in place of a part y
+  -- in place of a part y, which is a share of what is held
   module _ (y : Part) (g : lookup byNumber n (x .parts) ≡ some y) where
-    old-parts : total partsIn (s′ .U) ≤ 256
-    old-parts = let p = v .parts in omega (arith, rw g at (parts-part s u n x (newPart d) f))
+    part-share : length (y .content) ≤ held s
+    part-share = omega (arith, rw g at (held-part s u n x (newPart []) f))
 
-    pub old-over : A + length (y .content) < held s + length d → 5 ≡ resultOf (partOutcome A s u n d)
-    old-over l = is-outcome 5 (over old-parts (omega (arith, rw g at (held-part s u n x (newPart d) f))))
-
-    pub old-fits : held s + length d ≤ A + length (y .content) → 0 ≡ resultOf (partOutcome A s u n d)
-    old-fits l = is-outcome 0 (fits old-parts (omega (arith, rw g at (held-part s u n x (newPart d) f))))
+    room-old : resultOf (partIn A s u n d x) ≡ cond (leb (held s - length (y .content) + length d) A) 0 5
+    room-old =
+        let p = v .parts in
+        room (omega (arith, rw g at (parts-part s u n x (newPart d) f))) (held s - length (y .content)) (omega (arith, part-share, rw g at (held-part s u n x (newPart d) f)))
 
   -- a part more
   module _ (g : lookup byNumber n (x .parts) ≡ none) where
-    pub new-full : 256 ≤ total partsIn (s .U) → 4 ≡ resultOf (partOutcome A s u n d)
-    new-full l = is-outcome 4 (full (omega (arith, rw g at (parts-part s u n x (newPart d) f))))
+    room-none : 256 ≤ total partsIn (s .U) → resultOf (partIn A s u n d x) ≡ 4
+    room-none l = full (omega (arith, rw g at (parts-part s u n x (newPart d) f)))
 
-    new-parts : total partsIn (s .U) < 256 → total partsIn (s′ .U) ≤ 256
-    new-parts l = omega (arith, rw g at (parts-part s u n x (newPart d) f))
-
-    pub new-over : total partsIn (s .U) < 256 → A < held s + length d → 5 ≡ resultOf (partOutcome A s u n d)
-    new-over l h = is-outcome 5 (over (new-parts l) (omega (arith, rw g at (held-part s u n x (newPart d) f))))
-
-    pub new-fits : total partsIn (s .U) < 256 → held s + length d ≤ A → 0 ≡ resultOf (partOutcome A s u n d)
-    new-fits l h = is-outcome 0 (fits (new-parts l) (omega (arith, rw g at (held-part s u n x (newPart d) f))))
+    room-new : total partsIn (s .U) < 256 → resultOf (partIn A s u n d x) ≡ cond (leb (held s + length d) A) 0 5
+    room-new l = room (omega (arith, rw g at (parts-part s u n x (newPart d) f))) (held s) (omega (arith, rw g at (held-part s u n x (newPart d) f)))
 
 -- the same over whole memory, by what the readers give
 module _ (t a d : List ℕ) (b : byte.Bytes t) (w : whole t a ≡ true) (u n : ℕ) (is-open : isSome (lookup byNumber u (stateOf t a .U)) ≡ true)
@@ -106,9 +96,6 @@ module _ (t a d : List ℕ) (b : byte.Bytes t) (w : whole t a ≡ true) (u n : �
 
   pub held-inside : bytes ≤ length a
   held-inside = let r = h .valid .room in omega (arith, bytes-are)
-
-  pub arena-small : length a ≤ 1048576
-  arena-small = h .small
 
   place-at : place ≡ partPlace m u x₀ n
   place-at = place-is x₀ open₀
@@ -138,27 +125,24 @@ module _ (t a d : List ℕ) (b : byte.Bytes t) (w : whole t a ≡ true) (u n : �
       size-is : head .size ≡ length (y₀ .content)
       size-is = ap (λ (z : Head). z .size) (head-is ∙ ap (λ (i : ℕ). headAt (drop i t)) at-is ∙ here .head)
 
-      pub old-small : head .size ≤ 1048576
-      old-small = let l = h .small in omega (arith, size-is, here .arena-inside)
+      pub old-held : head .size ≤ bytes
+      old-held = omega (arith, size-is, bytes-are, part-share (length a) m (h .valid) u n d x₀ open₀ y₀ there)
 
-      pub old-five : length a - bytes + head .size < length d → 5 ≡ resultOf (partOutcome (length a) m u n d)
-      old-five l = let k = held-inside in old-over (length a) m (h .valid) u n d x₀ open₀ y₀ there (omega (arith, bytes-are, size-is))
-
-      pub old-zero : length d ≤ length a - bytes + head .size → 0 ≡ resultOf (partOutcome (length a) m u n d)
-      old-zero l = let k = held-inside in old-fits (length a) m (h .valid) u n d x₀ open₀ y₀ there (omega (arith, bytes-are, size-is))
+      pub judged-old : (r : ℕ) → r ≡ cond (leb (bytes - head .size + length d) (length a)) 0 5 → r ≡ resultOf (partOutcome (length a) m u n d)
+      judged-old r is =
+          let q : bytes - head .size ≡ held m - length (y₀ .content) = omega (arith, size-is, bytes-are) in
+          is-outcome (length a) m (h .valid) u n d x₀ open₀ r (room-old (length a) m (h .valid) u n d x₀ open₀ y₀ there ∙ sym (rw (is, q)))
 
   module _ (no : place .found ≡ false) (parts : ℕ) (parts-are : parts ≡ total partsIn (stateOf t a .U)) where
     absent : lookup byNumber n (x₀ .parts) ≡ none
     absent = is-none _ (sym found-is ∙ no)
 
-    pub new-four : 256 ≤ parts → 4 ≡ resultOf (partOutcome (length a) m u n d)
-    new-four l = new-full (length a) m (h .valid) u n d x₀ open₀ absent (omega (arith, parts-are))
+    pub judged-full : 256 ≤ parts → 4 ≡ resultOf (partOutcome (length a) m u n d)
+    judged-full l = is-outcome (length a) m (h .valid) u n d x₀ open₀ 4 (room-none (length a) m (h .valid) u n d x₀ open₀ absent (omega (arith, parts-are)))
 
-    pub new-five : parts < 256 → length a - bytes < length d → 5 ≡ resultOf (partOutcome (length a) m u n d)
-    new-five l k = let i = held-inside in new-over (length a) m (h .valid) u n d x₀ open₀ absent (omega (arith, parts-are)) (omega (arith, bytes-are))
-
-    pub new-zero : parts < 256 → length d ≤ length a - bytes → 0 ≡ resultOf (partOutcome (length a) m u n d)
-    new-zero l k = let i = held-inside in new-fits (length a) m (h .valid) u n d x₀ open₀ absent (omega (arith, parts-are)) (omega (arith, bytes-are))
+    pub judged-new : parts < 256 → (r : ℕ) → r ≡ cond (leb (bytes + length d) (length a)) 0 5 → r ≡ resultOf (partOutcome (length a) m u n d)
+    judged-new l r is =
+        is-outcome (length a) m (h .valid) u n d x₀ open₀ r (room-new (length a) m (h .valid) u n d x₀ open₀ absent (omega (arith, parts-are)) ∙ sym (rw (is, bytes-are)))
 
 -- the first two checks
 module _ (m : Memory) (u n : ℕ) (d : Bytes) where

@@ -25,22 +25,16 @@ fn part_room(
     ensures { λ r. ⌜ r ≡ resultOf (partOutcome (length (now (arena .entry))) (stateOf (now (tables .entry)) (now (arena .entry))) (upload .0) (number .0) (now (content .entry))) ⌝ }
 {
     let old = find::find_part(tables, arena, upload.0, number.0);
-    let room = arena.len() - find::held(tables, arena);
+    let held = find::held(tables, arena);
     if old.found {
         let h = row::read_head(tables, old.at);
-        if room + (h.size as usize) < content.len() {
-            return types::ARENA_FULL;
-        }
-        return 0;
+        return room::arena_judge(held - h.size as usize, content.len(), arena.len());
     }
     let parts = find::part_count(tables, arena);
     if 256 <= parts {
         return types::TABLE_FULL;
     }
-    if room < content.len() {
-        return types::ARENA_FULL;
-    }
-    0
+    room::arena_judge(held, content.len(), arena.len())
 }
 
 // PART's refusal over whole memory, 0 for none.

@@ -1,4 +1,4 @@
-// The room for an object: the last refusals of PUT, COPY and COMMIT, by number; 0 for none.
+// The room for an object or a part: the last refusals of PUT, COPY, PART and COMMIT, by number; 0 for none.
 ghost use mathlib.Core.Path.{_≡_};
 ghost use mathlib.Core.Bool.{true, cond};
 ghost use Prim.Native.Nat.{ℕ, _+_, _≤_};
@@ -11,7 +11,7 @@ ghost use Rattle.layout.specs.Memory.{whole, stateOf};
 ghost use Rattle.calls.specs.Made.{resultOf};
 
 // Arena full where n more bytes pass its length.
-fn arena_judge(held: usize, n: usize, arena: usize) -> u8
+pub fn arena_judge(held: usize, n: usize, arena: usize) -> u8
     requires { ⌜ held ≤ arena ⌝ }
     ensures { λ r. ⌜ r ≡ cond (leb (held + n) arena) 0 (code arenaFull) ⌝ }
 {

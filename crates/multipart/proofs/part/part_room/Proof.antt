@@ -1,8 +1,10 @@
--- `multipart::part::part_room` meets its contract: one law for each way out. Assumes nothing.
-use Rattle.number.specs.NumberLaws.{Bytes}
-use Rattle.multipart.proofs.Parting.{held-inside, arena-small, old-inside, old-small, old-five, old-zero, new-four, new-five, new-zero}
+-- `multipart::part::part_room` meets its contract: the readers say what the checks ask. Assumes nothing.
+use Prim.Native.Nat.{ℕ}
+use mathlib.Core.List.{List}
 use native.Mathlib.Omega.{arith}
 use borrow.Author.Needs.{needs}
+use Rattle.number.specs.NumberLaws.{Bytes}
+use Rattle.multipart.proofs.Parting.{held-inside, old-inside, old-held, judged-old, judged-full, judged-new}
 use Rattle.multipart.proofs.part.part_room.Statement.{statement}
 use Rattle.multipart.proofs.part.part_room.Tie as tie
 
@@ -12,90 +14,81 @@ find-part-requires c κs = search needs
 held-requires : tie.Need-held-requires
 held-requires c κs = search needs
 
-sub-room : tie.Need-sub-room
-sub-room c =
-    let a = c .before .before .before .before .before .args in
-    let b : Bytes (a .tables .now) = λ j. c .before .before .before .before .shared-slice-known .given j .fits in
-    let p = c .before .before .before .before .before .pre in
-    let f = c .before .find-part in
-    let e = c .held in
-    let z = held-inside (a .tables .now) (a .arena .now) (a .content .now) b (p .0) (a .upload .0) (a .number .0) (p .1) (f .result) (f .ensures) (e .result) (e .ensures) in omega arith
+-- once the part is looked for and the bytes held are counted
+module _ (c : tie.After-held) where
+  abbrev start : tie.Start
+  start = c .before .before .before .before .before
+
+  abbrev t : List ℕ
+  t = start .args .tables .now
+
+  abbrev a : List ℕ
+  a = start .args .arena .now
+
+  abbrev d : List ℕ
+  d = start .args .content .now
+
+  bytes : Bytes t
+  bytes = λ j. c .before .before .before .before .shared-slice-known .given j .fits
 
 read-head-requires : tie.Need-read-head-requires
 read-head-requires c κs =
-    let a = c .before .before .before .before .before .before .args in
-    let b : Bytes (a .tables .now) = λ j. c .before .before .before .before .before .shared-slice-known .given j .fits in
-    let p = c .before .before .before .before .before .before .pre in
-    let f = c .before .before .find-part in
-    let e = c .before .held in
-    old-inside (a .tables .now) (a .arena .now) (a .content .now) b (p .0) (a .upload .0) (a .number .0) (p .1) (f .result) (f .ensures) (e .result) (e .ensures) (c .if1 .taken)
+    let k = c .before in
+    let s = start k in
+    let f = k .before .find-part in
+    old-inside (t k) (a k) (d k) (bytes k) (s .pre .0) (s .args .upload .0) (s .args .number .0) (s .pre .1) (f .result) (f .ensures) (k .held .result) (k .held .ensures) (c .if1 .taken)
 
-cast-if2 : tie.Need-cast-if2
-cast-if2 c = search needs
+cast-arena-judge : tie.Need-cast-arena-judge
+cast-arena-judge c = search needs
 
-add-if2 : tie.Need-add-if2
-add-if2 c =
-    let a = c .before .before .before .before .before .before .before .before .args in
-    let b : Bytes (a .tables .now) = λ j. c .before .before .before .before .before .before .before .shared-slice-known .given j .fits in
-    let p = c .before .before .before .before .before .before .before .before .pre in
-    let f = c .before .before .before .before .find-part in
-    let e = c .before .before .before .held in
+sub-arena-judge : tie.Need-sub-arena-judge
+sub-arena-judge c =
+    let k = c .before .before .before in
+    let s = start k in
+    let f = k .before .find-part in
     let h = c .before .read-head in
-    let z = old-small (a .tables .now) (a .arena .now) (a .content .now) b (p .0) (a .upload .0) (a .number .0) (p .1) (f .result) (f .ensures) (e .result) (e .ensures) (c .before .before .if1 .taken) (h .result) (h .ensures) in
-    let y = arena-small (a .tables .now) (a .arena .now) (a .content .now) b (p .0) (a .upload .0) (a .number .0) (p .1) (f .result) (f .ensures) (e .result) (e .ensures) in omega arith
+    omega (arith, old-held (t k) (a k) (d k) (bytes k) (s .pre .0) (s .args .upload .0) (s .args .number .0) (s .pre .1) (f .result) (f .ensures) (k .held .result) (k .held .ensures) (c .before .before .if1 .taken) (h .result) (h .ensures))
+
+arena-judge-requires : tie.Need-arena-judge-requires
+arena-judge-requires c κs =
+    let k = c .before .before .before in
+    let s = start k in
+    let f = k .before .find-part in
+    omega (arith, held-inside (t k) (a k) (d k) (bytes k) (s .pre .0) (s .args .upload .0) (s .args .number .0) (s .pre .1) (f .result) (f .ensures) (k .held .result) (k .held .ensures))
 
 returns : tie.Need-returns
 returns c =
-    let a = c .before .before .before .before .before .before .before .before .before .args in
-    let b : Bytes (a .tables .now) = λ j. c .before .before .before .before .before .before .before .before .shared-slice-known .given j .fits in
-    let p = c .before .before .before .before .before .before .before .before .before .pre in
-    let f = c .before .before .before .before .before .find-part in
-    let e = c .before .before .before .before .held in
+    let k = c .before .before .before .before in
+    let s = start k in
+    let f = k .before .find-part in
     let h = c .before .before .read-head in
-    old-five (a .tables .now) (a .arena .now) (a .content .now) b (p .0) (a .upload .0) (a .number .0) (p .1) (f .result) (f .ensures) (e .result) (e .ensures) (c .before .before .before .if1 .taken) (h .result) (h .ensures) (c .if2 .taken)
-
-returns-2 : tie.Need-returns-2
-returns-2 c =
-    let a = c .before .before .before .before .before .before .before .before .before .args in
-    let b : Bytes (a .tables .now) = λ j. c .before .before .before .before .before .before .before .before .shared-slice-known .given j .fits in
-    let p = c .before .before .before .before .before .before .before .before .before .pre in
-    let f = c .before .before .before .before .before .find-part in
-    let e = c .before .before .before .before .held in
-    let h = c .before .before .read-head in
-    old-zero (a .tables .now) (a .arena .now) (a .content .now) b (p .0) (a .upload .0) (a .number .0) (p .1) (f .result) (f .ensures) (e .result) (e .ensures) (c .before .before .before .if1 .taken) (h .result) (h .ensures) (c .if2 .left)
+    judged-old (t k) (a k) (d k) (bytes k) (s .pre .0) (s .args .upload .0) (s .args .number .0) (s .pre .1) (f .result) (f .ensures) (k .held .result) (k .held .ensures) (c .before .before .before .if1 .taken) (h .result) (h .ensures) (c .arena-judge .result) (c .arena-judge .ensures)
 
 part-count-requires : tie.Need-part-count-requires
 part-count-requires c κs = search needs
 
+returns-2 : tie.Need-returns-2
+returns-2 c =
+    let k = c .before .before .before in
+    let s = start k in
+    let f = k .before .find-part in
+    let n = c .before .part-count in
+    judged-full (t k) (a k) (d k) (bytes k) (s .pre .0) (s .args .upload .0) (s .args .number .0) (s .pre .1) (f .result) (f .ensures) (k .held .result) (k .held .ensures) (c .before .before .if1 .left) (n .result) (n .ensures) (c .if2 .taken)
+
+arena-judge-requires-2 : tie.Need-arena-judge-requires-2
+arena-judge-requires-2 c κs =
+    let k = c .before .before .before in
+    let s = start k in
+    let f = k .before .find-part in
+    omega (arith, held-inside (t k) (a k) (d k) (bytes k) (s .pre .0) (s .args .upload .0) (s .args .number .0) (s .pre .1) (f .result) (f .ensures) (k .held .result) (k .held .ensures))
+
 returns-3 : tie.Need-returns-3
 returns-3 c =
-    let a = c .before .before .before .before .before .before .before .before .args in
-    let b : Bytes (a .tables .now) = λ j. c .before .before .before .before .before .before .before .shared-slice-known .given j .fits in
-    let p = c .before .before .before .before .before .before .before .before .pre in
-    let f = c .before .before .before .before .find-part in
-    let e = c .before .before .before .held in
-    let n = c .before .part-count in
-    new-four (a .tables .now) (a .arena .now) (a .content .now) b (p .0) (a .upload .0) (a .number .0) (p .1) (f .result) (f .ensures) (e .result) (e .ensures) (c .before .before .if1 .left) (n .result) (n .ensures) (c .if3 .taken)
-
-returns-4 : tie.Need-returns-4
-returns-4 c =
-    let a = c .before .before .before .before .before .before .before .before .before .args in
-    let b : Bytes (a .tables .now) = λ j. c .before .before .before .before .before .before .before .before .shared-slice-known .given j .fits in
-    let p = c .before .before .before .before .before .before .before .before .before .pre in
-    let f = c .before .before .before .before .before .find-part in
-    let e = c .before .before .before .before .held in
+    let k = c .before .before .before .before in
+    let s = start k in
+    let f = k .before .find-part in
     let n = c .before .before .part-count in
-    new-five (a .tables .now) (a .arena .now) (a .content .now) b (p .0) (a .upload .0) (a .number .0) (p .1) (f .result) (f .ensures) (e .result) (e .ensures) (c .before .before .before .if1 .left) (n .result) (n .ensures) (c .before .if3 .left) (c .if4 .taken)
-
-returns-5 : tie.Need-returns-5
-returns-5 c =
-    let a = c .before .before .before .before .before .before .before .before .before .args in
-    let b : Bytes (a .tables .now) = λ j. c .before .before .before .before .before .before .before .before .shared-slice-known .given j .fits in
-    let p = c .before .before .before .before .before .before .before .before .before .pre in
-    let f = c .before .before .before .before .before .find-part in
-    let e = c .before .before .before .before .held in
-    let n = c .before .before .part-count in
-    new-zero (a .tables .now) (a .arena .now) (a .content .now) b (p .0) (a .upload .0) (a .number .0) (p .1) (f .result) (f .ensures) (e .result) (e .ensures) (c .before .before .before .if1 .left) (n .result) (n .ensures) (c .before .if3 .left) (c .if4 .left)
+    judged-new (t k) (a k) (d k) (bytes k) (s .pre .0) (s .args .upload .0) (s .args .number .0) (s .pre .1) (f .result) (f .ensures) (k .held .result) (k .held .ensures) (c .before .before .before .if1 .left) (n .result) (n .ensures) (c .before .if2 .left) (c .arena-judge2 .result) (c .arena-judge2 .ensures)
 
 pub part-room-spec : {M : Type 1} → statement M
 part-room-spec =
@@ -103,13 +96,12 @@ part-room-spec =
     (tie.spec
     find-part-requires
     held-requires
-    sub-room
     read-head-requires
-    cast-if2
-    add-if2
+    cast-arena-judge
+    sub-arena-judge
+    arena-judge-requires
     returns
-    returns-2
     part-count-requires
-    returns-3
-    returns-4
-    returns-5)
+    returns-2
+    arena-judge-requires-2
+    returns-3)

@@ -34,7 +34,7 @@ fn is_listed_before(list: &[u8], i: usize, number: u16) -> bool
     listed
 }
 
-// Whether the list's number at i is a part's of an open upload, `first` being the row behind the upload's, and none of those
+// Whether the list's number at i is a part's of an open upload, `first` being the row after the upload's, and none of those
 // before it.
 fn number_fits(tables: &[u8], arena: &[u8], first: RowPlace, list: &[u8], i: usize) -> bool
     requires { ⌜ (whole (now tables) (now arena) ≡ true) × IsRowPlace (rowsOf (stateOf (now tables) (now arena))) first × (2 * i + 2 ≤ length (now list)) ⌝ }
@@ -69,8 +69,8 @@ fn list_fits(tables: &[u8], arena: &[u8], upload: UploadNumber, list: &[u8]) -> 
     true
 }
 
-// Table full where the object at an open upload's path would be the 257th, or 0. The upload's data are held already, so the
-// object asks the room of one without data.
+// Table full where the object at an open upload's path would be the 257th, or 0. The upload's data are held already, so
+// the object asks the room of one without data.
 fn commit_room(tables: &[u8], arena: &[u8], upload: UploadNumber) -> u8
     requires { ⌜ (whole (now tables) (now arena) ≡ true) × (isSome (lookup byNumber (upload .0) (stateOf (now tables) (now arena) .U)) ≡ true) ⌝ }
     ensures { λ r. ⌜ ((x : Upload) → lookup byNumber (upload .0) (stateOf (now (tables .entry)) (now (arena .entry)) .U) ≡ some x

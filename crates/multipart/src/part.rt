@@ -13,7 +13,7 @@ ghost use Rattle.calls.specs.Answers.{partReply};
 ghost use Rattle.calls.specs.Made.{memory, outcome, resultOf, Made, MadeWhole};
 ghost use Rattle.multipart.specs.Part.{partOutcome};
 
-// The refusal of a part of an open upload: table full, arena full or 0. The bytes of the part that stands there are free.
+// The refusal of a part of an open upload: table full, arena full or 0. The bytes of the old part are free.
 fn part_room(
     tables: &[u8],
     arena: &[u8],

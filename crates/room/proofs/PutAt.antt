@@ -1,4 +1,4 @@
--- `putAt`, the step of PUT and COPY: its result by the numbers that code has at hand, and what result 0 shows. Assumes nothing.
+-- `putAt`, the step of PUT and COPY: its result by what code has at hand, and what result 0 shows. Assumes nothing.
 use Prim.Native.Nat.{ℕ, _+_, _-_, _≤_, _<_}
 use mathlib.Core.Path.{_≡_, sym, ap, _∙_}
 use mathlib.Core.Bool.{cond}

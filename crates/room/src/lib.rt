@@ -10,7 +10,7 @@ ghost use Rattle.machine.specs.Steps.{putAt};
 ghost use Rattle.layout.specs.Memory.{whole, stateOf};
 ghost use Rattle.calls.specs.Made.{resultOf};
 
-// Arena full where n more bytes pass its length.
+// Arena full where n bytes beside those held pass its length, or 0.
 pub fn arena_judge(held: usize, n: usize, arena: usize) -> u8
     requires { ⌜ held ≤ arena ⌝ }
     ensures { λ r. ⌜ r ≡ cond (leb (held + n) arena) 0 (code arenaFull) ⌝ }
@@ -21,8 +21,7 @@ pub fn arena_judge(held: usize, n: usize, arena: usize) -> u8
     0
 }
 
-// An object of n bytes at path, as PUT and COPY put it: table full, arena full or 0. The bytes of the object that stands there are
-// free.
+// An object of n bytes at path, as PUT and COPY put it: table full, arena full or 0. The bytes of the old object are free.
 pub fn object_judge(tables: &[u8], arena: &[u8], path: &[u8], n: usize) -> u8
     requires { ⌜ whole (now tables) (now arena) ≡ true ⌝ }
     ensures { λ r. ⌜ ((stamp : ℕ) (content : Bytes) → length content ≡ n → r ≡ resultOf (putAt (length (now (arena .entry))) (stateOf (now (tables .entry)) (now (arena .entry))) stamp (now (path .entry)) content)) ⌝ }

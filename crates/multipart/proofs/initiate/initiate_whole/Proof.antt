@@ -1,4 +1,4 @@
--- `multipart::initiate::initiate_whole` meets its contract: refused, or an upload opened with the next number. Assumes nothing.
+-- `multipart::initiate::initiate_whole` meets its contract: refused, or an upload opened. Assumes nothing.
 use Prim.Native.Nat.{ℕ}
 use mathlib.Core.Path.{_≡_, refl, sym, ap, _∙_}
 use mathlib.Core.List.{List, []}

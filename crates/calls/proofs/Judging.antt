@@ -4,18 +4,10 @@ use mathlib.Core.Path.{_≡_, refl, ap}
 use mathlib.Core.Bool.{Bool, true, false, cond}
 use mathlib.Core.List.{List}
 use mathlib.Core.Option.{Option, none, some}
-use native.Mathlib.Omega.{arith}
 use Rattle.machine.specs.State.{State}
-use Rattle.machine.specs.Calls.{Answer, Refusal, badRequest, notFound, tableFull, arenaFull, numbersUsedUp, bufferShort, Outcome, refuse, accept, code, _else_then_, given}
+use Rattle.machine.specs.Calls.{Answer, Refusal, Outcome, refuse, accept, code, _else_then_, given}
+use Rattle.machine.proofs.Outcome.{code-not-zero}
 use Rattle.calls.specs.Made.{resultOf}
-
-pub code-not-zero : (n : Refusal) → code n ≡ 0 → ⊥
-code-not-zero badRequest e = omega arith
-code-not-zero notFound e = omega arith
-code-not-zero tableFull e = omega arith
-code-not-zero arenaFull e = omega arith
-code-not-zero numbersUsedUp e = omega arith
-code-not-zero bufferShort e = omega arith
 
 -- A test ---------------------------------------------------------------------------------------------------------------
 

@@ -12,7 +12,7 @@ use Rattle.order.specs.OrderLaws.{bytes, numbers, same-self, same-true}
 use Rattle.machine.specs.Map.{Map, byNumber, lookup, insert, remove, mapped, records, Ascending}
 use Rattle.machine.specs.Names.{Bytes, requestPathOk, pathOk}
 use Rattle.machine.specs.State.{Object, Part, Upload, State, fresh}
-use Rattle.machine.specs.Calls.{Call, PUT, GET, HEAD, DELETE, COPY, LIST, INITIATE, PART, COMMIT, ABORT, UPLOADS, Answer, counts, Reply, badRequest, notFound, tableFull, arenaFull, numbersUsedUp, bufferShort, Outcome, refuse, accept, _else_then_, given, lent}
+use Rattle.machine.specs.Calls.{Call, PUT, GET, HEAD, DELETE, COPY, LIST, INITIATE, PART, COMMIT, ABORT, UPLOADS, Answer, counts, Reply, Outcome, refuse, accept, _else_then_, given, lent}
 use Rattle.machine.specs.Steps.{plainObject, joinedObject, about, write, fit, listed, listRecord, putAt, objectAt, act, replyOf, after, reply, next}
 use Rattle.machine.specs.Lists.{Trace, trace, final}
 use Rattle.machine.specs.Valid.{UploadOk, Valid}
@@ -20,7 +20,7 @@ use Rattle.machine.specs.Demand3.{lastPart, startOf, joinedFrom, calls}
 use Rattle.consistency.specs.LastWrites.{Write, writes, written, isTo, left, lastWrite}
 use Rattle.machine.proofs.MapLaws.{every-lookup, lookup-insert, lookup-insert-other, lookup-remove, lookup-remove-other, same-map}
 use Rattle.machine.proofs.Fit.{fit-listed}
-use Rattle.machine.proofs.Outcome.{Then, then-accept, then-else, then-given, then-object, then-put}
+use Rattle.machine.proofs.Outcome.{refused, Then, then-accept, then-else, then-given, then-object, then-put}
 use Rattle.machine.proofs.KeepsValid.{fresh-valid, final-valid}
 use Rattle.machine.proofs.Commits.{Agrees, fresh-agrees, sent, joined-new}
 use Rattle.machine.proofs.Traces.{cut, final-snoc}
@@ -101,12 +101,7 @@ module _ (A : ℕ) (s : State) (t : Trace) (v : Valid A s) (a : Agrees (s .U) (s
   step-wrote c = go (act A s c) (act-wrote c)
     where
       go : (o : Outcome) → Then (Wrote (writes was t c)) o → (p : Bytes) → lookup byBytes p (after s o .O) ≡ changed p (written was t (c, replyOf (lent c) o)) (was p)
-      go (refuse badRequest) h = w
-      go (refuse notFound) h = w
-      go (refuse tableFull) h = w
-      go (refuse arenaFull) h = w
-      go (refuse numbersUsedUp) h = w
-      go (refuse bufferShort) h = w
+      go (refuse n) h = rw (refused (lent c) n) w
       go (accept r out s′) h = h
 
 -- A list of calls -----------------------------------------------------------------------------------------------------------------

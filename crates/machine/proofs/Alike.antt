@@ -2,7 +2,7 @@
 -- Assumes nothing.
 use Prim.Native.Nat.{ℕ}
 use mathlib.Core.Path.{_≡_, refl, sym, ap, ap₂, _∙_, subst}
-use mathlib.Core.Bool.{Bool, true, false, cond, false≢true}
+use mathlib.Core.Bool.{Bool, true, false, cond, _||_, false≢true}
 use mathlib.Core.List.{List, [], _∷_}
 use mathlib.Core.Option.{Option, none, some}
 use native.Mathlib.Omega.{arith}
@@ -12,7 +12,7 @@ use Rattle.order.specs.OrderLaws.{numbers}
 use Rattle.machine.specs.Map.{Map, byNumber, lookup, insert, remove, mapped}
 use Rattle.machine.specs.Names.{Bytes}
 use Rattle.machine.specs.State.{Object, Part, Upload, State, withO, withU}
-use Rattle.machine.specs.Calls.{Call, PUT, GET, HEAD, DELETE, COPY, LIST, INITIATE, PART, COMMIT, ABORT, UPLOADS, Answer, Refusal, badRequest, notFound, tableFull, arenaFull, numbersUsedUp, bufferShort, Outcome, refuse, accept, _else_then_, given, lent}
+use Rattle.machine.specs.Calls.{Call, PUT, GET, HEAD, DELETE, COPY, LIST, INITIATE, PART, COMMIT, ABORT, UPLOADS, Answer, Refusal, code, Outcome, refuse, accept, _else_then_, given, lent}
 use Rattle.machine.specs.Steps.{putAt, objectAt, act, replyOf, after, reply, next}
 use Rattle.machine.specs.Demand3.{kind, partOf, commitOf, isLook}
 use Rattle.machine.proofs.Options.{none-some}
@@ -39,16 +39,11 @@ pub like-chain : (u : ℕ) (a b c : State) → Like u a b → Like u b c → Lik
 like-chain u a b c p q = record { objects = p .objects ∙ q .objects; uploads = p .uploads ∙ q .uploads; number = p .number ∙ q .number }
 
 -- refused by 4 or 5, or not
-abbrev pub Full : Refusal → Type 0
-Full badRequest = ⊥
-Full notFound = ⊥
-Full tableFull = Unit {0}
-Full arenaFull = Unit {0}
-Full numbersUsedUp = ⊥
-Full bufferShort = ⊥
+abbrev pub full : Refusal → Bool
+full n = eqb (code n) 4 || eqb (code n) 5
 
 abbrev pub Room : Outcome → Type 0
-Room (refuse n) = Full n → ⊥
+Room (refuse n) = full n ≡ false
 Room (accept a out s) = Unit {0}
 
 abbrev Same : ℕ → Outcome → Outcome → Type 0
@@ -70,11 +65,11 @@ alike-else u true n o o′ h = h
 alike-else u false n o o′ h = λ r r′. refl
 
 -- two tests, whose failure would be 4 or 5
-alike-full : (u : ℕ) (b b′ : Bool) (n : Refusal) (o o′ : Outcome) → Full n → Alike u o o′ → Alike u (b else n then o) (b′ else n then o′)
+alike-full : (u : ℕ) (b b′ : Bool) (n : Refusal) (o o′ : Outcome) → full n ≡ true → Alike u o o′ → Alike u (b else n then o) (b′ else n then o′)
 unfolding Alike _else_then_
 alike-full u true true n o o′ f h = h
-alike-full u true false n o o′ f h = λ r r′. absurd (r′ f)
-alike-full u false b′ n o o′ f h = λ r r′. absurd (r f)
+alike-full u true false n o o′ f h = λ r r′. absurd (false≢true (sym r′ ∙ f))
+alike-full u false b′ n o o′ f h = λ r r′. absurd (false≢true (sym r ∙ f))
 
 alike-given : (u : ℕ) {X : Type 0} (x : Option X) (n : Refusal) (k k′ : X → Outcome) → ((y : X) → Alike u (k y) (k′ y)) → Alike u (given x n k) (given x n k′)
 unfolding Alike given
@@ -114,7 +109,7 @@ module _ (A u : ℕ) (s : State) (m : Map ℕ Upload) (e : bare u (s .U) ≡ bar
 
   put-alike : (t : ℕ) (p d : Bytes) → Alike u (putAt A s t p d) (putAt A (withU s m) t p d)
   unfolding putAt
-  put-alike t p d = alike-full _ _ _ _ _ _ tt (alike-full _ _ _ _ _ _ tt (alike-accept _ _ _ _ _ (like-O _)))
+  put-alike t p d = alike-full _ _ _ _ _ _ refl (alike-full _ _ _ _ _ _ refl (alike-accept _ _ _ _ _ (like-O _)))
 
   at-alike : (p : Bytes) (k k′ : Object → Outcome) → ((x : Object) → Alike u (k x) (k′ x)) → Alike u (objectAt s p k) (objectAt (withU s m) p k′)
   unfolding objectAt
@@ -148,21 +143,21 @@ module _ (A u : ℕ) (s : State) (m : Map ℕ Upload) (e : bare u (s .U) ≡ bar
   initiate-rel : (t : ℕ) (p : Bytes) → Rel A u s m (INITIATE t p)
   unfolding Rel act
   initiate-rel t p =
-      alike-else _ _ _ _ _ (alike-full _ _ _ _ _ _ tt (alike-else _ _ _ _ _ (alike-accept _ _ _ _ _
+      alike-else _ _ _ _ _ (alike-full _ _ _ _ _ _ refl (alike-else _ _ _ _ _ (alike-accept _ _ _ _ _
       (record { objects = refl; uploads = inserted (s .N) _; number = refl }))))
 
   part-rel : (v n : ℕ) (d : Bytes) → (v ≡ u → ⊥) → Rel A u s m (PART v n d)
   unfolding Rel act
   part-rel v n d h =
       alike-else _ _ _ _ _ (alike-found u (bareAt u v) _ _ _ _ _ (found v) λ x y q.
-      rw (← same-upload v x y h q) (alike-full _ _ _ _ _ _ tt (alike-full _ _ _ _ _ _ tt (alike-accept _ _ _ _ _
+      rw (← same-upload v x y h q) (alike-full _ _ _ _ _ _ refl (alike-full _ _ _ _ _ _ refl (alike-accept _ _ _ _ _
       (record { objects = refl; uploads = inserted v _; number = refl })))))
 
   commit-rel : (v : ℕ) (ns : List ℕ) → (v ≡ u → ⊥) → Rel A u s m (COMMIT v ns)
   unfolding Rel act
   commit-rel v ns h =
       alike-found u (bareAt u v) _ _ _ _ _ (found v) λ x y q.
-      rw (← same-upload v x y h q) (alike-given _ _ _ _ _ λ xs. alike-full _ _ _ _ _ _ tt (alike-accept _ _ _ _ _
+      rw (← same-upload v x y h q) (alike-given _ _ _ _ _ λ xs. alike-full _ _ _ _ _ _ refl (alike-accept _ _ _ _ _
       (record { objects = refl; uploads = removed v; number = refl })))
 
   abort-rel : (v : ℕ) → Rel A u s m (ABORT v)
@@ -171,12 +166,7 @@ module _ (A u : ℕ) (s : State) (m : Map ℕ Upload) (e : bare u (s .U) ≡ bar
 
 -- A result that is neither 4 nor 5
 pub room : (b : Bytes) (o : Outcome) → (replyOf b o .result ≡ 4 → ⊥) → (replyOf b o .result ≡ 5 → ⊥) → Room o
-room b (refuse badRequest) p q = λ f. f
-room b (refuse notFound) p q = λ f. f
-room b (refuse tableFull) p q = λ f. p refl
-room b (refuse arenaFull) p q = λ f. q refl
-room b (refuse numbersUsedUp) p q = λ f. f
-room b (refuse bufferShort) p q = λ f. f
+room b (refuse n) p q = rw (ne-eqb (code n) 4 p, ne-eqb (code n) 5 q)
 room b (accept a out s) p q = tt
 
 -- One step of both lists

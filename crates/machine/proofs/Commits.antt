@@ -17,7 +17,7 @@ use Rattle.machine.specs.Map.{isSome, Map, byNumber, lookup, insert, rem
 use Rattle.machine.specs.Names.{Bytes, storedPathOk}
 use Rattle.machine.specs.Digest.{md5}
 use Rattle.machine.specs.State.{Object, Part, Upload, State, fresh, withObject, withoutUpload, withPart}
-use Rattle.machine.specs.Calls.{Call, PUT, GET, HEAD, DELETE, COPY, LIST, INITIATE, PART, COMMIT, ABORT, UPLOADS, Answer, badRequest, notFound, tableFull, arenaFull, numbersUsedUp, bufferShort, Outcome, refuse, accept, given, lent, _else_then_}
+use Rattle.machine.specs.Calls.{Call, PUT, GET, HEAD, DELETE, COPY, LIST, INITIATE, PART, COMMIT, ABORT, UPLOADS, Answer, Outcome, refuse, accept, given, lent, _else_then_}
 use Rattle.machine.specs.Steps.{newUpload, newPart, joinedObject, about, contents, digests, fit, putAt, objectAt, act, replyOf, after, reply, next}
 use Rattle.machine.specs.Lists.{Trace, trace, final}
 use Rattle.machine.specs.Valid.{UploadOk, Valid}
@@ -28,7 +28,7 @@ use Rattle.machine.proofs.MapLaws.{every-lookup, lookup-insert, lookup-
 use Rattle.machine.proofs.Fit.{lookup-kept, fit-listed, fit-once, fit-all}
 use Rattle.machine.proofs.Rules.{stored-requested, stored-not-root}
 use Rattle.machine.proofs.Traces.{cut, final-snoc}
-use Rattle.machine.proofs.Outcome.{Then, then-accept, then-else, then-given, then-object, then-put}
+use Rattle.machine.proofs.Outcome.{refused, Then, then-accept, then-else, then-given, then-object, then-put}
 use Rattle.machine.proofs.KeepsValid.{next-valid, fresh-valid, final-valid}
 
 -- f tells what the last PART carried, and g the start, of each upload so far
@@ -137,12 +137,7 @@ module _ (A : ℕ) (s : State) (f : ℕ → ℕ → Option Bytes) (g : ℕ → O
     where
       go : (o : Outcome) → Then (Told (kind c)) o →
           Agrees (after s o .U) (after s o .N) (λ u n. carried u n (c, replyOf (lent c) o) or f u n) (λ u. opened u (c, replyOf (lent c) o) or g u)
-      go (refuse badRequest) h = a
-      go (refuse notFound) h = a
-      go (refuse tableFull) h = a
-      go (refuse arenaFull) h = a
-      go (refuse numbersUsedUp) h = a
-      go (refuse bufferShort) h = a
+      go (refuse n) h = rw (refused (lent c) n) a
       go (accept r out s′) h = h
 
 pub or-assoc : {X : Type 0} (a b c : Option X) → (a or b) or c ≡ a or (b or c)
@@ -242,12 +237,7 @@ commit-leaves A s u ns t v a =
 -- an accepted reply comes of an accepted outcome
 then-accepted : (Q : State → Type 0) (s : State) (b : Bytes) (o : Outcome) → Then (λ r out s′. Q s′) o → accepted (replyOf b o) ≡ true → Q (after s o)
 unfolding Then
-then-accepted Q s b (refuse badRequest) h e = absurd (false≢true e)
-then-accepted Q s b (refuse notFound) h e = absurd (false≢true e)
-then-accepted Q s b (refuse tableFull) h e = absurd (false≢true e)
-then-accepted Q s b (refuse arenaFull) h e = absurd (false≢true e)
-then-accepted Q s b (refuse numbersUsedUp) h e = absurd (false≢true e)
-then-accepted Q s b (refuse bufferShort) h e = absurd (false≢true e)
+then-accepted Q s b (refuse n) h e = absurd (false≢true (sym (refused b n) ∙ e))
 then-accepted Q s b (accept r out s′) h e = h
 
 pub commits-join : (A : ℕ) (cs : List Call) → CommitsJoin A cs

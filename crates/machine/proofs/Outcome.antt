@@ -1,15 +1,30 @@
--- How a fact of every accepted outcome is shown, through the checks of a step.
+-- How a fact of every accepted outcome is shown, through the checks of a step; and that a refused outcome is told from an accepted one.
 -- Assumes nothing.
 use mathlib.Core.Path.{_≡_, refl}
 use mathlib.Core.Bool.{Bool, true, false}
 use mathlib.Core.List.{[], _∷_}
 use mathlib.Core.Option.{Option, none, some}
 use Prim.Native.Nat.{ℕ}
+use native.Mathlib.Omega.{arith}
+use borrow.Author.Tests.{ne-eqb}
 use lib.Dec.{leb}
 use Rattle.machine.specs.Names.{Bytes}
 use Rattle.machine.specs.State.{Object, State, withObject, held, counted}
-use Rattle.machine.specs.Calls.{Answer, nothing, Refusal, Outcome, refuse, accept, _else_then_, given}
-use Rattle.machine.specs.Steps.{plainObject, putAt, objectAt, after}
+use Rattle.machine.specs.Calls.{Answer, nothing, Refusal, badRequest, notFound, tableFull, arenaFull, numbersUsedUp, bufferShort, code, Outcome, refuse, accept, _else_then_, given}
+use Rattle.machine.specs.Steps.{plainObject, putAt, objectAt, replyOf, after}
+use Rattle.machine.specs.Demand3.{accepted}
+
+-- no refusal has the number of success
+pub code-not-zero : (n : Refusal) → code n ≡ 0 → ⊥
+code-not-zero badRequest e = omega arith
+code-not-zero notFound e = omega arith
+code-not-zero tableFull e = omega arith
+code-not-zero arenaFull e = omega arith
+code-not-zero numbersUsedUp e = omega arith
+code-not-zero bufferShort e = omega arith
+
+pub refused : (b : Bytes) (n : Refusal) → accepted (replyOf b (refuse n)) ≡ false
+refused b n = ne-eqb (code n) 0 (code-not-zero n)
 
 -- Q holds where the outcome is accepted
 unfoldable pub Then : (Answer → Bytes → State → Type 0) → Outcome → Type 0

@@ -17,18 +17,19 @@ use Rattle.machine.specs.Map.{isSome, Map, byNumber, lookup, insert, rem
 use Rattle.machine.specs.Names.{Bytes, storedPathOk}
 use Rattle.machine.specs.Digest.{md5}
 use Rattle.machine.specs.State.{Object, Part, Upload, State, fresh, withObject, withoutUpload, withPart}
-use Rattle.machine.specs.Calls.{Call, PUT, GET, HEAD, DELETE, COPY, LIST, INITIATE, PART, COMMIT, ABORT, UPLOADS, Answer, Outcome, refuse, accept, given, lent, _else_then_}
-use Rattle.machine.specs.Steps.{newUpload, newPart, joinedObject, about, contents, digests, fit, putAt, objectAt, act, replyOf, after, reply, next}
+use Rattle.machine.specs.Calls.{Call, GET, COMMIT, Answer, Outcome, refuse, accept, given, lent, _else_then_}
+use Rattle.machine.specs.Steps.{newUpload, newPart, joinedObject, about, contents, digests, fit, objectAt, act, replyOf, after, reply, next}
 use Rattle.machine.specs.Lists.{Trace, trace, final}
 use Rattle.machine.specs.Valid.{UploadOk, Valid}
 use Rattle.machine.specs.Fits.{allFound, listedParts}
-use Rattle.machine.specs.Demand3.{Kind, kind, accepted, _or_, carries, carried, lastPart, lastParts, opens, opened, startOf, concat, joinedFrom, Leaves, calls, CommitsJoin}
+use Rattle.machine.specs.Demand3.{Kind, looks, initiates, sends, commits, other, accepted, _or_, carries, carried, lastPart, lastParts, opens, opened, startOf, concat, joinedFrom, Leaves, calls, CommitsJoin}
 use Rattle.machine.proofs.Options.{both}
-use Rattle.machine.proofs.MapLaws.{every-lookup, lookup-insert, lookup-insert-other}
+use Rattle.machine.proofs.MapLaws.{ascending-remove, every-lookup, lookup-insert, lookup-insert-other}
 use Rattle.machine.proofs.Fit.{lookup-kept, fit-listed, fit-once, fit-all}
 use Rattle.machine.proofs.Rules.{stored-requested, stored-not-root}
 use Rattle.machine.proofs.Traces.{cut, final-snoc}
-use Rattle.machine.proofs.Outcome.{refused, Then, then-accept, then-else, then-given, then-object, then-put}
+use Rattle.machine.proofs.Outcome.{refused, Then, then-accept, then-else, then-given}
+use Rattle.machine.proofs.Effects.{Effects, stop, sets, removes, closes, Quiet, Does, opens-upload, sets-part, has-effects, step-does}
 use Rattle.machine.proofs.KeepsValid.{next-valid, fresh-valid, final-valid}
 
 -- f tells what the last PART carried, and g the start, of each upload so far
@@ -99,46 +100,33 @@ closed m N f g u s a = record {
   later = a .later;
 }
 
-module _ (A : ℕ) (s : State) (f : ℕ → ℕ → Option Bytes) (g : ℕ → Option (ℕ × Bytes)) (v : Valid A s) (a : Agrees (s .U) (s .N) f g) where
-  -- after an accepted call of this kind
-  Told : Kind → Answer → Bytes → State → Type 0
-  Told k r out s′ = Agrees (s′ .U) (s′ .N) (λ u n. carries u n k or f u n) (λ u. opens u r k or g u)
+-- a call that is neither INITIATE nor PART tells nothing new
+quiet-agrees : {m : Map ℕ Upload} {N : ℕ} {f : ℕ → ℕ → Option Bytes} {g : ℕ → Option (ℕ × Bytes)} (r : Answer) (k : Kind) → Quiet k →
+    Agrees m N f g → Agrees m N (λ u n. carries u n k or f u n) (λ u. opens u r k or g u)
+quiet-agrees r looks q a = a
+quiet-agrees r (initiates t p) q a = absurd q
+quiet-agrees r (sends u n d) q a = absurd q
+quiet-agrees r (commits u) q a = a
+quiet-agrees r other q a = a
 
-  told : (k : Kind) (r : Answer) (out : Bytes) (s′ : State) → Agrees (s′ .U) (s′ .N) (λ u n. carries u n k or f u n) (λ u. opens u r k or g u) → Then (Told k) (accept r out s′)
-  unfolding Told
-  told k r out s′ h = then-accept (Told k) r out s′ h
+module _ (A : ℕ) (s : State) (f : ℕ → ℕ → Option Bytes) (g : ℕ → Option (ℕ × Bytes)) where
+  effects-agree : {b c : State} → Effects A s b c → Ascending byNumber (b .U) → Agrees (b .U) (b .N) f g → Agrees (c .U) (c .N) f g
+  effects-agree stop o a = a
+  effects-agree (sets p x h more) o a = effects-agree more o a
+  effects-agree (removes p more) o a = effects-agree more o a
+  effects-agree (closes {a = i} u x e more) o a = effects-agree more (ascending-remove numbers u (i .U) o) (closed (i .U) (i .N) f g u o a)
 
-  put-told : (t : ℕ) (p d : Bytes) → Then (Told Kind.other) (putAt A s t p d)
-  unfolding Told
-  put-told t p d = then-put (Told Kind.other) A s t p d λ _ _. a
+  does-agree : {k : Kind} {r : Answer} {s′ : State} → Valid A s → Agrees (s .U) (s .N) f g → Does A s k r s′ →
+      Agrees (s′ .U) (s′ .N) (λ u n. carries u n k or f u n) (λ u. opens u r k or g u)
+  does-agree v a (opens-upload t p h c l) = initiated (s .U) (s .N) f g t p a
+  does-agree v a (sets-part u x n d h e c r) = sent-part (s .U) (s .N) f g u n d x e (every-lookup numbers (UploadOk (s .N)) u x (s .U) (v .upload) e .high) a
+  does-agree v a (has-effects {k} {r} q w more) = quiet-agrees r k q (effects-agree more (v .uploads) a)
 
-  act-told : (c : Call) → Then (Told (kind c)) (act A s c)
-  unfolding act
-  act-told (PUT t p d) = then-else _ _ _ _ λ _. put-told t p d
-  act-told (GET p b) = then-object _ s p _ λ x. then-else _ _ _ _ λ _. told _ _ _ _ a
-  act-told (HEAD p) = then-object _ s p _ λ x. told _ _ _ _ a
-  act-told (DELETE p) = then-else _ _ _ _ λ _. then-given _ _ _ _ λ x _. told _ _ _ _ a
-  act-told (COPY t p q) = then-else _ _ _ _ λ _. then-given _ _ _ _ λ x _. put-told t q (x .content)
-  act-told (LIST prefix suffix b) = then-else _ _ _ _ λ _. told _ _ _ _ a
-  act-told (INITIATE t p) = then-else _ _ _ _ λ _. then-else _ _ _ _ λ _. then-else _ _ _ _ λ _. told _ _ _ _ (initiated (s .U) (s .N) f g t p a)
-  act-told (PART u n d) =
-      then-else _ _ _ _ λ _.
-      then-given _ _ _ _ λ x e.
-      then-else _ _ _ _ λ _.
-      then-else _ _ _ _ λ _.
-      told _ _ _ _ (sent-part (s .U) (s .N) f g u n d x e (every-lookup numbers (UploadOk (s .N)) u x (s .U) (v .upload) e .high) a)
-  act-told (COMMIT u ns) = then-given _ _ _ _ λ x _. then-given _ _ _ _ λ xs _. then-else _ _ _ _ λ _. told _ _ _ _ (closed (s .U) (s .N) f g u (v .uploads) a)
-  act-told (ABORT u) = then-given _ _ _ _ λ x _. told _ _ _ _ (closed (s .U) (s .N) f g u (v .uploads) a)
-  act-told (UPLOADS prefix b) = then-else _ _ _ _ λ _. told _ _ _ _ a
-
-  step-agrees : (c : Call) → Agrees (next A s c .U) (next A s c .N) (λ u n. carried u n (c, reply A s c) or f u n) (λ u. opened u (c, reply A s c) or g u)
-  unfolding Told Then
-  step-agrees c = go (act A s c) (act-told c)
-    where
-      go : (o : Outcome) → Then (Told (kind c)) o →
-          Agrees (after s o .U) (after s o .N) (λ u n. carried u n (c, replyOf (lent c) o) or f u n) (λ u. opened u (c, replyOf (lent c) o) or g u)
-      go (refuse n) h = rw (refused (lent c) n) a
-      go (accept r out s′) h = h
+  step-agrees : Valid A s → Agrees (s .U) (s .N) f g → (c : Call) →
+      Agrees (next A s c .U) (next A s c .N) (λ u n. carried u n (c, reply A s c) or f u n) (λ u. opened u (c, reply A s c) or g u)
+  step-agrees v a c =
+      step-does A s (λ r s′. Agrees (s′ .U) (s′ .N) (λ u n. carried u n (c, r) or f u n) (λ u. opened u (c, r) or g u)) c
+      (λ n. rw (refused (lent c) n) a) (λ r out s′ d. does-agree v a d)
 
 pub or-assoc : {X : Type 0} (a b c : Option X) → (a or b) or c ≡ a or (b or c)
 or-assoc none b c = refl

@@ -2,74 +2,43 @@
 -- Assumes nothing.
 use Prim.Native.Nat.{ℕ, _+_, _≤_, _<_}
 use mathlib.Core.Path.{_≡_, refl, sym, ap, _∙_}
+use mathlib.Core.Bool.{false≢true}
 use mathlib.Core.List.{List, [], _∷_, _++_}
 use native.Mathlib.Omega.{arith}
-use Rattle.machine.specs.Names.{Bytes}
+use borrow.Author.Tests.{eq-eqb}
 use Rattle.machine.specs.State.{State}
-use Rattle.machine.specs.Calls.{Call, PUT, GET, HEAD, DELETE, COPY, LIST, INITIATE, PART, COMMIT, ABORT, UPLOADS, Answer, nothing, metadata, etag, number, counts, Reply, Outcome, refuse, accept, lent}
-use Rattle.machine.specs.Steps.{putAt, act, replyOf, after, reply, next}
+use Rattle.machine.specs.Calls.{Call, Answer, number, Reply}
+use Rattle.machine.specs.Steps.{reply, next}
 use Rattle.machine.specs.Lists.{Trace, trace, final}
-use Rattle.machine.specs.Demand3.{calls}
+use Rattle.machine.specs.Demand3.{Kind, answers, calls}
 use Rattle.machine.proofs.Traces.{cut}
-use Rattle.machine.proofs.Outcome.{Then, then-accept, then-else, then-given, then-object, then-put}
+use Rattle.machine.proofs.Effects.{Effects, stop, sets, removes, closes, Does, opens-upload, sets-part, has-effects, step-does}
+
+effects-number : {A : ℕ} {s a b : State} → Effects A s a b → b .N ≡ a .N
+effects-number stop = refl
+effects-number (sets p x h more) = effects-number more
+effects-number (removes p more) = effects-number more
+effects-number (closes u x e more) = effects-number more
 
 module _ (A : ℕ) (s : State) where
-  -- an accepted call answers no number and keeps N, or answers N and adds 1 to it
-  Given : Answer → State → Type 0
-  Given nothing s′ = s′ .N ≡ s .N
-  Given (metadata l c e) s′ = s′ .N ≡ s .N
-  Given (etag e) s′ = s′ .N ≡ s .N
-  Given (number n) s′ = (n ≡ s .N) × (s′ .N ≡ s .N + 1)
-  Given (counts r b) s′ = s′ .N ≡ s .N
-
-  Gives : Answer → Bytes → State → Type 0
-  Gives a out s′ = Given a s′
-
-  gives : (a : Answer) (out : Bytes) (s′ : State) → Given a s′ → Then Gives (accept a out s′)
-  unfolding Gives
-  gives a out s′ h = then-accept Gives a out s′ h
-
-  put-gives : (t : ℕ) (p d : Bytes) → Then Gives (putAt A s t p d)
-  unfolding Given Gives
-  put-gives t p d = then-put Gives A s t p d λ _ _. refl
-
-  act-gives : (c : Call) → Then Gives (act A s c)
-  unfolding act Given
-  act-gives (PUT t p d) = then-else _ _ _ _ λ _. put-gives t p d
-  act-gives (GET p b) = then-object _ s p _ λ x. then-else _ _ _ _ λ _. gives _ _ _ refl
-  act-gives (HEAD p) = then-object _ s p _ λ x. gives _ _ _ refl
-  act-gives (DELETE p) = then-else _ _ _ _ λ _. then-given _ _ _ _ λ x _. gives _ _ _ refl
-  act-gives (COPY t p q) = then-else _ _ _ _ λ _. then-given _ _ _ _ λ x _. put-gives t q (x .content)
-  act-gives (LIST prefix suffix b) = then-else _ _ _ _ λ _. gives _ _ _ refl
-  act-gives (INITIATE t p) = then-else _ _ _ _ λ _. then-else _ _ _ _ λ _. then-else _ _ _ _ λ _. gives _ _ _ (refl, refl)
-  act-gives (PART u n d) = then-else _ _ _ _ λ _. then-given _ _ _ _ λ x _. then-else _ _ _ _ λ _. then-else _ _ _ _ λ _. gives _ _ _ refl
-  act-gives (COMMIT u ns) = then-given _ _ _ _ λ x _. then-given _ _ _ _ λ xs _. then-else _ _ _ _ λ _. gives _ _ _ refl
-  act-gives (ABORT u) = then-given _ _ _ _ λ x _. gives _ _ _ refl
-  act-gives (UPLOADS prefix b) = then-else _ _ _ _ λ _. gives _ _ _ refl
+  does-kept : {k : Kind} {r : Answer} {s′ : State} → Does A s k r s′ → s .N ≤ s′ .N
+  does-kept (opens-upload t p h c l) = omega arith
+  does-kept (sets-part u x n d h e c r) = omega arith
+  does-kept (has-effects q w more) = omega (arith, effects-number more)
 
   pub number-kept : (c : Call) → s .N ≤ next A s c .N
-  unfolding Gives Given Then
-  number-kept c = go (act A s c) (act-gives c)
-    where
-      go : (o : Outcome) → Then Gives o → s .N ≤ after s o .N
-      go (refuse n) h = omega arith
-      go (accept nothing out s′) h = omega arith
-      go (accept (metadata l c e) out s′) h = omega arith
-      go (accept (etag e) out s′) h = omega arith
-      go (accept (number n) out s′) h = let q = h .1 in omega arith
-      go (accept (counts r b) out s′) h = omega arith
+  number-kept c = step-does A s (λ r s′. s .N ≤ s′ .N) c (λ n. omega arith) (λ r out s′ d. does-kept d)
+
+  -- an accepted call answers no number, or answers N and adds 1 to it
+  does-answered : (n : ℕ) {k : Kind} {r : Answer} {s′ : State} → Does A s k r s′ → r ≡ number n → (n ≡ s .N) × (s′ .N ≡ s .N + 1)
+  does-answered n (opens-upload t p h c l) e = ((cc), refl)
+  does-answered n (sets-part u x m d h i c r) e = absurd (let z : _≡_ {A = ℕ} 0 1 = cc in omega arith)
+  does-answered n (has-effects q w more) e = absurd (false≢true (sym (w n) ∙ ap (answers n) e ∙ eq-eqb n n refl))
 
   pub number-answered : (c : Call) (n : ℕ) → reply A s c .answer ≡ number n → (n ≡ s .N) × (next A s c .N ≡ s .N + 1)
-  unfolding Gives Given Then
-  number-answered c n = go (act A s c) (act-gives c)
-    where
-      go : (o : Outcome) → Then Gives o → replyOf (lent c) o .answer ≡ number n → (n ≡ s .N) × (after s o .N ≡ s .N + 1)
-      go (refuse k) h e = absurd (let z : _≡_ {A = ℕ} 0 1 = cc in omega arith)
-      go (accept nothing out s′) h e = absurd (let z : _≡_ {A = ℕ} 0 1 = cc in omega arith)
-      go (accept (metadata l d w) out s′) h e = absurd (let z : _≡_ {A = ℕ} 0 1 = cc in omega arith)
-      go (accept (etag w) out s′) h e = absurd (let z : _≡_ {A = ℕ} 0 1 = cc in omega arith)
-      go (accept (number k) out s′) h e = (let q : k ≡ n = cc in sym q ∙ h .0, h .1)
-      go (accept (counts r b) out s′) h e = absurd (let z : _≡_ {A = ℕ} 0 1 = cc in omega arith)
+  number-answered c n =
+      step-does A s (λ r s′. r .answer ≡ number n → (n ≡ s .N) × (s′ .N ≡ s .N + 1)) c
+      (λ k e. absurd (let z : _≡_ {A = ℕ} 0 1 = cc in omega arith)) (λ r out s′ d. does-answered n d)
 
 numbers-kept : (A : ℕ) (s : State) (cs : List Call) → s .N ≤ final A s cs .N
 numbers-kept A s [] = omega arith

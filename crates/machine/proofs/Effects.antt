@@ -1,0 +1,121 @@
+-- What an accepted call does to the state: it opens an upload, sets a part, or has effects of other kinds, one after the other.
+-- What needs the states before and after a call alone is shown over this, not over the calls.
+-- Assumes nothing.
+use Prim.Native.Nat.{ℕ, _≤_}
+use mathlib.Core.Path.{_≡_, refl}
+use mathlib.Core.Bool.{true, false, _&&_}
+use mathlib.Core.List.{List}
+use mathlib.Core.Option.{some}
+use native.Mathlib.Omega.{arith}
+use borrow.Author.Tests.{leb-true}
+use lib.Dec.{leb}
+use lib.ListN.{length}
+use Rattle.order.specs.OrderLaws.{numbers}
+use Rattle.machine.specs.Map.{Map, byNumber, lookup, total}
+use Rattle.machine.specs.Names.{Bytes, newPathOk, stampOk, requestPartOk, lastUploadNumber}
+use Rattle.machine.specs.Digest.{md5, length-md5}
+use Rattle.machine.specs.Etags.{plain}
+use Rattle.machine.specs.State.{Object, Part, Upload, State, withObject, withoutObject, withUpload, withoutUpload, withNext, withPart, partsIn, held, counted}
+use Rattle.machine.specs.Calls.{Call, PUT, GET, HEAD, DELETE, COPY, LIST, INITIATE, PART, COMMIT, ABORT, UPLOADS, Answer, etag, number, Reply, Refusal, Outcome, refuse, accept, lent}
+use Rattle.machine.specs.Steps.{plainObject, newUpload, newPart, joinedObject, fit, putAt, act, replyOf, after, reply, next}
+use Rattle.machine.specs.Valid.{ObjectOk, UploadOk, Valid}
+use Rattle.machine.specs.Demand3.{Kind, looks, initiates, sends, commits, other, kind, answers}
+use Rattle.machine.proofs.Options.{both}
+use Rattle.machine.proofs.MapLaws.{every-lookup}
+use Rattle.machine.proofs.MapSums.{total-remove}
+use Rattle.machine.proofs.Fit.{fit-length}
+use Rattle.machine.proofs.Counts.{held-commit}
+use Rattle.machine.proofs.Rules.{new-stored}
+use Rattle.machine.proofs.Outcome.{Then, then-else, then-given, then-object, then-put}
+
+-- an object that keeps the rules, in a state that keeps the ceilings
+pub record Sound (A : ℕ) (p : Bytes) (x : Object) (s : State) : Type 0 where
+  pub object : ObjectOk p x
+  pub counts : counted s ≡ true
+  pub room : held s ≤ A
+
+-- objects set and removed, open uploads closed, from one state to another, by a call over s: what is set is sound where s is valid
+pub data Effects (A : ℕ) (s : State) : State → State → Type 0 where
+  stop : {a : State} → Effects A s a a
+  sets : {a b : State} (p : Bytes) (x : Object) → (Valid A s → Sound A p x (withObject a p x)) → Effects A s (withObject a p x) b → Effects A s a b
+  removes : {a b : State} (p : Bytes) → Effects A s (withoutObject a p) b → Effects A s a b
+  closes : {a b : State} (u : ℕ) (x : Upload) → lookup byNumber u (a .U) ≡ some x → Effects A s (withoutUpload a u) b → Effects A s a b
+
+-- neither INITIATE nor PART
+abbrev pub Quiet : Kind → Type 0
+Quiet looks = Unit {0}
+Quiet (initiates t p) = ⊥
+Quiet (sends u n d) = ⊥
+Quiet (commits u) = Unit {0}
+Quiet other = Unit {0}
+
+-- the state with a new upload, and with a part of an open one
+abbrev pub withOpened : State → (stamp : ℕ) (path : Bytes) → State
+withOpened s t p = withNext (withUpload s (s .N) (newUpload t p))
+
+abbrev pub withSent : State → (upload : ℕ) → Upload → (number : ℕ) (content : Bytes) → State
+withSent s u x n d = withUpload s u (withPart x n (newPart d))
+
+-- what an accepted call of a kind does over s, with its answer and the state after
+pub data Does (A : ℕ) (s : State) : Kind → Answer → State → Type 0 where
+  opens-upload : (t : ℕ) (p : Bytes) → stampOk t && newPathOk p ≡ true → counted (withOpened s t p) ≡ true → leb (s .N) lastUploadNumber ≡ true →
+      Does A s (initiates t p) (number (s .N)) (withOpened s t p)
+  sets-part : (u : ℕ) (x : Upload) (n : ℕ) (d : Bytes) → requestPartOk n ≡ true → lookup byNumber u (s .U) ≡ some x →
+      counted (withSent s u x n d) ≡ true → leb (held (withSent s u x n d)) A ≡ true → Does A s (sends u n d) (etag (plain (md5 d))) (withSent s u x n d)
+  has-effects : {k : Kind} {r : Answer} {s′ : State} → Quiet k → ((n : ℕ) → answers n r ≡ false) → Effects A s s s′ → Does A s k r s′
+
+few : (m : Map ℕ Upload) (u : ℕ) (x : Upload) (ns : List ℕ) (xs : List Part) → total partsIn m ≤ 256 → lookup byNumber u m ≡ some x → fit ns (x .parts) ≡ some xs → length xs ≤ 256
+few m u x ns xs h e f = omega (arith, h, rw e at (total-remove numbers partsIn u m), fit-length ns (x .parts) xs f)
+
+module _ (A : ℕ) (s : State) where
+  Done : Kind → Answer → Bytes → State → Type 0
+  Done k r out s′ = Does A s k r s′
+
+  put-does : (t : ℕ) (p d : Bytes) → stampOk t ≡ true → newPathOk p ≡ true → Then (Done other) (putAt A s t p d)
+  unfolding Done
+  put-does t p d ht hp = then-put (Done other) A s t p d λ c r. has-effects tt (λ n. refl) (sets p _ (λ v. record {
+    object = record { path = new-stored p hp; stamp = ht; etag = length-md5 d };
+    counts = c;
+    room = leb-true _ _ r;
+  }) stop)
+
+  joined-sound : (u : ℕ) (x : Upload) (ns : List ℕ) (xs : List Part) → let s′ : State = withoutUpload (withObject s (x .path) (joinedObject x xs)) u in
+      lookup byNumber u (s .U) ≡ some x → fit ns (x .parts) ≡ some xs → counted s′ ≡ true → Valid A s → Sound A (x .path) (joinedObject x xs) s′
+  joined-sound u x ns xs e f c v =
+      let o = every-lookup numbers (UploadOk (s .N)) u x (s .U) (v .upload) e in
+      record {
+        object = record { path = o .path; stamp = o .stamp; etag = (length-md5 _, few (s .U) u x ns xs (v .parts) e f) };
+        counts = c;
+        room = let h = held-commit s u x ns xs (x .path) e f in omega (arith, v .room);
+      }
+
+  act-does : (c : Call) → Then (Done (kind c)) (act A s c)
+  unfolding act Done Then
+  act-does (PUT t p d) = then-else _ _ _ _ λ h. let b = both _ _ h in put-does t p d (b .0) (b .1)
+  act-does (GET p b) = then-object _ s p _ λ x. then-else _ _ _ _ λ _. has-effects tt (λ n. refl) stop
+  act-does (HEAD p) = then-object _ s p _ λ x. has-effects tt (λ n. refl) stop
+  act-does (DELETE p) = then-else _ _ _ _ λ _. then-given _ _ _ _ λ x _. has-effects tt (λ n. refl) (removes p stop)
+  act-does (COPY t p q) =
+      then-else _ _ _ _ λ h.
+      then-given _ _ _ _ λ x _.
+      let b = both _ _ h in let c = both _ _ (b .0) in put-does t q (x .content) (c .0) (b .1)
+  act-does (LIST prefix suffix b) = then-else _ _ _ _ λ _. has-effects tt (λ n. refl) stop
+  act-does (INITIATE t p) = then-else _ _ _ _ λ h. then-else _ _ _ _ λ c. then-else _ _ _ _ λ l. opens-upload t p h c l
+  act-does (PART u n d) = then-else _ _ _ _ λ h. then-given _ _ _ _ λ x e. then-else _ _ _ _ λ c. then-else _ _ _ _ λ r. sets-part u x n d h e c r
+  act-does (COMMIT u ns) =
+      then-given _ _ _ _ λ x e.
+      then-given _ _ _ _ λ xs f.
+      then-else _ _ _ _ λ c.
+      has-effects tt (λ n. refl) (closes u x e (sets (x .path) _ (joined-sound u x ns xs e f c) stop))
+  act-does (ABORT u) = then-given _ _ _ _ λ x e. has-effects tt (λ n. refl) (closes u x e stop)
+  act-does (UPLOADS prefix b) = then-else _ _ _ _ λ _. has-effects tt (λ n. refl) stop
+
+  -- what holds where a call is refused, and of whatever an accepted one does, holds of every call's reply and the state after it
+  pub step-does : (P : Reply → State → Type 0) (c : Call) → ((n : Refusal) → P (replyOf (lent c) (refuse n)) s) →
+      ((r : Answer) (out : Bytes) (s′ : State) → Does A s (kind c) r s′ → P (replyOf (lent c) (accept r out s′)) s′) → P (reply A s c) (next A s c)
+  unfolding Then Done
+  step-does P c h k = go (act A s c) (act-does c)
+    where
+      go : (o : Outcome) → Then (Done (kind c)) o → P (replyOf (lent c) o) (after s o)
+      go (refuse n) d = h n
+      go (accept r out s′) d = k r out s′ d

@@ -11,7 +11,7 @@ use Rattle.machine.specs.Calls.{Call, Reply, Outcome, refuse, accept, le
 use Rattle.machine.specs.Steps.{act, replyOf, after, reply, next}
 use Rattle.machine.specs.Lists.{Trace, trace}
 use Rattle.machine.specs.Demand3.{Kind, kind, looks, initiates, sends, commits, other, accepted, partOf, commitOf, isLook, without, NeverCommitted, NoCommitAccepted, NeverFull, seen, PartsUnseen, PartsUnseenUnlessCommitted}
-use Rattle.machine.proofs.Alike.{Like, like-self, like-chain, room, Went, step-went, part-went}
+use Rattle.machine.proofs.Alike.{Like, like-self, like-chain, Went, step-went, part-went}
 
 -- A refused COMMIT of the upload changes neither state
 refused-same : (s : State) (b : Bytes) (o : Outcome) → accepted (replyOf b o) ≡ false → after s o ≡ s
@@ -53,7 +53,7 @@ kept A u s s′ c cs ih l n n′ r r′ e = go (step (commitOf u (kind c)) refl)
   where
     step : (b : Bool) → commitOf u (kind c) ≡ b → Went A u s s′ c
     step true q = refused-went A u s s′ c l q (n .0 q) (n′ .0 q)
-    step false q = step-went A u s s′ c l e q (room (lent c) (act A s c) (r .0) (r .1)) (room (lent c) (act A s′ c) (r′ .0) (r′ .1))
+    step false q = step-went A u s s′ c l e q (r .0, r .1) (r′ .0, r′ .1)
 
     go : Went A u s s′ c → (b : Bool) → isLook (kind c) ≡ b → seen (trace A s′ (c ∷ without u cs)) ≡ seen (trace A s (c ∷ cs))
     go w true q =

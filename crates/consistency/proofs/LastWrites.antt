@@ -5,25 +5,23 @@ use mathlib.Core.Path.{_≡_, refl, sym, ap, _∙_, subst}
 use mathlib.Core.Bool.{Bool, true, false, cond, false≢true}
 use mathlib.Core.List.{List, [], _∷_, _++_, reverse, reverse-cons, reverse-append, reverse-reverse}
 use mathlib.Core.Option.{Option, none, some}
-use lib.Dec.{leb}
-use lib.ListN.{length, drop}
 use Rattle.order.specs.Order.{byBytes, same}
 use Rattle.order.specs.OrderLaws.{bytes, numbers, same-self, same-true}
-use Rattle.machine.specs.Map.{Map, byNumber, lookup, insert, remove, mapped, records, Ascending}
-use Rattle.machine.specs.Names.{Bytes, requestPathOk, pathOk}
+use Rattle.machine.specs.Map.{Map, byNumber, lookup, insert, remove, also, Ascending}
+use Rattle.machine.specs.Names.{Bytes}
 use Rattle.machine.specs.State.{Object, Part, Upload, State, fresh}
-use Rattle.machine.specs.Calls.{Call, PUT, GET, HEAD, DELETE, COPY, LIST, INITIATE, PART, COMMIT, ABORT, UPLOADS, Answer, counts, Reply, Outcome, refuse, accept, _else_then_, given, lent}
-use Rattle.machine.specs.Steps.{plainObject, joinedObject, about, write, fit, listed, listRecord, putAt, objectAt, act, replyOf, after, reply, next}
+use Rattle.machine.specs.Calls.{Call, PUT, GET, HEAD, DELETE, COPY, LIST, INITIATE, PART, COMMIT, ABORT, UPLOADS, Reply, lent}
+use Rattle.machine.specs.Steps.{plainObject, joinedObject, fit, act, reply, next}
 use Rattle.machine.specs.Lists.{Trace, trace, final}
 use Rattle.machine.specs.Valid.{UploadOk, Valid}
-use Rattle.machine.specs.Demand3.{lastPart, startOf, joinedFrom, calls}
-use Rattle.consistency.specs.LastWrites.{Write, writes, written, isTo, left, lastWrite}
-use Rattle.machine.proofs.MapLaws.{every-lookup, lookup-insert, lookup-insert-other, lookup-remove, lookup-remove-other, same-map}
+use Rattle.machine.specs.Demand3.{lastPart, startOf, joinedFrom}
+use Rattle.consistency.specs.LastWrites.{Change, sets, copies, joins, removes, change, Write, writes, written, isTo, left, lastWrite}
+use Rattle.machine.proofs.MapLaws.{every-lookup, lookup-insert, lookup-insert-other, lookup-remove, lookup-remove-other}
 use Rattle.machine.proofs.Fit.{fit-listed}
-use Rattle.machine.proofs.Outcome.{refused, Then, then-accept, then-else, then-given, then-object, then-put}
+use Rattle.machine.proofs.Outcome.{refused, Then, then-else, then-given, then-object, then-put, then-step}
 use Rattle.machine.proofs.KeepsValid.{fresh-valid, final-valid}
 use Rattle.machine.proofs.Commits.{Agrees, fresh-agrees, sent, joined-new}
-use Rattle.machine.proofs.Traces.{cut, final-snoc}
+use Rattle.machine.proofs.Traces.{final-snoc}
 
 -- What a path has after a write ------------------------------------------------------------------------------------------
 
@@ -52,57 +50,52 @@ remove-changed p q o y s h = go (same p q) refl
 
 -- One call ----------------------------------------------------------------------------------------------------------------------
 
+-- what an accepted call makes of the objects of s
+abbrev pub Changed : State → Option Change → Map Bytes Object → Type 0
+Changed s none o = o ≡ s .O
+Changed s (some (sets p x)) o = o ≡ insert byBytes p x (s .O)
+Changed s (some (copies t p q)) o = (x : Object) × (lookup byBytes p (s .O) ≡ some x) × (o ≡ insert byBytes q (plainObject t (x .content)) (s .O))
+Changed s (some (joins u ns)) o =
+    (x : Upload) × (xs : List Part) × (lookup byNumber u (s .U) ≡ some x) × (fit ns (x .parts) ≡ some xs) × (o ≡ insert byBytes (x .path) (joinedObject x xs) (s .O))
+Changed s (some (removes p)) o = o ≡ remove byBytes p (s .O)
+
+pub act-changes : (A : ℕ) (s : State) (c : Call) → Then (λ r out s′. Changed s (change c) (s′ .O)) (act A s c)
+unfolding act Then
+act-changes A s (PUT t p d) = then-else _ _ _ _ λ _. then-put _ A s t p d λ _ _. refl
+act-changes A s (GET p b) = then-object _ s p _ λ x. then-else _ _ _ _ λ _. refl
+act-changes A s (HEAD p) = then-object _ s p _ λ x. refl
+act-changes A s (DELETE p) = then-else _ _ _ _ λ _. then-given _ _ _ _ λ x _. refl
+act-changes A s (COPY t p q) = then-else _ _ _ _ λ _. then-given _ _ _ _ λ x e. then-put _ A s t q (x .content) λ _ _. (x, e, refl)
+act-changes A s (LIST prefix suffix b) = then-else _ _ _ _ λ _. refl
+act-changes A s (INITIATE t p) = then-else _ _ _ _ λ _. then-else _ _ _ _ λ _. then-else _ _ _ _ λ _. refl
+act-changes A s (PART u n d) = then-else _ _ _ _ λ _. then-given _ _ _ _ λ x _. then-else _ _ _ _ λ _. then-else _ _ _ _ λ _. refl
+act-changes A s (COMMIT u ns) = then-given _ _ _ _ λ x e. then-given _ _ _ _ λ xs f. then-else _ _ _ _ λ _. (x, xs, e, f, refl)
+act-changes A s (ABORT u) = then-given _ _ _ _ λ x _. refl
+act-changes A s (UPLOADS prefix b) = then-else _ _ _ _ λ _. refl
+
 module _ (A : ℕ) (s : State) (t : Trace) (v : Valid A s) (a : Agrees (s .U) (s .N) (λ u n. lastPart u n t) (λ u. startOf u t))
     (was : Bytes → Option Object) (w : (p : Bytes) → lookup byBytes p (s .O) ≡ was p) where
-  Wrote : Option Write → Answer → Bytes → State → Type 0
-  Wrote x r out s′ = (p : Bytes) → lookup byBytes p (s′ .O) ≡ changed p x (was p)
-
-  wrote : (x : Option Write) (r : Answer) (out : Bytes) (s′ : State) → ((p : Bytes) → lookup byBytes p (s′ .O) ≡ changed p x (was p)) → Then (Wrote x) (accept r out s′)
-  unfolding Wrote
-  wrote x r out s′ h = then-accept (Wrote x) r out s′ h
-
-  put-wrote : (t : ℕ) (q d : Bytes) → Then (Wrote (some (q, some (plainObject t d)))) (putAt A s t q d)
-  unfolding Wrote
-  put-wrote t q d = then-put (Wrote (some (q, some (plainObject t d)))) A s t q d λ _ _ p. insert-changed p q (plainObject t d) (s .O) (was p) (w p)
-
   -- the object that COMMIT makes, told by the calls and replies
   told : (u : ℕ) (ns : List ℕ) (x : Upload) (xs : List Part) → lookup byNumber u (s .U) ≡ some x → fit ns (x .parts) ≡ some xs →
-      writes was t (COMMIT u ns) ≡ some (x .path, some (joinedObject x xs))
+      writes was t (joins u ns) ≡ some (x .path, some (joinedObject x xs))
   told u ns x xs e f =
       let l = fit-listed ns (x .parts) xs (every-lookup numbers (UploadOk (s .N)) u x (s .U) (v .upload) e .sorted) f in
       let d = sent u t (x .parts) (a .parts u x e) ns (l .0) in
       let q : joinedObject x xs ≡ joinedFrom (x .started) (d .parts) = ap (joinedObject x) (l .1 ∙ d .made) ∙ joined-new x (d .parts) in
       rw (a .start u x e, d .told) (ap (λ (y : Object). some (x .path, some y)) (sym q))
 
-  act-wrote : (c : Call) → Then (Wrote (writes was t c)) (act A s c)
-  unfolding act
-  act-wrote (PUT t p d) = then-else _ _ _ _ λ _. put-wrote t p d
-  act-wrote (GET p b) = then-object _ s p _ λ x. then-else _ _ _ _ λ _. wrote _ _ _ _ w
-  act-wrote (HEAD p) = then-object _ s p _ λ x. wrote _ _ _ _ w
-  act-wrote (DELETE q) = then-else _ _ _ _ λ _. then-given _ _ _ _ λ x _. wrote _ _ _ _ λ p. remove-changed p q (s .O) (was p) (v .objects) (w p)
-  act-wrote (COPY t q r) =
-      then-else _ _ _ _ λ _.
-      then-given _ _ _ _ λ x e.
-      subst (λ (y : Option Object). Then (Wrote (some (r, mapped (λ (x : Object). plainObject t (x .content)) y))) (putAt A s t r (x .content))) (sym e ∙ w q)
-      (put-wrote t r (x .content))
-  act-wrote (LIST prefix suffix b) = then-else _ _ _ _ λ _. wrote _ _ _ _ w
-  act-wrote (INITIATE t p) = then-else _ _ _ _ λ _. then-else _ _ _ _ λ _. then-else _ _ _ _ λ _. wrote _ _ _ _ w
-  act-wrote (PART u n d) = then-else _ _ _ _ λ _. then-given _ _ _ _ λ x _. then-else _ _ _ _ λ _. then-else _ _ _ _ λ _. wrote _ _ _ _ w
-  act-wrote (COMMIT u ns) =
-      then-given _ _ _ _ λ x e.
-      then-given _ _ _ _ λ xs f.
-      then-else _ _ _ _ λ _.
-      wrote _ _ _ _ λ p. insert-changed p (x .path) (joinedObject x xs) (s .O) (was p) (w p) ∙ ap (λ (y : Option Write). changed p y (was p)) (sym (told u ns x xs e f))
-  act-wrote (ABORT u) = then-given _ _ _ _ λ x _. wrote _ _ _ _ w
-  act-wrote (UPLOADS prefix b) = then-else _ _ _ _ λ _. wrote _ _ _ _ w
+  wrote : (k : Option Change) (o : Map Bytes Object) → Changed s k o → (p : Bytes) → lookup byBytes p o ≡ changed p (also k (writes was t)) (was p)
+  wrote none o h p = rw h (w p)
+  wrote (some (sets q x)) o h p = rw h (insert-changed p q x (s .O) (was p) (w p))
+  wrote (some (copies n q r)) o (x, e, h) p = rw (h, ← w q, e) (insert-changed p r _ (s .O) (was p) (w p))
+  wrote (some (joins u ns)) o (x, xs, e, f, h) p =
+      rw h (insert-changed p (x .path) _ (s .O) (was p) (w p) ∙ ap (λ (y : Option Write). changed p y (was p)) (sym (told u ns x xs e f)))
+  wrote (some (removes q)) o h p = rw h (remove-changed p q (s .O) (was p) (v .objects) (w p))
 
   step-wrote : (c : Call) (p : Bytes) → lookup byBytes p (next A s c .O) ≡ changed p (written was t (c, reply A s c)) (was p)
-  unfolding Wrote Then
-  step-wrote c = go (act A s c) (act-wrote c)
-    where
-      go : (o : Outcome) → Then (Wrote (writes was t c)) o → (p : Bytes) → lookup byBytes p (after s o .O) ≡ changed p (written was t (c, replyOf (lent c) o)) (was p)
-      go (refuse n) h = rw (refused (lent c) n) w
-      go (accept r out s′) h = h
+  step-wrote c p =
+      then-step _ (λ r s′. lookup byBytes p (s′ .O) ≡ changed p (written was t (c, r)) (was p)) s (lent c) (act A s c) (act-changes A s c)
+      (λ n. w p ∙ ap (λ (x : Bool). changed p (cond x (also (change c) (writes was t)) none) (was p)) (sym (refused (lent c) n))) (λ r out s′ h. wrote (change c) (s′ .O) h p)
 
 -- A list of calls -----------------------------------------------------------------------------------------------------------------
 

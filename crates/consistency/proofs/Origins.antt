@@ -4,16 +4,16 @@ use Prim.Native.Nat.{ℕ}
 use mathlib.Core.Path.{_≡_, refl, sym, ap, _∙_, subst}
 use mathlib.Core.Bool.{Bool, true, false, _&&_, cond, false≢true}
 use mathlib.Core.List.{List, [], _∷_, _++_, reverse, reverse-cons, reverse-reverse, append-nil, Sublistᴰ, Sublistᴰ·slnil, Sublistᴰ·cons, Sublistᴰ·cons-cons, Sublistᴰ·nil-sublist, Sublistᴰ·append}
-use mathlib.Core.Option.{Option, none}
+use mathlib.Core.Option.{Option, none, some}
 use lib.Dec.{eqb}
 use borrow.Author.Tests.{eq-eqb, ne-eqb, eqb-true}
-use Rattle.machine.specs.Map.{keep, Every}
+use Rattle.machine.specs.Map.{also, keep, Every}
 use Rattle.machine.specs.Names.{Bytes}
 use Rattle.machine.specs.State.{Object}
 use Rattle.machine.specs.Calls.{Call, PUT, GET, HEAD, DELETE, COPY, LIST, INITIATE, PART, COMMIT, ABORT, UPLOADS, Answer, nothing, metadata, etag, number, counts, Reply}
 use Rattle.machine.specs.Lists.{Trace}
 use Rattle.machine.specs.Demand3.{Kind, looks, initiates, sends, commits, other, kind, accepted, _or_, carries, carried, lastPart, lastParts, answers, opens, opened, startOf, commitOf, NoCommitAccepted}
-use Rattle.consistency.specs.LastWrites.{Write, writes, written, isTo, left, lastOf, lastWrite}
+use Rattle.consistency.specs.LastWrites.{Change, sets, copies, joins, removes, change, Write, writes, written, isTo, left, lastOf, lastWrite}
 use Rattle.consistency.specs.Origins.{builds, ofUpload, draws, originOf, origin, Origin}
 use Rattle.machine.proofs.Options.{both}
 use Rattle.machine.proofs.MapKeep.{keep-append}
@@ -75,19 +75,13 @@ module _ (u : ℕ) where
 -- The origin of a path ------------------------------------------------------------------------------------------------------------
 
 -- a write is the same over what it draws on
-draws-same : (t : Trace) → ((p : Bytes) → lastOf (originOf t p) p ≡ lastOf t p) → (c : Call) →
-    writes (lastOf (draws (originOf t) t c)) (reverse (draws (originOf t) t c)) c ≡ writes (lastOf t) (reverse t) c
-draws-same t h (PUT k p d) = refl
-draws-same t h (GET p b) = refl
-draws-same t h (HEAD p) = refl
-draws-same t h (DELETE p) = refl
-draws-same t h (COPY k p q) = rw (h p)
-draws-same t h (LIST prefix suffix b) = refl
-draws-same t h (INITIATE k p) = refl
-draws-same t h (PART u n d) = refl
-draws-same t h (COMMIT u ns) = rw (reverse-kept u t, start-kept u (reverse t), parts-kept u (reverse t) ns)
-draws-same t h (ABORT u) = refl
-draws-same t h (UPLOADS prefix b) = refl
+draws-same : (t : Trace) → ((p : Bytes) → lastOf (originOf t p) p ≡ lastOf t p) → (k : Option Change) →
+    also k (writes (lastOf (draws (originOf t) t k)) (reverse (draws (originOf t) t k))) ≡ also k (writes (lastOf t) (reverse t))
+draws-same t h none = refl
+draws-same t h (some (sets p x)) = refl
+draws-same t h (some (copies n p q)) = rw (h p)
+draws-same t h (some (joins u ns)) = rw (reverse-kept u t, start-kept u (reverse t), parts-kept u (reverse t) ns)
+draws-same t h (some (removes p)) = refl
 
 origin-last : (t : Trace) (p : Bytes) → lastOf (originOf t p) p ≡ lastOf t p
 origin-last [] p = refl
@@ -97,11 +91,11 @@ origin-last (e ∷ t) p = go (isTo p w) refl (origin-last t)
     w = written (lastOf t) (reverse t) e
 
     d : Trace
-    d = draws (originOf t) t (e .0)
+    d = draws (originOf t) t (change (e .0))
 
     go : (b : Bool) → isTo p w ≡ b → ((q : Bytes) → lastOf (originOf t q) q ≡ lastOf t q) → lastOf (cond b (e ∷ d) (originOf t p)) p ≡ cond b (left w) (lastOf t p)
     go true h i =
-        ap (λ (x : Option Write). cond (isTo p x) (left x) (lastOf d p)) (ap (λ (x : Option Write). cond (accepted (e .1)) x none) (draws-same t i (e .0)))
+        ap (λ (x : Option Write). cond (isTo p x) (left x) (lastOf d p)) (ap (λ (x : Option Write). cond (accepted (e .1)) x none) (draws-same t i (change (e .0))))
         ∙ rw h
     go false h i = i p
 
@@ -119,25 +113,19 @@ kept-sublist u (e ∷ t) = go (isOf u (e .0) (e .1)) (kept-sublist u t)
     go true h = Sublistᴰ·cons-cons refl h
     go false h = Sublistᴰ·cons h
 
-drawn-sublist : (t : Trace) → ((p : Bytes) → Sublistᴰ (originOf t p) t) → (c : Call) → Sublistᴰ (draws (originOf t) t c) t
-drawn-sublist t h (PUT k p d) = Sublistᴰ·nil-sublist t
-drawn-sublist t h (GET p b) = Sublistᴰ·nil-sublist t
-drawn-sublist t h (HEAD p) = Sublistᴰ·nil-sublist t
-drawn-sublist t h (DELETE p) = Sublistᴰ·nil-sublist t
-drawn-sublist t h (COPY k p q) = h p
-drawn-sublist t h (LIST prefix suffix b) = Sublistᴰ·nil-sublist t
-drawn-sublist t h (INITIATE k p) = Sublistᴰ·nil-sublist t
-drawn-sublist t h (PART u n d) = Sublistᴰ·nil-sublist t
-drawn-sublist t h (COMMIT u ns) = kept-sublist u t
-drawn-sublist t h (ABORT u) = Sublistᴰ·nil-sublist t
-drawn-sublist t h (UPLOADS prefix b) = Sublistᴰ·nil-sublist t
+drawn-sublist : (t : Trace) → ((p : Bytes) → Sublistᴰ (originOf t p) t) → (k : Option Change) → Sublistᴰ (draws (originOf t) t k) t
+drawn-sublist t h none = Sublistᴰ·nil-sublist t
+drawn-sublist t h (some (sets p x)) = Sublistᴰ·nil-sublist t
+drawn-sublist t h (some (copies n p q)) = h p
+drawn-sublist t h (some (joins u ns)) = kept-sublist u t
+drawn-sublist t h (some (removes p)) = Sublistᴰ·nil-sublist t
 
 origin-sublist : (t : Trace) (p : Bytes) → Sublistᴰ (originOf t p) t
 origin-sublist [] p = Sublistᴰ·slnil
 origin-sublist (e ∷ t) p = go (isTo p (written (lastOf t) (reverse t) e)) (origin-sublist t)
   where
-    go : (b : Bool) → ((q : Bytes) → Sublistᴰ (originOf t q) t) → Sublistᴰ (cond b (e ∷ draws (originOf t) t (e .0)) (originOf t p)) (e ∷ t)
-    go true h = Sublistᴰ·cons-cons refl (drawn-sublist t h (e .0))
+    go : (b : Bool) → ((q : Bytes) → Sublistᴰ (originOf t q) t) → Sublistᴰ (cond b (e ∷ draws (originOf t) t (change (e .0))) (originOf t p)) (e ∷ t)
+    go true h = Sublistᴰ·cons-cons refl (drawn-sublist t h (change (e .0)))
     go false h = Sublistᴰ·cons (h p)
 
 reverse-sublist : {t u : Trace} → Sublistᴰ t u → Sublistᴰ (reverse t) (reverse u)
@@ -159,29 +147,24 @@ to-accepted p true x h = (refl, h)
 to-accepted p false x h = absurd (false≢true h)
 
 module _ (P K : Call → Reply → Type 0)
-    (writer : (was : Bytes → Option Object) (before : Trace) (p : Bytes) (c : Call) (r : Reply) → accepted r ≡ true → isTo p (writes was before c) ≡ true → P c r)
-    (parts : (u : ℕ) (ns : List ℕ) (r : Reply) (t : Trace) → K (COMMIT u ns) r → accepted r ≡ true → Every P (ofUpload u t)) where
-  drawn-every : (t : Trace) → ((p : Bytes) → Every P (originOf t p)) → (c : Call) (r : Reply) → K c r → accepted r ≡ true → Every P (draws (originOf t) t c)
-  drawn-every t h (PUT k p d) r y ok = tt
-  drawn-every t h (GET p b) r y ok = tt
-  drawn-every t h (HEAD p) r y ok = tt
-  drawn-every t h (DELETE p) r y ok = tt
-  drawn-every t h (COPY k p q) r y ok = h p
-  drawn-every t h (LIST prefix suffix b) r y ok = tt
-  drawn-every t h (INITIATE k p) r y ok = tt
-  drawn-every t h (PART u n d) r y ok = tt
-  drawn-every t h (COMMIT u ns) r y ok = parts u ns r t y ok
-  drawn-every t h (ABORT u) r y ok = tt
-  drawn-every t h (UPLOADS prefix b) r y ok = tt
+    (writer : (was : Bytes → Option Object) (before : Trace) (p : Bytes) (c : Call) (r : Reply) → accepted r ≡ true → isTo p (also (change c) (writes was before)) ≡ true → P c r)
+    (parts : (u : ℕ) (ns : List ℕ) (c : Call) (r : Reply) (t : Trace) → change c ≡ some (joins u ns) → K c r → accepted r ≡ true → Every P (ofUpload u t)) where
+  drawn-every : (t : Trace) → ((p : Bytes) → Every P (originOf t p)) → (k : Option Change) (c : Call) (r : Reply) → change c ≡ k → K c r → accepted r ≡ true →
+      Every P (draws (originOf t) t k)
+  drawn-every t h none c r e y ok = tt
+  drawn-every t h (some (sets p x)) c r e y ok = tt
+  drawn-every t h (some (copies n p q)) c r e y ok = h p
+  drawn-every t h (some (joins u ns)) c r e y ok = parts u ns c r t e y ok
+  drawn-every t h (some (removes p)) c r e y ok = tt
 
   origin-every : (t : Trace) → Every K t → (p : Bytes) → Every P (originOf t p)
   origin-every [] k p = tt
   origin-every (e ∷ t) k p = go (isTo p (written (lastOf t) (reverse t) e)) refl (origin-every t (k .1))
     where
-      go : (b : Bool) → isTo p (written (lastOf t) (reverse t) e) ≡ b → ((q : Bytes) → Every P (originOf t q)) → Every P (cond b (e ∷ draws (originOf t) t (e .0)) (originOf t p))
+      go : (b : Bool) → isTo p (written (lastOf t) (reverse t) e) ≡ b → ((q : Bytes) → Every P (originOf t q)) → Every P (cond b (e ∷ draws (originOf t) t (change (e .0))) (originOf t p))
       go true h i =
-          let z = to-accepted p (accepted (e .1)) (writes (lastOf t) (reverse t) (e .0)) h in
-          (writer (lastOf t) (reverse t) p (e .0) (e .1) (z .0) (z .1), drawn-every t i (e .0) (e .1) (k .0) (z .0))
+          let z = to-accepted p (accepted (e .1)) (also (change (e .0)) (writes (lastOf t) (reverse t))) h in
+          (writer (lastOf t) (reverse t) p (e .0) (e .1) (z .0) (z .1), drawn-every t i (change (e .0)) (e .0) (e .1) refl (k .0) (z .0))
       go false h i = i p
 
 every-append : (P : Call → Reply → Type 0) (t u : Trace) → Every P t → Every P u → Every P (t ++ u)
@@ -208,22 +191,37 @@ accepts : (p : Bytes) (t : Trace) → Every (λ c r. accepted r ≡ true) (origi
 unfolding origin
 accepts p t = every-reverse (λ c r. accepted r ≡ true) (originOf (reverse t) p) (origin-every (λ c r. accepted r ≡ true) (λ c r. Unit {0})
     (λ was before q c r ok w. ok)
-    (λ u ns r v y ok. every-keep (isOf u) (λ c r. accepted r ≡ true) (λ c r h. both (accepted r) (builds u (r .answer) (kind c)) h .0) v)
+    (λ u ns c r v e y ok. every-keep (isOf u) (λ c r. accepted r ≡ true) (λ c r h. both (accepted r) (builds u (r .answer) (kind c)) h .0) v)
     (reverse t) (every-any (reverse t)) p)
 
--- a call that writes neither opened an upload nor sent a part
-writer-builds-none : (u : ℕ) (a : Answer) (was : Bytes → Option Object) (before : Trace) (p : Bytes) (c : Call) → isTo p (writes was before c) ≡ true → builds u a (kind c) ≡ false
-writer-builds-none u a was before p (PUT k q d) h = refl
-writer-builds-none u a was before p (GET q b) h = refl
-writer-builds-none u a was before p (HEAD q) h = refl
-writer-builds-none u a was before p (DELETE q) h = refl
-writer-builds-none u a was before p (COPY k q z) h = refl
-writer-builds-none u a was before p (LIST prefix suffix b) h = refl
-writer-builds-none u a was before p (INITIATE k q) h = absurd (false≢true h)
-writer-builds-none u a was before p (PART v n d) h = absurd (false≢true h)
-writer-builds-none u a was before p (COMMIT v ns) h = refl
-writer-builds-none u a was before p (ABORT v) h = refl
-writer-builds-none u a was before p (UPLOADS prefix b) h = refl
+-- a call that changes objects is a COMMIT, or one that neither opens an upload nor sends a part
+abbrev OfKind : Option Change → Kind → Type 0
+OfKind none k = Unit {0}
+OfKind (some (sets p x)) k = k ≡ other
+OfKind (some (copies n p q)) k = k ≡ other
+OfKind (some (joins u ns)) k = k ≡ commits u
+OfKind (some (removes p)) k = k ≡ other
+
+change-kind : (c : Call) → OfKind (change c) (kind c)
+change-kind (PUT k q d) = refl
+change-kind (GET q b) = tt
+change-kind (HEAD q) = tt
+change-kind (DELETE q) = refl
+change-kind (COPY k q z) = refl
+change-kind (LIST prefix suffix b) = tt
+change-kind (INITIATE k q) = tt
+change-kind (PART v n d) = tt
+change-kind (COMMIT v ns) = refl
+change-kind (ABORT v) = tt
+change-kind (UPLOADS prefix b) = tt
+
+writer-builds-none : (u : ℕ) (a : Answer) (was : Bytes → Option Object) (before : Trace) (p : Bytes) (x : Option Change) (k : Kind) → OfKind x k →
+    isTo p (also x (writes was before)) ≡ true → builds u a k ≡ false
+writer-builds-none u a was before p none k e h = absurd (false≢true h)
+writer-builds-none u a was before p (some (sets q x)) k e h = rw e
+writer-builds-none u a was before p (some (copies n q z)) k e h = rw e
+writer-builds-none u a was before p (some (joins v ns)) k e h = rw e
+writer-builds-none u a was before p (some (removes q)) k e h = rw e
 
 -- a number is one upload's
 other-number : (u v n : ℕ) → (u ≡ v → ⊥) → eqb v n ≡ true → eqb u n ≡ false
@@ -257,9 +255,11 @@ BuildsNot u c r = builds u (r .answer) (kind c) ≡ false
 uncommitted : (u : ℕ) (p : Bytes) (t : Trace) → NoCommitAccepted u t → Every (BuildsNot u) (origin p t)
 unfolding origin
 uncommitted u p t n = every-reverse (BuildsNot u) (originOf (reverse t) p) (origin-every (BuildsNot u) (Unnamed u)
-    (λ was before q c r ok w. writer-builds-none u (r .answer) was before q c w)
-    (λ v ns r z y ok. every-keep (isOf v) (BuildsNot u)
-    (λ c r h. other-builds u v (r .answer) (kind c) (λ e. false≢true (sym (y (eq-eqb u v e)) ∙ ok)) (both (accepted r) (builds v (r .answer) (kind c)) h .1)) z)
+    (λ was before q c r ok w. writer-builds-none u (r .answer) was before q (change c) (kind c) (change-kind c) w)
+    (λ v ns c r z q y ok. every-keep (isOf v) (BuildsNot u)
+    (λ d s h. other-builds u v (s .answer) (kind d)
+    (λ e. false≢true (sym (y (ap (commitOf u) (subst (λ (x : Option Change). OfKind x (kind c)) q (change-kind c)) ∙ eq-eqb u v e)) ∙ ok))
+    (both (accepted s) (builds v (s .answer) (kind d)) h .1)) z)
     (reverse t) (every-reverse (Unnamed u) t (unnamed u t n)) p)
 
 pub origins : Origin

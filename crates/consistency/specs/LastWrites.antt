@@ -5,7 +5,7 @@ use mathlib.Core.Bool.{Bool, true, false, cond}
 use mathlib.Core.List.{List, [], _∷_, _++_, reverse}
 use mathlib.Core.Option.{Option, none, some}
 use Rattle.order.specs.Order.{same}
-use Rattle.machine.specs.Map.{mapped}
+use Rattle.machine.specs.Map.{mapped, also}
 use Rattle.machine.specs.Names.{Bytes}
 use Rattle.machine.specs.State.{Object}
 use Rattle.machine.specs.Calls.{Call, PUT, GET, HEAD, DELETE, COPY, LIST, INITIATE, PART, COMMIT, ABORT, UPLOADS, Reply}
@@ -13,28 +13,42 @@ use Rattle.machine.specs.Steps.{plainObject}
 use Rattle.machine.specs.Lists.{Trace}
 use Rattle.machine.specs.Demand3.{accepted, startOf, lastParts, joinedFrom}
 
+-- a change of the objects: one is set; one's data are copied; the listed parts of an upload are joined at its path; one is removed
+pub data Change : Type 0 where
+  sets : (path : Bytes) → Object → Change
+  copies : (stamp : ℕ) (source destination : Bytes) → Change
+  joins : (upload : ℕ) (numbers : List ℕ) → Change
+  removes : (path : Bytes) → Change
+
+-- what each call does to the objects once it is accepted; most change none
+abbrev pub change : Call → Option Change
+change (PUT t p d) = some (sets p (plainObject t d))
+change (GET p b) = none
+change (HEAD p) = none
+change (DELETE p) = some (removes p)
+change (COPY t p q) = some (copies t p q)
+change (LIST prefix suffix b) = none
+change (INITIATE t p) = none
+change (PART u n d) = none
+change (COMMIT u ns) = some (joins u ns)
+change (ABORT u) = none
+change (UPLOADS prefix b) = none
+
 -- a path, and what is left there: an object, or nothing
 abbrev pub Write : Type 0
 Write = Bytes × Option Object
 
--- What a call writes once it is accepted; `was` is what stood at each path before it, `before` the calls and replies before it. PUT leaves
--- its data; COPY those that its source then had; COMMIT the parts that were sent to its upload, in listed order; DELETE leaves nothing.
-abbrev pub writes : (was : Bytes → Option Object) (before : Trace) → Call → Option Write
-writes was before (PUT t p d) = some (p, some (plainObject t d))
-writes was before (GET p b) = none
-writes was before (HEAD p) = none
-writes was before (DELETE p) = some (p, none)
-writes was before (COPY t p q) = some (q, mapped (λ (x : Object). plainObject t (x .content)) (was p))
-writes was before (LIST prefix suffix b) = none
-writes was before (INITIATE t p) = none
-writes was before (PART u n d) = none
-writes was before (COMMIT u ns) = mapped (λ (o : ℕ × Bytes). (o .1, mapped (joinedFrom (o .0)) (lastParts u before ns))) (startOf u before)
-writes was before (ABORT u) = none
-writes was before (UPLOADS prefix b) = none
+-- The write of a change; `was` is what stood at each path before it, `before` the calls and replies before it. A copy leaves the data that its
+-- source then had; what is joined are the parts that were sent to the upload, in listed order.
+abbrev pub writes : (was : Bytes → Option Object) (before : Trace) → Change → Option Write
+writes was before (sets p x) = some (p, some x)
+writes was before (copies t p q) = some (q, mapped (λ (x : Object). plainObject t (x .content)) (was p))
+writes was before (joins u ns) = mapped (λ (o : ℕ × Bytes). (o .1, mapped (joinedFrom (o .0)) (lastParts u before ns))) (startOf u before)
+writes was before (removes p) = some (p, none)
 
--- the same, if it was accepted
+-- the write of a call, if it was accepted
 abbrev pub written : (was : Bytes → Option Object) (before : Trace) → Call × Reply → Option Write
-written was before e = cond (accepted (e .1)) (writes was before (e .0)) none
+written was before e = cond (accepted (e .1)) (also (change (e .0)) (writes was before)) none
 
 -- the write is to this path
 abbrev pub isTo : (path : Bytes) → Option Write → Bool

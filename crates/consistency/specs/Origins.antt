@@ -3,13 +3,14 @@ use Prim.Native.Nat.{ℕ}
 use mathlib.Core.Path.{_≡_}
 use mathlib.Core.Bool.{Bool, true, false, _&&_, cond}
 use mathlib.Core.List.{[], _∷_, reverse, Sublistᴰ}
+use mathlib.Core.Option.{Option, none, some}
 use lib.Dec.{eqb}
 use Rattle.machine.specs.Map.{keep, Every}
 use Rattle.machine.specs.Names.{Bytes}
-use Rattle.machine.specs.Calls.{Call, PUT, GET, HEAD, DELETE, COPY, LIST, INITIATE, PART, COMMIT, ABORT, UPLOADS, Answer}
+use Rattle.machine.specs.Calls.{Answer}
 use Rattle.machine.specs.Lists.{Trace}
 use Rattle.machine.specs.Demand3.{Kind, looks, initiates, sends, commits, other, kind, accepted, answers, NoCommitAccepted}
-use Rattle.consistency.specs.LastWrites.{written, isTo, lastOf, lastWrite}
+use Rattle.consistency.specs.LastWrites.{Change, sets, copies, joins, removes, change, written, isTo, lastOf, lastWrite}
 
 -- with this answer, the call opened the upload or sent it a part
 abbrev pub builds : (upload : ℕ) → Answer → Kind → Bool
@@ -23,24 +24,18 @@ builds u a other = false
 abbrev pub ofUpload : (upload : ℕ) → Trace → Trace
 ofUpload u t = keep (λ c r. accepted r && builds u (r .answer) (kind c)) t
 
--- what a write draws on: COPY on where its source comes from, COMMIT on its upload's INITIATE and PARTs, PUT and DELETE on nothing
-abbrev pub draws : (origins : Bytes → Trace) (before : Trace) → Call → Trace
-draws origins before (PUT t p d) = []
-draws origins before (GET p b) = []
-draws origins before (HEAD p) = []
-draws origins before (DELETE p) = []
-draws origins before (COPY t p q) = origins p
-draws origins before (LIST prefix suffix b) = []
-draws origins before (INITIATE t p) = []
-draws origins before (PART u n d) = []
-draws origins before (COMMIT u ns) = ofUpload u before
-draws origins before (ABORT u) = []
-draws origins before (UPLOADS prefix b) = []
+-- what a change draws on: a copy on where its source comes from, parts that are joined on the INITIATE and the PARTs, others on nothing
+abbrev pub draws : (origins : Bytes → Trace) (before : Trace) → Option Change → Trace
+draws origins before none = []
+draws origins before (some (sets p x)) = []
+draws origins before (some (copies t p q)) = origins p
+draws origins before (some (joins u ns)) = ofUpload u before
+draws origins before (some (removes p)) = []
 
 -- of calls and replies newest first: the last write of a path, with what it draws on
 abbrev pub originOf : (newestFirst : Trace) (path : Bytes) → Trace
 originOf [] p = []
-originOf (e ∷ t) p = cond (isTo p (written (lastOf t) (reverse t) e)) (e ∷ draws (originOf t) t (e .0)) (originOf t p)
+originOf (e ∷ t) p = cond (isTo p (written (lastOf t) (reverse t) e)) (e ∷ draws (originOf t) t (change (e .0))) (originOf t p)
 
 -- the calls and replies that what stands at a path comes from, oldest first
 unfoldable pub origin : (path : Bytes) → Trace → Trace

@@ -1,5 +1,5 @@
 -- The auditor's second question: an aborted upload stays out of every later record. Assumes nothing.
-use Prim.Native.Nat.{ℕ, _+_, _<_}
+use Prim.Native.Nat.{ℕ, _<_}
 use native.Mathlib.Omega.{arith}
 use mathlib.Core.Path.{_≡_, refl, sym, ap, _∙_, subst}
 use mathlib.Core.Bool.{Bool, true, false, false≢true}
@@ -7,17 +7,17 @@ use mathlib.Core.List.{List, [], _∷_, _++_, append-assoc}
 use mathlib.Core.Option.{Option, none, some}
 use borrow.Author.Tests.{eq-eqb, eqb-true}
 use Rattle.order.specs.OrderLaws.{numbers}
-use Rattle.machine.specs.Map.{byNumber, lookup, insert, remove}
-use Rattle.machine.specs.Names.{Bytes, requestPartOk}
-use Rattle.machine.specs.State.{Upload, State, fresh, withPart}
-use Rattle.machine.specs.Calls.{Call, PUT, GET, HEAD, DELETE, COPY, LIST, INITIATE, PART, COMMIT, ABORT, UPLOADS, Answer, Reply, badRequest, refuse, accept, _else_then_, given}
-use Rattle.machine.specs.Steps.{newUpload, newPart, putAt, act, replyOf, after, reply, next}
+use Rattle.machine.specs.Map.{byNumber, lookup, Ascending}
+use Rattle.machine.specs.Names.{requestPartOk}
+use Rattle.machine.specs.State.{Upload, State, fresh}
+use Rattle.machine.specs.Calls.{Call, PUT, GET, HEAD, DELETE, COPY, LIST, INITIATE, PART, COMMIT, ABORT, UPLOADS, Answer, Reply, badRequest, refuse, _else_then_, given}
+use Rattle.machine.specs.Steps.{act, replyOf, reply, next}
 use Rattle.machine.specs.Lists.{Trace, trace, final}
 use Rattle.machine.specs.Valid.{Valid, UploadOk}
-use Rattle.machine.specs.Demand3.{accepted, calls}
+use Rattle.machine.specs.Demand3.{Kind, accepted, calls}
 use Rattle.machine.proofs.Options.{none-some}
-use Rattle.machine.proofs.MapLaws.{lookup-insert-other, lookup-remove, lookup-remove-other, every-lookup}
-use Rattle.machine.proofs.Outcome.{Then, then-accept, then-else, then-given, then-object, then-put, then-after}
+use Rattle.machine.proofs.MapLaws.{ascending-remove, lookup-insert-other, lookup-remove, lookup-remove-other, every-lookup}
+use Rattle.machine.proofs.Effects.{Effects, stop, sets, removes, closes, Does, opens-upload, sets-part, has-effects, step-does}
 use Rattle.machine.proofs.KeepsValid.{next-valid, fresh-valid, final-valid}
 use Rattle.machine.proofs.Traces.{cut}
 use Rattle.calls.specs.Made.{Memory}
@@ -27,69 +27,33 @@ use Rattle.history.proofs.Running.{from-fresh}
 use Rattle.history.proofs.Demand3.{demand3}
 
 -- the upload's number was given out, and it is not open
-record Gone (u : ℕ) (s : State) : Type 0 where
-  given-out : u < s .N
-  shut : lookup byNumber u (s .U) ≡ none
+abbrev Gone : ℕ → State → Type 0
+Gone u s = (u < s .N) × (lookup byNumber u (s .U) ≡ none)
 
 -- an open upload is another one
 open-other : (u v : ℕ) (s : State) (x : Upload) → Gone u s → lookup byNumber v (s .U) ≡ some x → u ≡ v → ⊥
-open-other u v s x g e q = none-some (sym (g .shut) ∙ ap (λ (n : ℕ). lookup byNumber n (s .U)) q ∙ e)
+open-other u v s x g e q = none-some (sym (g .1) ∙ ap (λ (n : ℕ). lookup byNumber n (s .U)) q ∙ e)
+
+module _ (A u : ℕ) (s : State) where
+  effects-gone : {a b : State} → Effects A s a b → Ascending byNumber (a .U) → Gone u a → Gone u b
+  effects-gone stop o g = g
+  effects-gone (sets p x h more) o g = effects-gone more o g
+  effects-gone (removes p more) o g = effects-gone more o g
+  effects-gone (closes {a = i} v x e more) o g =
+      effects-gone more (ascending-remove numbers v (i .U) o) (g .0, lookup-remove-other numbers u v (i .U) o (open-other u v i x g e) ∙ g .1)
+
+  does-gone : {k : Kind} {r : Answer} {s′ : State} → Ascending byNumber (s .U) → Gone u s → Does A s k r s′ → Gone u s′
+  does-gone o g (opens-upload t p h c l) =
+      let q = g .0 in (omega arith, lookup-insert-other numbers u (s .N) _ (s .U) (λ e. omega (arith, e)) ∙ g .1)
+  does-gone o g (sets-part v x n d h e c r) = (g .0, lookup-insert-other numbers u v _ (s .U) (open-other u v s x g e) ∙ g .1)
+  does-gone o g (has-effects q w more) = effects-gone more o g
 
 module _ (A u : ℕ) (s : State) (v : Valid A s) (g : Gone u s) where
-  abbrev Still : Answer → Bytes → State → Type 0
-  Still a out s′ = Gone u s′
-
-  still : (a : Answer) (out : Bytes) (s′ : State) → Gone u s′ → Then Still (accept a out s′)
-  still a out s′ h = then-accept Still a out s′ h
-
-  -- with U and N as they were
-  same : (a : Answer) (out : Bytes) (s′ : State) → s′ .U ≡ s .U → s′ .N ≡ s .N → Then Still (accept a out s′)
-  same a out s′ e f = still a out s′ (record { given-out = rw f (g .given-out); shut = rw e (g .shut) })
-
-  put-still : (t : ℕ) (p d : Bytes) → Then Still (putAt A s t p d)
-  put-still t p d = then-put Still A s t p d λ _ _. record { given-out = g .given-out; shut = g .shut }
-
-  opened : (t : ℕ) (p : Bytes) → lookup byNumber u (insert byNumber (s .N) (newUpload t p) (s .U)) ≡ none
-  opened t p = let l = g .given-out in lookup-insert-other numbers u (s .N) (newUpload t p) (s .U) (λ e. omega (arith, e)) ∙ g .shut
-
-  changed : (k : ℕ) (x y : Upload) → lookup byNumber k (s .U) ≡ some x → lookup byNumber u (insert byNumber k y (s .U)) ≡ none
-  changed k x y e = lookup-insert-other numbers u k y (s .U) (open-other u k s x g e) ∙ g .shut
-
-  closed : (k : ℕ) (x : Upload) → lookup byNumber k (s .U) ≡ some x → lookup byNumber u (remove byNumber k (s .U)) ≡ none
-  closed k x e = lookup-remove-other numbers u k (s .U) (v .uploads) (open-other u k s x g e) ∙ g .shut
-
-  act-still : (c : Call) → Then Still (act A s c)
-  unfolding act
-  act-still (PUT t p d) = then-else _ _ _ _ λ _. put-still t p d
-  act-still (GET p b) = then-object _ s p _ λ x. then-else _ _ _ _ λ _. same _ _ _ refl refl
-  act-still (HEAD p) = then-object _ s p _ λ x. same _ _ _ refl refl
-  act-still (DELETE p) = then-else _ _ _ _ λ _. then-given _ _ _ _ λ x _. same _ _ _ refl refl
-  act-still (COPY t p q) = then-else _ _ _ _ λ _. then-given _ _ _ _ λ x _. put-still t q (x .content)
-  act-still (LIST prefix suffix b) = then-else _ _ _ _ λ _. same _ _ _ refl refl
-  act-still (INITIATE t p) =
-      then-else _ _ _ _ λ _.
-      then-else _ _ _ _ λ _.
-      then-else _ _ _ _ λ _.
-      still _ _ _ (record { given-out = let l = g .given-out in omega arith; shut = opened t p })
-  act-still (PART k n d) =
-      then-else _ _ _ _ λ _.
-      then-given _ _ _ _ λ x e.
-      then-else _ _ _ _ λ _.
-      then-else _ _ _ _ λ _.
-      still _ _ _ (record { given-out = g .given-out; shut = changed k x (withPart x n (newPart d)) e })
-  act-still (COMMIT k ns) =
-      then-given _ _ _ _ λ x e.
-      then-given _ _ _ _ λ xs _.
-      then-else _ _ _ _ λ _.
-      still _ _ _ (record { given-out = g .given-out; shut = closed k x e })
-  act-still (ABORT k) = then-given _ _ _ _ λ x e. still _ _ _ (record { given-out = g .given-out; shut = closed k x e })
-  act-still (UPLOADS prefix b) = then-else _ _ _ _ λ _. same _ _ _ refl refl
-
   still-gone : (c : Call) → Gone u (next A s c)
-  still-gone c = then-after (Gone u) s (act A s c) g (act-still c)
+  still-gone c = step-does A s (λ r s′. Gone u s′) c (λ n. g) (λ r out s′ d. does-gone A u s (v .uploads) g d)
 
   gone-here : (k : ℕ) → names u (ABORT k) ≡ true → lookup byNumber k (s .U) ≡ none
-  gone-here k e = ap (λ (n : ℕ). lookup byNumber n (s .U)) (sym (eqb-true u k e)) ∙ g .shut
+  gone-here k e = ap (λ (n : ℕ). lookup byNumber n (s .U)) (sym (eqb-true u k e)) ∙ g .1
 
   refused-here : (c : Call) → names u c ≡ true → reply A s c .result ≡ 2
   unfolding act given _else_then_
@@ -121,7 +85,7 @@ aborted A u s v = go (lookup byNumber u (s .U)) refl
     go : (o : Option Upload) → lookup byNumber u (s .U) ≡ o → accepted (reply A s (ABORT u)) ≡ true → Gone u (next A s (ABORT u))
     go none e ok = absurd (false≢true (rw e at ok))
     go (some x) e ok =
-        rw e (record { given-out = every-lookup numbers (UploadOk (s .N)) u x (s .U) (v .upload) e .high; shut = lookup-remove numbers u (s .U) (v .uploads) })
+        rw e (every-lookup numbers (UploadOk (s .N)) u x (s .U) (v .upload) e .high, lookup-remove numbers u (s .U) (v .uploads))
 
 shut-at : (u : ℕ) (between after : Trace) (c : Call) (r : Reply) → Shut u (between ++ (c, r) ∷ after) → names u c ≡ true → r .result ≡ 2
 shut-at u [] after c r h e = h .0 e

@@ -4,27 +4,19 @@ use mathlib.Core.Path.{_≡_}
 use mathlib.Core.Bool.{Bool, true, false}
 use mathlib.Core.List.{List, [], _∷_, _++_}
 use lib.Dec.{eqb}
+use Rattle.machine.specs.Map.{isSome}
 use Rattle.machine.specs.Calls.{Call, PUT, GET, HEAD, DELETE, COPY, LIST, INITIATE, PART, COMMIT, ABORT, UPLOADS, Reply}
 use Rattle.machine.specs.Lists.{Trace}
 use Rattle.machine.specs.Demand3.{kind, isLook, accepted}
+use Rattle.consistency.specs.LastWrites.{change}
 use Rattle.calls.specs.Made.{Memory, Made}
 use Rattle.history.specs.Demand3.{Committed}
 
 -- "Can a batch record be read before its last weighing is committed?" -----------------------------------------------------
 
--- the calls that set or remove an object; INITIATE, PART and ABORT do not
+-- the calls that set or remove an object: PUT, DELETE, COPY and COMMIT; INITIATE, PART and ABORT do not
 abbrev pub changesObjects : Call → Bool
-changesObjects (PUT t p d) = true
-changesObjects (GET p b) = false
-changesObjects (HEAD p) = false
-changesObjects (DELETE p) = true
-changesObjects (COPY t p q) = true
-changesObjects (LIST prefix suffix b) = false
-changesObjects (INITIATE t p) = false
-changesObjects (PART u n d) = false
-changesObjects (COMMIT u ns) = true
-changesObjects (ABORT u) = false
-changesObjects (UPLOADS prefix b) = false
+changesObjects c = isSome (change c)
 
 -- no call of the run sets or removes an object
 abbrev pub ChangesNone : Trace → Type 0

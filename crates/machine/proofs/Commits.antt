@@ -17,8 +17,8 @@ use Rattle.machine.specs.Map.{isSome, Map, byNumber, lookup, insert, rem
 use Rattle.machine.specs.Names.{Bytes, storedPathOk}
 use Rattle.machine.specs.Digest.{md5}
 use Rattle.machine.specs.State.{Object, Part, Upload, State, fresh, withObject, withoutUpload, withPart}
-use Rattle.machine.specs.Calls.{Call, GET, COMMIT, Answer, Outcome, refuse, accept, given, lent, _else_then_}
-use Rattle.machine.specs.Steps.{newUpload, newPart, joinedObject, about, contents, digests, fit, objectAt, act, replyOf, after, reply, next}
+use Rattle.machine.specs.Calls.{Call, GET, COMMIT, Answer, given, lent, _else_then_}
+use Rattle.machine.specs.Steps.{newUpload, newPart, joinedObject, about, contents, digests, fit, objectAt, act, reply, next}
 use Rattle.machine.specs.Lists.{Trace, trace, final}
 use Rattle.machine.specs.Valid.{UploadOk, Valid}
 use Rattle.machine.specs.Fits.{allFound, listedParts}
@@ -28,7 +28,7 @@ use Rattle.machine.proofs.MapLaws.{ascending-remove, every-lookup, look
 use Rattle.machine.proofs.Fit.{lookup-kept, fit-listed, fit-once, fit-all}
 use Rattle.machine.proofs.Rules.{stored-requested, stored-not-root}
 use Rattle.machine.proofs.Traces.{cut, final-snoc}
-use Rattle.machine.proofs.Outcome.{refused, Then, then-accept, then-else, then-given}
+use Rattle.machine.proofs.Outcome.{refused, Then, then-else, then-given, then-step}
 use Rattle.machine.proofs.Effects.{Effects, stop, sets, removes, closes, Quiet, Does, opens-upload, sets-part, has-effects, step-does}
 use Rattle.machine.proofs.KeepsValid.{next-valid, fresh-valid, final-valid}
 
@@ -194,13 +194,12 @@ got A s [] x b h e l = absurd (stored-not-root h)
 got A s (c ∷ p) x b h e l = rw (stored-requested (c ∷ p) h, e, le-leb (length (x .content)) (length b) l)
 
 commit-leaves : (A : ℕ) (s : State) (u : ℕ) (ns : List ℕ) (t : Trace) → Valid A s → Agrees (s .U) (s .N) (λ u n. lastPart u n t) (λ u. startOf u t) →
-    Then (λ r out s′. Leaves A t u ns s′) (act A s (COMMIT u ns))
-unfolding act
+    accepted (reply A s (COMMIT u ns)) ≡ true → Leaves A t u ns (next A s (COMMIT u ns))
+unfolding act Then
 commit-leaves A s u ns t v a =
-    then-given _ _ _ _ λ x e.
-    then-given _ _ _ _ λ xs f.
-    then-else _ _ _ _ λ _.
-    then-accept (λ r out s′. Leaves A t u ns s′) _ _ _ (go x e xs f)
+    then-step (λ r out s′. Leaves A t u ns s′) (λ r s′. accepted r ≡ true → Leaves A t u ns s′) s [] (act A s (COMMIT u ns))
+    (then-given _ _ _ _ λ x e. then-given _ _ _ _ λ xs f. then-else _ _ _ _ λ _. go x e xs f)
+    (λ n ok. absurd (false≢true (sym (refused [] n) ∙ ok))) (λ r out s′ h ok. h)
   where
     go : (x : Upload) → lookup byNumber u (s .U) ≡ some x → (xs : List Part) → fit ns (x .parts) ≡ some xs → Leaves A t u ns (withoutUpload (withObject s (x .path) (joinedObject x xs)) u)
     go x e xs f =
@@ -222,18 +221,11 @@ commit-leaves A s u ns t v a =
           read = λ b g. got A s′ (x .path) (joinedFrom (x .started) (w .parts)) b (o .path) h g;
         }
 
--- an accepted reply comes of an accepted outcome
-then-accepted : (Q : State → Type 0) (s : State) (b : Bytes) (o : Outcome) → Then (λ r out s′. Q s′) o → accepted (replyOf b o) ≡ true → Q (after s o)
-unfolding Then
-then-accepted Q s b (refuse n) h e = absurd (false≢true (sym (refused b n) ∙ e))
-then-accepted Q s b (accept r out s′) h e = h
-
 pub commits-join : (A : ℕ) (cs : List Call) → CommitsJoin A cs
 unfolding CommitsJoin
 commits-join A cs before behind u ns r e ok =
     let k = cut A fresh cs before behind (COMMIT u ns) r e in
     let s = final A fresh (calls before) in
-    let l = then-accepted (Leaves A (trace A fresh (calls before)) u ns) s [] (act A s (COMMIT u ns))
-    (commit-leaves A s u ns (trace A fresh (calls before)) (final-valid A fresh (calls before) (fresh-valid A)) (fresh-agrees A (calls before)))
+    let l = commit-leaves A s u ns (trace A fresh (calls before)) (final-valid A fresh (calls before) (fresh-valid A)) (fresh-agrees A (calls before))
     (ap accepted (k .replied) ∙ ok) in
     rw (final-snoc A fresh (calls before) (COMMIT u ns)) (subst (λ (t : Trace). Leaves A t u ns (next A s (COMMIT u ns))) (k .first) l)

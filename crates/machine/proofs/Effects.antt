@@ -16,8 +16,8 @@ use Rattle.machine.specs.Names.{Bytes, newPathOk, stampOk, requestPartOk
 use Rattle.machine.specs.Digest.{md5, length-md5}
 use Rattle.machine.specs.Etags.{plain}
 use Rattle.machine.specs.State.{Object, Part, Upload, State, withObject, withoutObject, withUpload, withoutUpload, withNext, withPart, partsIn, held, counted}
-use Rattle.machine.specs.Calls.{Call, PUT, GET, HEAD, DELETE, COPY, LIST, INITIATE, PART, COMMIT, ABORT, UPLOADS, Answer, etag, number, Reply, Refusal, Outcome, refuse, accept, lent}
-use Rattle.machine.specs.Steps.{plainObject, newUpload, newPart, joinedObject, fit, putAt, act, replyOf, after, reply, next}
+use Rattle.machine.specs.Calls.{Call, PUT, GET, HEAD, DELETE, COPY, LIST, INITIATE, PART, COMMIT, ABORT, UPLOADS, Answer, etag, number, Reply, Refusal, refuse, accept, lent}
+use Rattle.machine.specs.Steps.{newUpload, newPart, joinedObject, fit, putAt, act, replyOf, reply, next}
 use Rattle.machine.specs.Valid.{ObjectOk, UploadOk, Valid}
 use Rattle.machine.specs.Demand3.{Kind, looks, initiates, sends, commits, other, kind, answers}
 use Rattle.machine.proofs.Options.{both}
@@ -26,7 +26,7 @@ use Rattle.machine.proofs.MapSums.{total-remove}
 use Rattle.machine.proofs.Fit.{fit-length}
 use Rattle.machine.proofs.Counts.{held-commit}
 use Rattle.machine.proofs.Rules.{new-stored}
-use Rattle.machine.proofs.Outcome.{Then, then-else, then-given, then-object, then-put}
+use Rattle.machine.proofs.Outcome.{Then, then-else, then-given, then-object, then-put, then-step}
 
 -- an object that keeps the rules, in a state that keeps the ceilings
 pub record Sound (A : ℕ) (p : Bytes) (x : Object) (s : State) : Type 0 where
@@ -64,16 +64,13 @@ pub data Does (A : ℕ) (s : State) : Kind → Answer → State → Type 0 where
       counted (withSent s u x n d) ≡ true → leb (held (withSent s u x n d)) A ≡ true → Does A s (sends u n d) (etag (plain (md5 d))) (withSent s u x n d)
   has-effects : {k : Kind} {r : Answer} {s′ : State} → Quiet k → ((n : ℕ) → answers n r ≡ false) → Effects A s s s′ → Does A s k r s′
 
+-- a COMMIT joins at most 256 parts
 few : (m : Map ℕ Upload) (u : ℕ) (x : Upload) (ns : List ℕ) (xs : List Part) → total partsIn m ≤ 256 → lookup byNumber u m ≡ some x → fit ns (x .parts) ≡ some xs → length xs ≤ 256
 few m u x ns xs h e f = omega (arith, h, rw e at (total-remove numbers partsIn u m), fit-length ns (x .parts) xs f)
 
 module _ (A : ℕ) (s : State) where
-  Done : Kind → Answer → Bytes → State → Type 0
-  Done k r out s′ = Does A s k r s′
-
-  put-does : (t : ℕ) (p d : Bytes) → stampOk t ≡ true → newPathOk p ≡ true → Then (Done other) (putAt A s t p d)
-  unfolding Done
-  put-does t p d ht hp = then-put (Done other) A s t p d λ c r. has-effects tt (λ n. refl) (sets p _ (λ v. record {
+  put-does : (t : ℕ) (p d : Bytes) → stampOk t ≡ true → newPathOk p ≡ true → Then (λ r out s′. Does A s other r s′) (putAt A s t p d)
+  put-does t p d ht hp = then-put _ A s t p d λ c r. has-effects tt (λ n. refl) (sets p _ (λ v. record {
     object = record { path = new-stored p hp; stamp = ht; etag = length-md5 d };
     counts = c;
     room = leb-true _ _ r;
@@ -89,8 +86,8 @@ module _ (A : ℕ) (s : State) where
         room = let h = held-commit s u x ns xs (x .path) e f in omega (arith, v .room);
       }
 
-  act-does : (c : Call) → Then (Done (kind c)) (act A s c)
-  unfolding act Done Then
+  act-does : (c : Call) → Then (λ r out s′. Does A s (kind c) r s′) (act A s c)
+  unfolding act Then
   act-does (PUT t p d) = then-else _ _ _ _ λ h. let b = both _ _ h in put-does t p d (b .0) (b .1)
   act-does (GET p b) = then-object _ s p _ λ x. then-else _ _ _ _ λ _. has-effects tt (λ n. refl) stop
   act-does (HEAD p) = then-object _ s p _ λ x. has-effects tt (λ n. refl) stop
@@ -113,9 +110,4 @@ module _ (A : ℕ) (s : State) where
   -- what holds where a call is refused, and of whatever an accepted one does, holds of every call's reply and the state after it
   pub step-does : (P : Reply → State → Type 0) (c : Call) → ((n : Refusal) → P (replyOf (lent c) (refuse n)) s) →
       ((r : Answer) (out : Bytes) (s′ : State) → Does A s (kind c) r s′ → P (replyOf (lent c) (accept r out s′)) s′) → P (reply A s c) (next A s c)
-  unfolding Then Done
-  step-does P c h k = go (act A s c) (act-does c)
-    where
-      go : (o : Outcome) → Then (Done (kind c)) o → P (replyOf (lent c) o) (after s o)
-      go (refuse n) d = h n
-      go (accept r out s′) d = k r out s′ d
+  step-does P c h k = then-step _ P s (lent c) (act A s c) (act-does c) h k

@@ -10,7 +10,7 @@ use borrow.Author.Tests.{ne-eqb}
 use lib.Dec.{leb}
 use Rattle.machine.specs.Names.{Bytes}
 use Rattle.machine.specs.State.{Object, State, withObject, held, counted}
-use Rattle.machine.specs.Calls.{Answer, nothing, Refusal, badRequest, notFound, tableFull, arenaFull, numbersUsedUp, bufferShort, code, Outcome, refuse, accept, _else_then_, given}
+use Rattle.machine.specs.Calls.{Answer, nothing, Reply, Refusal, badRequest, notFound, tableFull, arenaFull, numbersUsedUp, bufferShort, code, Outcome, refuse, accept, _else_then_, given}
 use Rattle.machine.specs.Steps.{plainObject, putAt, objectAt, replyOf, after}
 use Rattle.machine.specs.Demand3.{accepted}
 
@@ -58,8 +58,10 @@ pub then-put : (Q : Answer → Bytes → State → Type 0) (A : ℕ) (s : State)
 unfolding putAt
 then-put Q A s t p d h = then-else _ _ _ _ λ c. then-else _ _ _ _ λ r. then-accept Q _ _ _ (h c r)
 
--- what holds before a call and of every accepted outcome holds after it
-pub then-after : (P : State → Type 0) (s : State) (o : Outcome) → P s → Then (λ a out s′. P s′) o → P (after s o)
+-- what holds where the outcome is refused, and where it is accepted and Q holds, holds of its reply and the state after it
+pub then-step : (Q : Answer → Bytes → State → Type 0) (P : Reply → State → Type 0) (s : State) (b : Bytes) (o : Outcome) → Then Q o →
+    ((n : Refusal) → P (replyOf b (refuse n)) s) → ((a : Answer) (out : Bytes) (s′ : State) → Q a out s′ → P (replyOf b (accept a out s′)) s′) →
+    P (replyOf b o) (after s o)
 unfolding Then
-then-after P s (refuse n) before h = before
-then-after P s (accept a out s′) before h = h
+then-step Q P s b (refuse n) h f g = f n
+then-step Q P s b (accept a out s′) h f g = g a out s′ h

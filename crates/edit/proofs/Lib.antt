@@ -2,8 +2,6 @@ pub mod RowLists
 pub mod Fit
 pub mod Standing
 pub mod Changes
-pub mod Headers
-pub mod RowFields
 pub mod OneRow
 pub mod ObjectEdits
 pub mod Tail

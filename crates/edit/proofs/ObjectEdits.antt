@@ -21,21 +21,20 @@ use Rattle.machine.proofs.MapSums.{length-insert, length-remove}
 use Rattle.machine.proofs.MapLaws.{lookup-insert, every-lookup}
 use Rattle.machine.proofs.KeepsValid.{without-object-valid}
 use Rattle.row.specs.declared.Head.{Head}
-use Rattle.row.specs.Row.{encodeRows, contentsOf, headAt, headOf}
+use Rattle.row.specs.Row.{encodeRows, contentsOf, headAt, headOf, rowBytes}
 use Rattle.row.specs.RowLaws.{Encodable}
 use Rattle.layout.specs.declared.Header.{Header}
-use Rattle.layout.specs.Memory.{rowsOf, objectRow, headerAt, whole, stateOf, Stands}
+use Rattle.layout.specs.Memory.{rowsOf, objectRow, whole, stateOf, Stands}
 use Rattle.layout.specs.TestLaws.{stored-path-length}
 use Rattle.layout.specs.ObjectLaws.{Etagged, etagged, object-encodable}
 use Rattle.layout.specs.WholeLaws.{whole-stands}
 use Rattle.layout.specs.StandsLaws.{header-back}
 use Rattle.layout.specs.declared.Offset.{Offset}
+use Rattle.layout.specs.Header.{headerOf, headed, headerAt}
 use Rattle.find.specs.declared.Place.{Place}
 use Rattle.find.specs.Places.{behind, beforeObject, afterObject, fromObject, objectPlace}
 use Rattle.find.proofs.Splits.{object-place, object-found}
 use Rattle.find.proofs.Found.{is-some}
-use Rattle.edit.specs.Header.{headerOf, headed}
-use Rattle.edit.specs.RowBytes.{rowBytes}
 use Rattle.edit.specs.Objects.{objectBehind, Addable}
 use Rattle.edit.proofs.Changes.{without-object-rows, new-object-rows}
 use Rattle.edit.proofs.OneRow as row

@@ -8,16 +8,14 @@ use Rattle.machine.specs.State.{State, held}
 use Rattle.machine.specs.Valid.{Valid}
 use Rattle.buffer.specs.Buffer.{spliced, rotated}
 use Rattle.row.specs.declared.Head.{Head}
-use Rattle.row.specs.Row.{Row, encodeRow, encodeRows, contentsOf, headAt, headOf}
+use Rattle.row.specs.Row.{Row, encodeRow, encodeRows, contentsOf, headAt, headOf, rowBytes}
 use Rattle.row.specs.RowLaws.{Encodable, length-row, encode-append, contents-append}
 use Rattle.layout.specs.declared.Header.{Header}
 use Rattle.layout.specs.Memory.{rowsOf, Stands}
 use Rattle.layout.specs.RowCounts.{length-contents}
+use Rattle.layout.specs.Header.{headerOf, headed}
 use Rattle.find.proofs.RowsAt.{At, row-at}
-use Rattle.edit.specs.Header.{headerOf, headed}
-use Rattle.edit.specs.RowBytes.{rowBytes}
 use Rattle.edit.proofs.Fit.{tables-fit}
-use Rattle.edit.proofs.RowFields.{row-bytes}
 use Rattle.edit.proofs.Standing.{removed, inserted}
 
 module _ (t a : List ℕ) (s : State) (h : Stands t a s) (xs : List Row) (r : Row) (ys : List Row) (at base used end : ℕ)
@@ -106,7 +104,7 @@ module _ (t a : List ℕ) (s : State) (h : Stands t a s) (xs : List Row) (r : Ro
         → t′ ≡ headed (spliced t at 0 used (rowBytes head digest path)) header → a′ ≡ rotated a base (end - base) size
         → length t′ ≡ length t → length a′ ≡ length a → Stands t′ a′ s′
     inserted-stands t′ a′ p d head header size is head-is d-is p-is size-is e e′ l l′ =
-        let bytes : rowBytes head d p ≡ encodeRow r = rw (head-is, d-is, p-is) (row-bytes r) in
+        let bytes : rowBytes head d p ≡ encodeRow r = rw (head-is, d-is, p-is) in
         let left : end - base ≡ length (contentsOf ys) = omega (arith, old-data) in
         inserted t a s h s′ valid (spliced t at 0 used (rowBytes head d p)) t′ a′ header is e l l′ xs r ys at used base (end - base) (rowBytes head d p) split split′
         bytes at-is used-is refl base-is left (e′ ∙ ap (rotated a base (end - base)) size-is) content

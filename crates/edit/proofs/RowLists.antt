@@ -10,9 +10,8 @@ use Rattle.buffer.specs.Buffer.{spliced, rotated}
 use Rattle.buffer.proofs.Live.{spliced-live, rotated-live}
 use Rattle.row.specs.Row.{Row, encodeRows, contentsOf}
 use Rattle.row.specs.RowLaws.{encode-append, contents-append}
-use Rattle.layout.specs.Memory.{encodeHeader}
 use Rattle.layout.specs.declared.Header.{Header}
-use Rattle.edit.specs.Header.{headerOf, headerBytes, headed}
+use Rattle.layout.specs.Header.{headerOf, headerBytes, headed, encodeHeader}
 
 encode-append₃ : (xs ys zs : List Row) → encodeRows (xs ++ (ys ++ zs)) ≡ encodeRows xs ++ (encodeRows ys ++ encodeRows zs)
 encode-append₃ xs ys zs = encode-append xs (ys ++ zs) ∙ ap (λ (l : List ℕ). encodeRows xs ++ l) (encode-append ys zs)
@@ -59,6 +58,6 @@ data-rotated xs ys zs a a′ d free told is e =
 -- the header of s′, written over that of s
 pub header-written : (A : ℕ) (s s′ : State) (t t′ rest : List ℕ) (h : Header) → length (encodeHeader A s) ≡ 18 → t ≡ encodeHeader A s ++ rest
     → h ≡ headerOf A s′ → t′ ≡ headed t h → t′ ≡ encodeHeader A s′ ++ rest
-unfolding encodeHeader headerBytes headed
+unfolding headerBytes headed
 header-written A s s′ t t′ rest h l told is e =
     e ∙ ap₂ (λ (x : Header) (y : List ℕ). headerBytes x ++ y) is (ap (drop 18) told ∙ drop-at (encodeHeader A s) rest 18 l)

@@ -11,10 +11,10 @@ use Rattle.machine.specs.Valid.{Valid}
 use Rattle.buffer.specs.Buffer.{spliced, rotated}
 use Rattle.row.specs.Row.{Row, encodeRow, encodeRows, contentsOf}
 use Rattle.layout.specs.declared.Header.{Header}
-use Rattle.layout.specs.Memory.{rowsOf, encodeHeader, Stands}
+use Rattle.layout.specs.Memory.{rowsOf, Stands}
 use Rattle.layout.specs.RowCounts.{length-contents}
 use Rattle.layout.specs.StandsLaws.{length-header}
-use Rattle.edit.specs.Header.{headerOf, headed}
+use Rattle.layout.specs.Header.{headerOf, headed, encodeHeader}
 use Rattle.edit.proofs.RowLists.{rows-spliced, data-spliced, data-rotated, header-written}
 
 module _ (t a : List ℕ) (s : State) (h : Stands t a s) (s′ : State) (valid : Valid (length a) s′) (t₁ t′ a′ : List ℕ) (header : Header)

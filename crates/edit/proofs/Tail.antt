@@ -9,8 +9,9 @@ use Rattle.machine.specs.State.{State, held}
 use Rattle.machine.specs.Valid.{Valid}
 use Rattle.number.proofs.Fields.{over}
 use Rattle.row.specs.Row.{encodeRows, contentsOf}
-use Rattle.layout.specs.Memory.{rowsOf, encodeHeader, Stands}
+use Rattle.layout.specs.Memory.{rowsOf, Stands}
 use Rattle.layout.specs.RowCounts.{length-contents}
+use Rattle.layout.specs.Header.{encodeHeader}
 
 module _ (t a : List ℕ) (s : State) (h : Stands t a s) (a′ d : List ℕ) (n : ℕ) (e : a′ ≡ over a (held s) d n) (keeps : length a′ ≡ length a) where
   tail-told : a′ ≡ contentsOf (rowsOf s) ++ (d ++ drop (held s + n) a)

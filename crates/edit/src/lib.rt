@@ -1,4 +1,3 @@
 // Changes of memory that stands for a state.
-pub mod header;
 pub mod objects;
 pub mod rows;

@@ -4,35 +4,12 @@ use md5::words::Digest;
 use row::Head;
 ghost use mathlib.Core.Path.{_≡_};
 ghost use Prim.Native.Nat.{_+_, _≤_};
-ghost use mathlib.Core.List.{[], _++_};
-ghost use lib.ListN.{length, drop};
+ghost use mathlib.Core.List.{[]};
+ghost use lib.ListN.{length};
 ghost use Rattle.md5.specs.Md5.{bytesOf};
 ghost use Rattle.buffer.specs.Buffer.{spliced};
-ghost use Rattle.edit.specs.Header.{headed};
-ghost use Rattle.edit.specs.RowBytes.{rowBytes};
-
-// The numbers of a head, over the first twenty bytes.
-fn write_numbers(out: &mut [u8], h: Head)
-    requires { ⌜ 20 ≤ length (now out) ⌝ }
-    ensures { λ _. ⌜ now (out .exit) ≡ rowBytes h [] [] ++ drop 20 (now (out .entry)) ⌝ }
-{
-    number::put_u32(out, 0, h.size);
-    number::put_u32(out, 4, h.number);
-    number::put_u64(out, 8, h.stamp);
-    let pair = number::wide(h.kind) + 256 * number::wide(h.pathlen);
-    number::put_u16(out, 16, pair);
-    number::put_u16(out, 18, h.count);
-}
-
-// A row, over the first bytes.
-fn write_row(out: &mut [u8], h: Head, digest: Digest, path: &[u8])
-    requires { ⌜ 36 + length (now path) ≤ length (now out) ⌝ }
-    ensures { λ _. ⌜ now (out .exit) ≡ rowBytes h (bytesOf digest) (now (path .entry)) ++ drop (36 + length (now (path .entry))) (now (out .entry)) ⌝ }
-{
-    write_numbers(out, h);
-    md5::put(out, 20, digest);
-    buffer::copy_at(out, 36, path);
-}
+ghost use Rattle.layout.specs.Header.{headed};
+ghost use Rattle.row.specs.Row.{rowBytes};
 
 // A row put in at `at`, where `used` bytes of the tables are used.
 pub fn insert_row(
@@ -48,10 +25,10 @@ pub fn insert_row(
     ensures { λ _. ⌜ now (tables .exit) ≡ headed (spliced (now (tables .entry)) at 0 used (rowBytes h (bytesOf digest) (now (path .entry)))) header ⌝ }
 {
     let mut row = [0u8; 164];
-    write_row(&mut row, h, digest, path);
+    row::write_row(&mut row, h, digest, path);
     let n = 36 + path.len();
     buffer::splice(tables, at, 0, used, &row[..n]);
-    crate::header::write_header(tables, header);
+    layout::headers::write_header(tables, header);
 }
 
 // The rows of the n bytes at `at`, cut out.
@@ -60,5 +37,5 @@ pub fn remove_rows(tables: &mut [u8], at: usize, n: usize, used: usize, header: 
     ensures { λ _. ⌜ now (tables .exit) ≡ headed (spliced (now (tables .entry)) at n used []) header ⌝ }
 {
     buffer::remove(tables, at, n, used);
-    crate::header::write_header(tables, header);
+    layout::headers::write_header(tables, header);
 }

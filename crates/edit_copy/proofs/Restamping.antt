@@ -17,26 +17,24 @@ use Rattle.machine.specs.Valid.{ObjectOk}
 use Rattle.machine.proofs.MapSums.{length-insert}
 use Rattle.machine.proofs.MapLaws.{lookup-insert, every-lookup}
 use Rattle.row.specs.declared.Head.{Head}
-use Rattle.row.specs.Row.{Row, encodeRow, encodeRows, contentsOf, headAt, headOf}
+use Rattle.row.specs.Row.{Row, encodeRow, encodeRows, contentsOf, headAt, headOf, rowBytes}
 use Rattle.row.specs.RowLaws.{length-row, encode-append, contents-append}
 use Rattle.layout.specs.declared.Header.{Header}
-use Rattle.layout.specs.Memory.{rowsOf, objectRow, encodeHeader, headerAt, stateOf, Stands}
+use Rattle.layout.specs.Memory.{rowsOf, objectRow, stateOf, Stands}
 use Rattle.layout.specs.TestLaws.{stored-path-length}
 use Rattle.layout.specs.WholeLaws.{whole-stands}
 use Rattle.layout.specs.StandsLaws.{length-header, header-back}
 use Rattle.layout.specs.declared.Offset.{Offset}
+use Rattle.layout.specs.Header.{headerOf, headed, encodeHeader, headerAt}
 use Rattle.find.specs.declared.Place.{Place}
 use Rattle.find.specs.Places.{behind, beforeObject, afterObject, objectPlace}
 use Rattle.find.proofs.Splits.{object-found}
 use Rattle.find.proofs.RowsAt.{At, row-at}
 use Rattle.find.proofs.Found.{is-some}
-use Rattle.edit.specs.Header.{headerOf, headed}
-use Rattle.edit.specs.RowBytes.{rowBytes}
 use Rattle.edit.specs.Objects.{plainWith}
 use Rattle.edit.proofs.Changes.{old-object-rows}
 use Rattle.edit.proofs.Fit.{tables-fit}
 use Rattle.edit.proofs.RowLists.{rows-spliced, header-written}
-use Rattle.edit.proofs.RowFields.{row-bytes}
 use Rattle.edit_copy.specs.Copy.{contentIn, contentAt, Copiable}
 
 contents-cons : (r r′ : Row) (rs : List Row) → r .content ≡ r′ .content → contentsOf (r ∷ rs) ≡ contentsOf (r′ ∷ rs)
@@ -152,7 +150,7 @@ module _ (t a p : List ℕ) (b : Bytes t) (stamp : ℕ) (digest : Digest) (pre :
         let size-is : old .size ≡ length (x .content) = ap (λ (q : Head). q .size) (old-is ∙ ap (λ (i : ℕ). headAt (drop i t)) at-is ∙ here .head) in
         let head-is : record { size = old .size; number = 0; stamp = stamp; kind = 0; pathlen = length p; count = 0 } ≡ headOf (objectRow p y) = rw (size-is, content-is) in
         let bytes-is : rowBytes (record { size = old .size; number = 0; stamp = stamp; kind = 0; pathlen = length p; count = 0 }) (bytesOf digest) p ≡ encodeRow (objectRow p y) ++ [] =
-        ap (λ (q : Head). rowBytes q (bytesOf digest) p) head-is ∙ row-bytes (objectRow p y) ∙ sym (append-nil (encodeRow (objectRow p y))) in
+        ap (λ (q : Head). rowBytes q (bytesOf digest) p) head-is ∙ sym (append-nil (encodeRow (objectRow p y))) in
         let src = rowBytes (record { size = old .size; number = 0; stamp = stamp; kind = 0; pathlen = length p; count = 0 }) (bytesOf digest) p in
         let t₂ = spliced t₁ (place .at) 0 (end .at - (36 + length p)) src in
         let is : t₂ ≡ spliced t₁ (18 + length (encodeRows xs)) 0 (18 + length (encodeRows (xs ++ ([] ++ ys)))) src = ap₂ (λ (i j : ℕ). spliced t₁ i 0 j src) at-is (sym between-length) in

@@ -18,21 +18,20 @@ use Rattle.machine.specs.Valid.{Valid, PartOk, UploadOk}
 use Rattle.machine.proofs.MapLaws.{lookup-insert, every-lookup}
 use Rattle.machine.proofs.Counts.{parts-part}
 use Rattle.row.specs.declared.Head.{Head}
-use Rattle.row.specs.Row.{encodeRows, contentsOf, headAt, headOf}
+use Rattle.row.specs.Row.{encodeRows, contentsOf, headAt, headOf, rowBytes}
 use Rattle.row.specs.RowLaws.{Encodable}
 use Rattle.layout.specs.declared.Header.{Header}
-use Rattle.layout.specs.Memory.{rowsOf, partRow, headerAt, whole, stateOf, Stands}
+use Rattle.layout.specs.Memory.{rowsOf, partRow, whole, stateOf, Stands}
 use Rattle.layout.specs.UploadLaws.{part-encodable}
 use Rattle.layout.specs.WholeLaws.{whole-stands}
 use Rattle.layout.specs.StandsLaws.{header-back}
 use Rattle.layout.specs.declared.Offset.{Offset}
+use Rattle.layout.specs.Header.{headerOf, headed, headerAt}
 use Rattle.find.specs.declared.Place.{Place}
 use Rattle.find.specs.Places.{behind, beforePart, afterPart, fromPart, partPlace}
 use Rattle.find.proofs.RowsAt.{row-at}
 use Rattle.find.proofs.Splits.{part-place, part-found}
 use Rattle.find.proofs.Found.{is-some}
-use Rattle.edit.specs.Header.{headerOf, headed}
-use Rattle.edit.specs.RowBytes.{rowBytes}
 use Rattle.edit.proofs.Changes.{without-part-rows, new-part-rows}
 use Rattle.edit.proofs.OneRow as row
 use Rattle.edit_uploads.specs.Parts.{withoutPart, partBehind}

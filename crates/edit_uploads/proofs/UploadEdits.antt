@@ -20,24 +20,23 @@ use Rattle.machine.proofs.MapSums.{length-insert, length-remove, total-insert, 
 use Rattle.machine.proofs.MapLaws.{lookup-insert, every-lookup}
 use Rattle.machine.proofs.KeepsValid.{without-upload-valid}
 use Rattle.row.specs.declared.Head.{Head}
-use Rattle.row.specs.Row.{Row, encodeRows, contentsOf, headOf}
+use Rattle.row.specs.Row.{Row, encodeRows, contentsOf, headOf, rowBytes}
 use Rattle.row.specs.RowLaws.{Encodable, encode-append, contents-append}
 use Rattle.layout.specs.declared.Header.{Header}
 use Rattle.layout.specs.Rules.{zeros}
-use Rattle.layout.specs.Memory.{rowsOf, uploadRow, partRows, headerAt, whole, stateOf, Stands}
+use Rattle.layout.specs.Memory.{rowsOf, uploadRow, partRows, whole, stateOf, Stands}
 use Rattle.layout.specs.TestLaws.{stored-path-length}
 use Rattle.layout.specs.UploadLaws.{upload-encodable}
 use Rattle.layout.specs.WholeLaws.{whole-stands}
 use Rattle.layout.specs.StandsLaws.{header-back}
 use Rattle.layout.specs.RowCounts.{length-contents}
 use Rattle.layout.specs.declared.Offset.{Offset}
+use Rattle.layout.specs.Header.{headerOf, headed, headerAt}
 use Rattle.find.specs.declared.Place.{Place}
 use Rattle.find.specs.declared.Parts.{Parts}
 use Rattle.find.specs.Places.{behind, beforeUpload, beforeParts, afterUpload, throughParts, uploadPlace, partsOf}
 use Rattle.find.proofs.Splits.{upload-found, parts-behind}
 use Rattle.find.proofs.Found.{is-some}
-use Rattle.edit.specs.Header.{headerOf, headed}
-use Rattle.edit.specs.RowBytes.{rowBytes}
 use Rattle.edit.proofs.Changes.{new-upload-rows, without-upload-rows}
 use Rattle.edit.proofs.Fit.{tables-fit}
 use Rattle.edit.proofs.Standing.{removed}

@@ -9,8 +9,9 @@ use Rattle.machine.specs.State.{State}
 use Rattle.row.specs.declared.Head.{Head}
 use Rattle.row.specs.Row.{Row, encodeRow, encodeRows, contentsOf, headAt, digestAt, pathAt, headOf}
 use Rattle.row.specs.RowLaws.{Encodable, EncodableAll, encode-append, contents-append, encodable-right, length-row, head-back, digest-back, path-back}
-use Rattle.layout.specs.Memory.{rowsOf, encodeHeader, Stands}
+use Rattle.layout.specs.Memory.{rowsOf, Stands}
 use Rattle.layout.specs.StandsLaws.{rows-encodable, length-header}
+use Rattle.layout.specs.Header.{encodeHeader}
 
 -- tables and arena, cut behind the rows xs, where ys are the rest
 pub record Cut (t a : List ℕ) (s : State) (h : Stands t a s) (xs ys : List Row) : Type 0 where

@@ -26,12 +26,12 @@ use Rattle.machine.proofs.KeepsValid.{without-upload-valid}
 use Rattle.row.specs.Row.{Row, encodeRows, contentsOf}
 use Rattle.row.specs.RowLaws.{encode-append, contents-append}
 use Rattle.layout.specs.declared.Header.{Header}
-use Rattle.layout.specs.Memory.{uploadRow, partRows, rowsOf, encodeHeader, Stands}
+use Rattle.layout.specs.Memory.{uploadRow, partRows, rowsOf, Stands}
 use Rattle.layout.specs.RowCounts.{length-contents, length-part-contents}
 use Rattle.layout.specs.StandsLaws.{length-header}
+use Rattle.layout.specs.Header.{headerOf, headed, encodeHeader}
 use Rattle.find.specs.Places.{beforeUpload, beforeParts, throughParts, afterUpload}
 use Rattle.find.proofs.Splits.{parts-place, parts-behind}
-use Rattle.edit.specs.Header.{headerOf, headed}
 use Rattle.edit.proofs.Changes.{without-upload-rows}
 use Rattle.edit.proofs.Fit.{tables-fit}
 use Rattle.edit.proofs.RowLists.{rows-spliced, header-written}

@@ -1,1 +1,2 @@
 pub mod FreeBytes
+pub mod HeaderFields

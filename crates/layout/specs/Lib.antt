@@ -1,4 +1,5 @@
 pub mod Rules
+pub mod Header
 pub mod Memory
 pub mod TestLaws
 pub mod ObjectLaws

@@ -4,17 +4,17 @@ use mathlib.Core.Path.{_≡_}
 use mathlib.Core.Bool.{Bool, cond}
 use mathlib.Core.List.{List, [], _∷_, _++_}
 use lib.Dec.{leb, eqb}
-use lib.ListN.{length, getD, drop}
-use Rattle.machine.specs.Map.{Map, total}
+use lib.ListN.{length, drop}
+use Rattle.machine.specs.Map.{Map}
 use Rattle.machine.specs.Names.{Bytes}
 use Rattle.machine.specs.Etags.{Etag, absent, plain, joined, countOf, digestOf}
-use Rattle.machine.specs.State.{Object, Part, Upload, State, partsIn}
+use Rattle.machine.specs.State.{Object, Part, Upload, State}
 use Rattle.machine.specs.Valid.{Valid}
-use Rattle.row.specs.Fields.{fields, numbersAt}
 use Rattle.row.specs.Row.{Row, encodeRows, contentsOf, rowsAt, pastRows, pastData, good}
 use Rattle.layout.specs.declared.Mark.{Mark}
 use Rattle.layout.specs.declared.Header.{Header}
 use Rattle.layout.specs.Rules.{plainKind, joinedKind, uploadKind, partKind, all, zeros, objectOk, objectNext, entryOk, entryNext, start}
+use Rattle.layout.specs.Header.{headerLength, encodeHeader, headerAt}
 
 -- The rows of a state ------------------------------------------------------------------------------------------------------
 
@@ -53,20 +53,7 @@ uploadRows (e ∷ m) = uploadRow (e .0) (e .1) ∷ (partRows (e .1 .parts) ++ up
 unfoldable pub rowsOf : State → List Row
 rowsOf s = objectRows (s .O) ++ uploadRows (s .U)
 
--- The header -----------------------------------------------------------------------------------------------------------------
-
--- arena length 4, N 8, objects 2, uploads 2, parts 2
-abbrev pub headerWidths : List ℕ
-headerWidths = 4 ∷ 8 ∷ 2 ∷ 2 ∷ 2 ∷ []
-
-unfoldable pub encodeHeader : (A : ℕ) → State → List ℕ
-encodeHeader A s = fields headerWidths (A ∷ s .N ∷ length (s .O) ∷ length (s .U) ∷ total partsIn (s .U) ∷ [])
-
-abbrev pub headerFrom : List ℕ → Header
-headerFrom v = record { arena = getD v 0 0; next = getD v 1 0; objects = getD v 2 0; uploads = getD v 3 0; parts = getD v 4 0 }
-
-unfoldable pub headerAt : List ℕ → Header
-headerAt t = headerFrom (numbersAt headerWidths t)
+-- The lengths ---------------------------------------------------------------------------------------------------------------
 
 -- header, 256 objects and 16 uploads with paths of 128 bytes, 256 parts
 abbrev pub tablesLength : ℕ
@@ -113,13 +100,13 @@ opens (r ∷ rs) = cond (eqb (r .kind) uploadKind) 1 0 + opens rs
 module _ (t a : List ℕ) where
   -- the rows of objects, and those behind them
   unfoldable pub objectRowsAt : List Row
-  objectRowsAt = rowsAt (headerAt t .objects) (drop 18 t) a
+  objectRowsAt = rowsAt (headerAt t .objects) (drop headerLength t) a
 
   unfoldable pub uploadTables : List ℕ
-  uploadTables = pastRows (headerAt t .objects) (drop 18 t)
+  uploadTables = pastRows (headerAt t .objects) (drop headerLength t)
 
   unfoldable pub uploadArena : List ℕ
-  uploadArena = pastData (headerAt t .objects) (drop 18 t) a
+  uploadArena = pastData (headerAt t .objects) (drop headerLength t) a
 
   unfoldable pub uploadRowsAt : List Row
   uploadRowsAt = rowsAt (headerAt t .uploads + headerAt t .parts) uploadTables uploadArena
@@ -143,7 +130,7 @@ headerOk T A h =
     ∷ [])
 
 unfoldable pub objectsGood : (t a : List ℕ) → Bool
-objectsGood t a = good (List ℕ) objectOk objectNext (headerAt t .objects) [] (drop 18 t) a
+objectsGood t a = good (List ℕ) objectOk objectNext (headerAt t .objects) [] (drop headerLength t) a
 
 unfoldable pub uploadsGood : (t a : List ℕ) → Bool
 uploadsGood t a =

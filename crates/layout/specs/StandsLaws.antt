@@ -7,8 +7,7 @@ use native.Mathlib.Omega.{arith}
 use borrow.Author.Tests.{le-leb, eq-eqb}
 use lib.ListN.{length, drop}
 use lib.Seq.{drop-at}
-use Rattle.machine.specs.Map.{total}
-use Rattle.machine.specs.State.{State, partsIn, held}
+use Rattle.machine.specs.State.{State, held}
 use Rattle.machine.specs.Valid.{Valid}
 use Rattle.row.specs.Fields.{numbersAt, Fit}
 use Rattle.row.specs.FieldLaws.{length-fields, numbers-fields}
@@ -17,7 +16,8 @@ use Rattle.row.specs.RowLaws.{EncodableAll, encode-append, contents-append, enc
 use Rattle.layout.specs.declared.Mark.{Mark}
 use Rattle.layout.specs.declared.Header.{Header}
 use Rattle.layout.specs.Rules.{objectOk, objectNext, entryOk, entryNext, start}
-use Rattle.layout.specs.Memory.{objectRows, uploadRows, rowsOf, headerWidths, encodeHeader, headerFrom, headerAt, arenaMost, objectsOf, nest, Nest, opens, objectRowsAt, uploadTables, uploadArena, uploadRowsAt, stateOf, headerOk, objectsGood, uploadsGood, whole, Stands}
+use Rattle.layout.specs.Header.{headerWidths, headerLength, headerNumbers, headerBytes, headerOf, encodeHeader, headerFrom, headerAt}
+use Rattle.layout.specs.Memory.{objectRows, uploadRows, rowsOf, arenaMost, objectsOf, nest, Nest, opens, objectRowsAt, uploadTables, uploadArena, uploadRowsAt, stateOf, headerOk, objectsGood, uploadsGood, whole, Stands}
 use Rattle.layout.specs.TestLaws.{true-all}
 use Rattle.layout.specs.ObjectLaws.{objects-back, length-object-rows, object-rows-encodable, object-rows-follow, objects-first}
 use Rattle.layout.specs.UploadLaws.{length-upload-rows, opens-uploads, nest-back, upload-rows-encodable, upload-rows-follow, uploads-first}
@@ -31,7 +31,7 @@ rows-encodable A s l v =
     (object-rows-encodable (s .O) (omega (arith, length-object-contents (s .O))) (v .object))
     (upload-rows-encodable (s .N) (s .U) (v .last) (omega (arith, length-upload-contents (s .U))) (v .upload))
 
-pub header-fits : (A : ℕ) (s : State) → A ≤ arenaMost → Valid A s → Fit headerWidths (A ∷ s .N ∷ length (s .O) ∷ length (s .U) ∷ total partsIn (s .U) ∷ [])
+pub header-fits : (A : ℕ) (s : State) → A ≤ arenaMost → Valid A s → Fit headerWidths (headerNumbers (headerOf A s))
 header-fits A s l v =
     let n = v .last in
     let o = v .paths in
@@ -39,21 +39,21 @@ header-fits A s l v =
     let p = v .parts in
     (omega arith, (omega arith, (omega arith, (omega arith, (omega arith, tt)))))
 
-pub length-header : (A : ℕ) (s : State) → A ≤ arenaMost → Valid A s → length (encodeHeader A s) ≡ 18
-unfolding encodeHeader
+pub length-header : (A : ℕ) (s : State) → A ≤ arenaMost → Valid A s → length (encodeHeader A s) ≡ headerLength
+unfolding headerBytes
 length-header A s l v = length-fields headerWidths _ (header-fits A s l v)
 
 module _ (t a : List ℕ) (s : State) (h : Stands t a s) where
   abbrev behind : List ℕ
   behind = encodeRows (rowsOf s) ++ h .tables-free
 
-  pub header-back : headerAt t ≡ record { arena = length a; next = s .N; objects = length (s .O); uploads = length (s .U); parts = total partsIn (s .U) }
-  unfolding headerAt encodeHeader
+  pub header-back : headerAt t ≡ headerOf (length a) s
+  unfolding headerAt headerBytes
   header-back =
       ap headerFrom (ap (numbersAt headerWidths) (h .tables) ∙ numbers-fields headerWidths _ behind (header-fits (length a) s (h .small) (h .valid)))
 
-  pub past-header : drop 18 t ≡ encodeRows (rowsOf s) ++ h .tables-free
-  past-header = ap (drop 18) (h .tables) ∙ drop-at (encodeHeader (length a) s) behind 18 (length-header (length a) s (h .small) (h .valid))
+  pub past-header : drop headerLength t ≡ encodeRows (rowsOf s) ++ h .tables-free
+  past-header = ap (drop headerLength) (h .tables) ∙ drop-at (encodeHeader (length a) s) behind headerLength (length-header (length a) s (h .small) (h .valid))
 
   encodable : EncodableAll (rowsOf s)
   encodable = rows-encodable (length a) s (h .small) (h .valid)
@@ -78,7 +78,7 @@ module _ (t a : List ℕ) (s : State) (h : Stands t a s) where
   abbrev upload-data : List ℕ
   upload-data = contentsOf (uploadRows (s .U)) ++ h .arena-free
 
-  tables₁-is : drop 18 t ≡ encodeRows (objectRows (s .O)) ++ upload-rest
+  tables₁-is : drop headerLength t ≡ encodeRows (objectRows (s .O)) ++ upload-rest
   unfolding rowsOf
   tables₁-is = past-header ∙ ap (λ (l : List ℕ). l ++ h .tables-free) (encode-append (objectRows (s .O)) (uploadRows (s .U))) ∙ append-assoc (encodeRows (objectRows (s .O))) (encodeRows (uploadRows (s .U))) (h .tables-free)
 
@@ -95,21 +95,21 @@ module _ (t a : List ℕ) (s : State) (h : Stands t a s) where
   objects-are : objectRowsAt t a ≡ objectRows (s .O)
   unfolding objectRowsAt
   objects-are =
-      ap (λ (n : ℕ). rowsAt n (drop 18 t) a) count-is
+      ap (λ (n : ℕ). rowsAt n (drop headerLength t) a) count-is
       ∙ ap₂ (rowsAt (length (objectRows (s .O)))) tables₁-is arena₁-is
       ∙ rows-back (objectRows (s .O)) upload-rest upload-data encodable-objects
 
   upload-tables-are : uploadTables t a ≡ upload-rest
   unfolding uploadTables
   upload-tables-are =
-      ap (λ (n : ℕ). pastRows n (drop 18 t)) count-is
+      ap (λ (n : ℕ). pastRows n (drop headerLength t)) count-is
       ∙ ap (pastRows (length (objectRows (s .O)))) tables₁-is
       ∙ past-back (objectRows (s .O)) upload-rest encodable-objects
 
   upload-arena-is : uploadArena t a ≡ upload-data
   unfolding uploadArena
   upload-arena-is =
-      ap (λ (n : ℕ). pastData n (drop 18 t) a) count-is
+      ap (λ (n : ℕ). pastData n (drop headerLength t) a) count-is
       ∙ ap₂ (pastData (length (objectRows (s .O)))) tables₁-is arena₁-is
       ∙ past-data-back (objectRows (s .O)) upload-rest upload-data encodable-objects
 
@@ -158,7 +158,7 @@ module _ (t a : List ℕ) (s : State) (h : Stands t a s) where
   objects-ok-back : objectsGood t a ≡ true
   unfolding objectsGood
   objects-ok-back =
-      ap (λ (n : ℕ). good (List ℕ) objectOk objectNext n [] (drop 18 t) a) count-is
+      ap (λ (n : ℕ). good (List ℕ) objectOk objectNext n [] (drop headerLength t) a) count-is
       ∙ ap₂ (good (List ℕ) objectOk objectNext (length (objectRows (s .O))) []) tables₁-is arena₁-is
       ∙ rows-complete (List ℕ) objectOk objectNext [] (objectRows (s .O)) upload-rest upload-data encodable-objects
       (object-rows-follow [] (s .O) (objects-first (s .O) (h .valid .object)) (h .valid .objects) (h .valid .object))

@@ -18,7 +18,8 @@ use Rattle.row.specs.RowLaws.{EncodableAll, Follows, encode-append, contents-ap
 use Rattle.layout.specs.declared.Mark.{Mark}
 use Rattle.layout.specs.declared.Header.{Header}
 use Rattle.layout.specs.Rules.{objectOk, objectNext, entryOk, entryNext, start}
-use Rattle.layout.specs.Memory.{partRows, uploadRows, rowsOf, headerWidths, encodeHeader, headerAt, tablesLength, arenaMost, nest, opens, objectRowsAt, uploadTables, uploadArena, uploadRowsAt, stateOf, headerOk, objectsGood, uploadsGood, whole, Stands}
+use Rattle.layout.specs.Header.{headerWidths, headerLength, headerNumbers, headerBytes, encodeHeader, headerAt}
+use Rattle.layout.specs.Memory.{partRows, uploadRows, rowsOf, tablesLength, arenaMost, nest, opens, objectRowsAt, uploadTables, uploadArena, uploadRowsAt, stateOf, headerOk, objectsGood, uploadsGood, whole, Stands}
 use Rattle.layout.specs.TestLaws.{all-true}
 use Rattle.layout.specs.ObjectLaws.{object-rows-same, objects-ascending, objects-ok, length-objects}
 use Rattle.layout.specs.UploadLaws.{Nested, nested, length-uploads, length-upload-rows}
@@ -49,7 +50,7 @@ header-is T A h e =
       parts = leb-true _ _ (g .1 .1 .1 .1 .1 .1 .1 .0);
     }
 
-header-numbers : (t : List ℕ) → numbersAt headerWidths t ≡ headerAt t .arena ∷ headerAt t .next ∷ headerAt t .objects ∷ headerAt t .uploads ∷ headerAt t .parts ∷ []
+header-numbers : (t : List ℕ) → numbersAt headerWidths t ≡ headerNumbers (headerAt t)
 unfolding headerAt numbersAt
 header-numbers t = refl
 
@@ -59,7 +60,7 @@ module _ (t a : List ℕ) (b : Bytes t) (w : whole t a ≡ true) where
   header = header-is _ _ _ (all-true _ w .0)
 
   abbrev t₁ : List ℕ
-  t₁ = drop 18 t
+  t₁ = drop headerLength t
 
   objects-good : good (List ℕ) objectOk objectNext (headerAt t .objects) [] t₁ a ≡ true
   unfolding whole objectsGood
@@ -74,7 +75,7 @@ module _ (t a : List ℕ) (b : Bytes t) (w : whole t a ≡ true) where
   counted-opens = eqb-true _ _ (all-true _ w .1 .1 .1 .0)
 
   b₁ : Bytes t₁
-  b₁ = bytes-drop 18 t b
+  b₁ = bytes-drop headerLength t b
 
   tables₁ : encodeRows (objectRowsAt t a) ++ uploadTables t a ≡ t₁
   unfolding objectRowsAt uploadTables
@@ -139,7 +140,7 @@ module _ (t a : List ℕ) (b : Bytes t) (w : whole t a ≡ true) where
       omega (arith, length-upload-rows (nest (uploadRowsAt t a) .uploads), ap length upload-rows-same, n, length-uploads (uploadRowsAt t a), counted-opens)
 
   header-same : encodeHeader (length a) (stateOf t a) ≡ fields headerWidths (numbersAt headerWidths t)
-  unfolding encodeHeader stateOf
+  unfolding headerBytes stateOf
   header-same = rw (header-numbers t, count-objects, count-uploads, count-parts, header .arena)
 
   tables-same : t ≡ encodeHeader (length a) (stateOf t a) ++ (encodeRows (rowsOf (stateOf t a)) ++ free)

@@ -1,13 +1,14 @@
-// The header of the tables.
+// The header of the tables, read, written and judged.
 ghost use mathlib.Core.Path.{_≡_};
 ghost use Prim.Native.Nat.{_≤_};
 ghost use lib.ListN.{length};
-ghost use Rattle.layout.specs.Memory.{headerAt, headerOk};
+ghost use Rattle.layout.specs.Header.{headerLength, headerAt, headed};
+ghost use Rattle.layout.specs.Memory.{headerOk};
 use crate::Header;
 
-// The header, as it stands in the first 18 bytes.
+// The header, as it stands in the first bytes.
 pub fn read_header(t: &[u8]) -> Header
-    requires { ⌜ 18 ≤ length (now t) ⌝ }
+    requires { ⌜ headerLength ≤ length (now t) ⌝ }
     ensures { λ r. ⌜ r ≡ headerAt (now (t .entry)) ⌝ }
 {
     Header {
@@ -17,6 +18,18 @@ pub fn read_header(t: &[u8]) -> Header
         uploads: number::get_u16(t, 14),
         parts: number::get_u16(t, 16),
     }
+}
+
+// h over the first bytes of the tables.
+pub fn write_header(tables: &mut [u8], h: Header)
+    requires { ⌜ headerLength ≤ length (now tables) ⌝ }
+    ensures { λ _. ⌜ now (tables .exit) ≡ headed (now (tables .entry)) h ⌝ }
+{
+    number::put_u32(tables, 0, h.arena);
+    number::put_u64(tables, 4, h.next);
+    number::put_u16(tables, 12, h.objects);
+    number::put_u16(tables, 14, h.uploads);
+    number::put_u16(tables, 16, h.parts);
 }
 
 // The header of a store whose tables and arena have these lengths.

@@ -21,9 +21,10 @@ use Rattle.machine.proofs.KeepsValid.{next-valid}
 use Rattle.machine.proofs.MapSums.{length-insert}
 use Rattle.order.specs.OrderLaws.{compare-above}
 use Rattle.layout.specs.declared.Header.{Header}
-use Rattle.layout.specs.Memory.{headerAt, whole, stateOf, Stands}
+use Rattle.layout.specs.Memory.{whole, stateOf, Stands}
 use Rattle.layout.specs.WholeLaws.{whole-stands}
 use Rattle.layout.specs.StandsLaws.{header-back}
+use Rattle.layout.specs.Header.{headerAt}
 use Rattle.calls.specs.Made.{memory, outcome, resultOf}
 use Rattle.calls.proofs.Judging.{pass, stop, passed}
 

@@ -21,12 +21,30 @@ pub record Row : Type 0 where
 abbrev pub widths : List ℕ
 widths = 4 ∷ 4 ∷ 8 ∷ 1 ∷ 1 ∷ 2 ∷ []
 
-abbrev pub numbersOf : Row → List ℕ
-numbersOf r = length (r .content) ∷ r .number ∷ r .stamp ∷ r .kind ∷ length (r .path) ∷ r .count ∷ []
+abbrev pub numbersOf : Head → List ℕ
+numbersOf h = h .size ∷ h .number ∷ h .stamp ∷ h .kind ∷ h .pathlen ∷ h .count ∷ []
 
--- the numbers (20 bytes), the digest (16), the path
-unfoldable pub encodeRow : Row → List ℕ
-encodeRow r = fields widths (numbersOf r) ++ (r .digest ++ r .path)
+-- how many bytes the numbers take, and the numbers with the digest
+abbrev pub numbersLength : ℕ
+numbersLength = 20
+
+abbrev pub headLength : ℕ
+headLength = 36
+
+-- how many bytes the row with a head takes
+abbrev pub span : Head → ℕ
+span h = headLength + h .pathlen
+
+-- the bytes of a row: its numbers, its digest and its path
+unfoldable pub rowBytes : Head → (digest path : List ℕ) → List ℕ
+rowBytes h digest path = fields widths (numbersOf h) ++ (digest ++ path)
+
+-- the head of a row, and its bytes
+abbrev pub headOf : Row → Head
+headOf r = record { size = length (r .content); number = r .number; stamp = r .stamp; kind = r .kind; pathlen = length (r .path); count = r .count }
+
+abbrev pub encodeRow : Row → List ℕ
+encodeRow r = rowBytes (headOf r) (r .digest) (r .path)
 
 -- rows end to end, and their data end to end
 unfoldable pub encodeRows : List Row → List ℕ
@@ -46,14 +64,13 @@ unfoldable pub headAt : List ℕ → Head
 headAt t = headFrom (numbersAt widths t)
 
 unfoldable pub digestAt : List ℕ → List ℕ
-digestAt t = take 16 (drop 20 t)
+digestAt t = take 16 (drop numbersLength t)
 
 unfoldable pub pathAt : List ℕ → List ℕ
-pathAt t = take (headAt t .pathlen) (drop 36 t)
+pathAt t = take (headAt t .pathlen) (drop headLength t)
 
--- how many bytes the row takes
 unfoldable pub spanAt : List ℕ → ℕ
-spanAt t = 36 + headAt t .pathlen
+spanAt t = span (headAt t)
 
 -- the row at the front of t, with its data at the front of a
 unfoldable pub rowAt : (t a : List ℕ) → Row
@@ -70,11 +87,7 @@ rowAt t a =
 
 -- the row is all in t, and its data all in a
 unfoldable pub inside : (t a : List ℕ) → Bool
-inside t a = leb 36 (length t) && (leb (spanAt t) (length t) && leb (headAt t .size) (length a))
-
--- the head of a row
-abbrev pub headOf : Row → Head
-headOf r = headFrom (numbersOf r)
+inside t a = leb headLength (length t) && (leb (spanAt t) (length t) && leb (headAt t .size) (length a))
 
 -- n rows from the front of t on, with their data from the front of a on; and what stands behind them
 unfoldable pub rowsAt : ℕ → (t a : List ℕ) → List Row

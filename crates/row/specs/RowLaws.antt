@@ -11,11 +11,11 @@ use lib.Seq.{drop-drop, take-at, drop-at, length-take-le}
 use Rattle.number.specs.NumberLaws.{Bytes, bytes-drop}
 use Rattle.row.specs.Fields.{fields, numbersAt, Fit}
 use Rattle.row.specs.FieldLaws.{length-fields, fields-numbers, numbers-fit, numbers-fields}
-use Rattle.row.specs.Row.{Row, widths, numbersOf, encodeRow, encodeRows, contentsOf, headFrom, headAt, digestAt, pathAt, spanAt, rowAt, inside, headOf, rowsAt, pastRows, pastData, good}
+use Rattle.row.specs.Row.{Row, widths, numbersOf, numbersLength, headLength, span, rowBytes, encodeRow, encodeRows, contentsOf, headFrom, headAt, digestAt, pathAt, spanAt, rowAt, inside, headOf, rowsAt, pastRows, pastData, good}
 
 -- a row that its bytes can hold
 pub record Encodable (r : Row) : Type 0 where
-  pub fits : Fit widths (numbersOf r)
+  pub fits : Fit widths (numbersOf (headOf r))
   pub digest : length (r .digest) ≡ 16
 
 abbrev pub EncodableAll : List Row → Type 0
@@ -34,16 +34,16 @@ pub and-both : (a b : Bool) → a ≡ true → b ≡ true → (a && b) ≡ true
 and-both a b e f = rw (e, f)
 
 pub record Inside (t a : List ℕ) : Type 0 where
-  pub head : 36 ≤ length t
+  pub head : headLength ≤ length t
   pub row : spanAt t ≤ length t
   pub content : headAt t .size ≤ length a
 
 pub inside-true : (t a : List ℕ) → inside t a ≡ true → Inside t a
 unfolding inside
 inside-true t a e =
-    let f = and-right (leb 36 (length t)) _ e in
+    let f = and-right (leb headLength (length t)) _ e in
     record {
-      head = leb-true _ _ (and-left (leb 36 (length t)) _ e);
+      head = leb-true _ _ (and-left (leb headLength (length t)) _ e);
       row = leb-true _ _ (and-left (leb (spanAt t) (length t)) _ f);
       content = leb-true _ _ (and-right (leb (spanAt t) (length t)) _ f);
     }
@@ -76,9 +76,9 @@ pub encodable-right : (xs ys : List Row) → EncodableAll (xs ++ ys) → Encodab
 encodable-right [] ys a = a
 encodable-right (x ∷ xs) ys a = encodable-right xs ys (a .1)
 
-pub length-row : (r : Row) → Encodable r → length (encodeRow r) ≡ 36 + length (r .path)
-unfolding encodeRow
-length-row r f = rw (length-append, length-append, length-fields widths (numbersOf r) (f .fits), f .digest) (omega arith)
+pub length-row : (r : Row) → Encodable r → length (encodeRow r) ≡ span (headOf r)
+unfolding rowBytes
+length-row r f = rw (length-append, length-append, length-fields widths (numbersOf (headOf r)) (f .fits), f .digest) (omega arith)
 
 -- Sound ------------------------------------------------------------------------------------------------------------------
 
@@ -91,7 +91,7 @@ module _ (t a : List ℕ) (b : Bytes t) (h : Inside t a) where
   unfolding rowAt
   length-content = length-take-le (headAt t .size) a (h .content)
 
-  pub numbers-at : numbersOf (rowAt t a) ≡ numbersAt widths t
+  pub numbers-at : numbersOf (headOf (rowAt t a)) ≡ numbersAt widths t
   unfolding rowAt headAt numbersAt
   numbers-at = rw (length-content, length-pathAt)
 
@@ -101,19 +101,19 @@ module _ (t a : List ℕ) (b : Bytes t) (h : Inside t a) where
 
   length-digestAt : length (rowAt t a .digest) ≡ 16
   unfolding rowAt digestAt
-  length-digestAt = length-take-le 16 (drop 20 t) (rw length-drop (omega (arith, h .head)))
+  length-digestAt = length-take-le 16 (drop numbersLength t) (rw length-drop (omega (arith, h .head)))
 
   pub encodable-at : Encodable (rowAt t a)
   encodable-at = record { fits = subst (Fit widths) (sym numbers-at) (numbers-fit widths t b (omega (arith, h .head))); digest = length-digestAt }
 
-  past-numbers-at : rowAt t a .digest ++ (rowAt t a .path ++ drop (spanAt t) t) ≡ drop 20 t
+  past-numbers-at : rowAt t a .digest ++ (rowAt t a .path ++ drop (spanAt t) t) ≡ drop numbersLength t
   unfolding rowAt digestAt pathAt spanAt
   past-numbers-at =
-      rw (← (drop-drop (headAt t .pathlen) 36 t), take-append-drop (headAt t .pathlen) (drop 36 t), ← (drop-drop 16 20 t))
-      (take-append-drop 16 (drop 20 t))
+      rw (← (drop-drop (headAt t .pathlen) headLength t), take-append-drop (headAt t .pathlen) (drop headLength t), ← (drop-drop 16 numbersLength t))
+      (take-append-drop 16 (drop numbersLength t))
 
   pub row-sound : encodeRow (rowAt t a) ++ drop (spanAt t) t ≡ t
-  unfolding encodeRow
+  unfolding rowBytes
   row-sound =
       rw (numbers-at, append-assoc (fields widths (numbersAt widths t)), append-assoc (rowAt t a .digest))
       (ap (λ (l : List ℕ). fields widths (numbersAt widths t) ++ l) past-numbers-at ∙ fields-numbers widths t b (omega (arith, h .head)))
@@ -131,19 +131,19 @@ module _ (r : Row) (f : Encodable r) (rest rest′ : List ℕ) where
   abbrev a : List ℕ
   a = r .content ++ rest′
 
-  split : t ≡ fields widths (numbersOf r) ++ (r .digest ++ (r .path ++ rest))
-  unfolding encodeRow
-  split = append-assoc (fields widths (numbersOf r)) (r .digest ++ r .path) rest ∙ ap (λ (l : List ℕ). fields widths (numbersOf r) ++ l) (append-assoc (r .digest) (r .path) rest)
+  split : t ≡ fields widths (numbersOf (headOf r)) ++ (r .digest ++ (r .path ++ rest))
+  unfolding rowBytes
+  split = append-assoc (fields widths (numbersOf (headOf r))) (r .digest ++ r .path) rest ∙ ap (λ (l : List ℕ). fields widths (numbersOf (headOf r)) ++ l) (append-assoc (r .digest) (r .path) rest)
 
   pub head-back : headAt t ≡ headOf r
   unfolding headAt
-  head-back = ap headFrom (ap (numbersAt widths) split ∙ numbers-fields widths (numbersOf r) (r .digest ++ (r .path ++ rest)) (f .fits))
+  head-back = ap headFrom (ap (numbersAt widths) split ∙ numbers-fields widths (numbersOf (headOf r)) (r .digest ++ (r .path ++ rest)) (f .fits))
 
-  past-numbers : drop 20 t ≡ r .digest ++ (r .path ++ rest)
-  past-numbers = ap (drop 20) split ∙ drop-at (fields widths (numbersOf r)) (r .digest ++ (r .path ++ rest)) 20 (length-fields widths (numbersOf r) (f .fits))
+  past-numbers : drop numbersLength t ≡ r .digest ++ (r .path ++ rest)
+  past-numbers = ap (drop numbersLength) split ∙ drop-at (fields widths (numbersOf (headOf r))) (r .digest ++ (r .path ++ rest)) numbersLength (length-fields widths (numbersOf (headOf r)) (f .fits))
 
-  past-digest : drop 36 t ≡ r .path ++ rest
-  past-digest = sym (drop-drop 16 20 t) ∙ ap (drop 16) past-numbers ∙ drop-at (r .digest) (r .path ++ rest) 16 (f .digest)
+  past-digest : drop headLength t ≡ r .path ++ rest
+  past-digest = sym (drop-drop 16 numbersLength t) ∙ ap (drop 16) past-numbers ∙ drop-at (r .digest) (r .path ++ rest) 16 (f .digest)
 
   pub digest-back : digestAt t ≡ r .digest
   unfolding digestAt
@@ -153,7 +153,7 @@ module _ (r : Row) (f : Encodable r) (rest rest′ : List ℕ) where
   unfolding pathAt
   path-back = rw (head-back, past-digest) (take-at (r .path) rest (length (r .path)) refl)
 
-  pub span-back : spanAt t ≡ 36 + length (r .path)
+  pub span-back : spanAt t ≡ span (headOf r)
   unfolding spanAt
   span-back = rw head-back
 
@@ -165,14 +165,14 @@ module _ (r : Row) (f : Encodable r) (rest rest′ : List ℕ) where
   row-back = rw (head-back, digest-back, path-back, take-at (r .content) rest′ (length (r .content)) refl)
 
   pub rest-back : drop (spanAt t) t ≡ rest
-  rest-back = rw span-back (sym (drop-drop (length (r .path)) 36 t) ∙ ap (drop (length (r .path))) past-digest ∙ drop-at (r .path) rest (length (r .path)) refl)
+  rest-back = rw span-back (sym (drop-drop (length (r .path)) headLength t) ∙ ap (drop (length (r .path))) past-digest ∙ drop-at (r .path) rest (length (r .path)) refl)
 
   pub content-back : drop (headAt t .size) a ≡ rest′
   content-back = rw size-back (drop-at (r .content) rest′ (length (r .content)) refl)
 
   pub inside-back : Inside t a
   inside-back =
-      let l : length t ≡ 36 + length (r .path) + length rest = rw (length-append, length-row r f) in
+      let l : length t ≡ span (headOf r) + length rest = rw (length-append, length-row r f) in
       record {
         head = omega arith;
         row = rw span-back (omega arith);

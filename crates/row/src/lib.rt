@@ -1,8 +1,17 @@
-// The rows of the tables.
+// The rows of the tables: numbers, digest and path, read and written.
+use md5::words::Digest;
 ghost use mathlib.Core.Path.{_≡_};
+ghost use mathlib.Core.List.{[], _++_};
 ghost use Prim.Native.Nat.{_+_, _≤_};
 ghost use lib.ListN.{length, drop};
-ghost use Rattle.row.specs.Row.{headAt};
+ghost use Rattle.md5.specs.Md5.{bytesOf};
+ghost use Rattle.row.specs.Row.{numbersLength, headLength, span, rowBytes, headAt};
+
+// Where the digest stands in a row, after the numbers.
+pub const NUMBERS: usize = 20;
+
+// Where the path stands in a row, after the digest; the length of a row without a path.
+pub const HEAD: usize = 36;
 
 // The numbers of a row.
 pub struct Head {
@@ -16,7 +25,7 @@ pub struct Head {
 
 // The numbers of the row at `at`.
 pub fn read_head(t: &[u8], at: usize) -> Head
-    requires { ⌜ at + 20 ≤ length (now t) ⌝ }
+    requires { ⌜ at + numbersLength ≤ length (now t) ⌝ }
     ensures { λ r. ⌜ r ≡ headAt (drop at (now (t .entry))) ⌝ }
 {
     Head {
@@ -27,4 +36,34 @@ pub fn read_head(t: &[u8], at: usize) -> Head
         pathlen: t[at + 17],
         count: number::get_u16(t, at + 18),
     }
+}
+
+// How many bytes the row with this head takes.
+pub fn span(h: Head) -> usize
+    ensures { λ r. ⌜ r ≡ span h ⌝ }
+{
+    HEAD + number::wide(h.pathlen) as usize
+}
+
+// The numbers of a head, over the first bytes.
+fn write_numbers(out: &mut [u8], h: Head)
+    requires { ⌜ numbersLength ≤ length (now out) ⌝ }
+    ensures { λ _. ⌜ now (out .exit) ≡ rowBytes h [] [] ++ drop numbersLength (now (out .entry)) ⌝ }
+{
+    number::put_u32(out, 0, h.size);
+    number::put_u32(out, 4, h.number);
+    number::put_u64(out, 8, h.stamp);
+    let pair = number::wide(h.kind) + 256 * number::wide(h.pathlen);
+    number::put_u16(out, 16, pair);
+    number::put_u16(out, 18, h.count);
+}
+
+// A row, over the first bytes.
+pub fn write_row(out: &mut [u8], h: Head, digest: Digest, path: &[u8])
+    requires { ⌜ headLength + length (now path) ≤ length (now out) ⌝ }
+    ensures { λ _. ⌜ now (out .exit) ≡ rowBytes h (bytesOf digest) (now (path .entry)) ++ drop (headLength + length (now (path .entry))) (now (out .entry)) ⌝ }
+{
+    write_numbers(out, h);
+    md5::put(out, NUMBERS, digest);
+    buffer::copy_at(out, HEAD, path);
 }

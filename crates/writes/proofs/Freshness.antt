@@ -10,9 +10,9 @@ use Rattle.machine.specs.Calls.{_else_then_}
 use Rattle.machine.specs.Steps.{FRESH}
 use Rattle.machine.proofs.KeepsValid.{fresh-valid}
 use Rattle.row.specs.Row.{encodeRows, contentsOf}
-use Rattle.layout.specs.Memory.{objectRows, uploadRows, rowsOf, encodeHeader, Stands}
+use Rattle.layout.specs.Memory.{objectRows, uploadRows, rowsOf, Stands}
 use Rattle.layout.specs.StandsLaws.{stands-state, stands-whole}
-use Rattle.edit.specs.Header.{headerBytes, headed}
+use Rattle.layout.specs.Header.{headerBytes, headed, encodeHeader}
 use Rattle.calls.specs.Made.{memory, freshResult, MadeFresh}
 
 module _ (t a : List ℕ) where
@@ -46,7 +46,7 @@ module _ (t a : List ℕ) where
   module _ (l : length t ≡ 53842) (h : length a ≤ 1048576) (t′ : List ℕ) (keeps : length t′ ≡ length t)
       (e : t′ ≡ headed t (record { arena = length a; next = 1; objects = 0; uploads = 0; parts = 0 })) where
     stands : Stands t′ a fresh
-    unfolding encodeHeader headerBytes headed rowsOf objectRows uploadRows encodeRows contentsOf
+    unfolding headerBytes headed rowsOf objectRows uploadRows encodeRows contentsOf
     stands =
         record {
           size = keeps ∙ l;

@@ -28,7 +28,7 @@ pub fn fresh(tables: &mut [u8], arena: &mut [u8]) -> u8
         uploads: 0,
         parts: 0,
     };
-    edit::header::write_header(tables, header);
+    layout::headers::write_header(tables, header);
     0
 }
 

@@ -8,10 +8,10 @@ use lib.ListN.{length}
 use Rattle.machine.specs.Map.{isSome}
 use Rattle.machine.specs.State.{State}
 use Rattle.layout.specs.declared.Header.{Header}
-use Rattle.layout.specs.Memory.{stateOf, headerAt, Stands}
+use Rattle.layout.specs.Memory.{stateOf, Stands}
 use Rattle.layout.specs.StandsLaws.{header-back}
 use Rattle.layout.specs.WholeLaws.{whole-stands}
-use Rattle.edit.specs.Header.{headerOf}
+use Rattle.layout.specs.Header.{headerOf, headerAt}
 use Rattle.calls.specs.Answers.{partList}
 use Rattle.join.specs.declared.Bounds.{Bounds}
 use Rattle.join.specs.Joined.{Listed}

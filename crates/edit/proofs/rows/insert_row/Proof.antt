@@ -7,9 +7,9 @@ use lib.ListN.{length, take}
 use Rattle.md5.specs.Md5.{bytesOf}
 use Rattle.md5.specs.Md5Laws.{length-bytesOf}
 use Rattle.buffer.specs.Buffer.{spliced}
-use Rattle.edit.specs.Header.{headed}
-use Rattle.edit.specs.RowBytes.{rowBytes}
-use Rattle.edit.proofs.RowFields.{row-front, length-rowBytes}
+use Rattle.layout.specs.Header.{headed}
+use Rattle.row.specs.Row.{rowBytes}
+use Rattle.row.proofs.RowFields.{row-front, length-rowBytes}
 use native.Mathlib.Omega.{arith}
 use borrow.Author.Needs.{needs}
 use Rattle.edit.proofs.rows.insert_row.Statement.{statement}

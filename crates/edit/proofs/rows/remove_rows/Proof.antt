@@ -2,7 +2,7 @@
 use Prim.Native.Nat.{ℕ}
 use mathlib.Core.Path.{ap, _∙_}
 use mathlib.Core.List.{List}
-use Rattle.edit.specs.Header.{headed}
+use Rattle.layout.specs.Header.{headed}
 use borrow.Author.Needs.{needs}
 use Rattle.edit.proofs.rows.remove_rows.Statement.{statement}
 use Rattle.edit.proofs.rows.remove_rows.Tie as tie

@@ -2,7 +2,7 @@
 use mathlib.Core.Path.{refl, _∙_}
 use lib.Dec.{lit<}
 use Rattle.row.specs.FieldLaws.{number-at}
-use Rattle.layout.specs.Memory.{headerWidths, headerAt}
+use Rattle.layout.specs.Header.{headerWidths, headerAt}
 use borrow.Author.Needs.{needs}
 use Rattle.layout.proofs.headers.read_header.Statement.{statement}
 use Rattle.layout.proofs.headers.read_header.Tie as tie

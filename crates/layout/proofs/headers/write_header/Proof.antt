@@ -1,8 +1,8 @@
--- `edit::header::write_header` meets its contract: five fields, one behind the other. Assumes nothing.
-use Rattle.edit.proofs.Headers.{header-fields}
+-- `layout::headers::write_header` meets its contract: five fields, one behind the other. Assumes nothing.
+use Rattle.layout.proofs.HeaderFields.{header-fields}
 use borrow.Author.Needs.{needs}
-use Rattle.edit.proofs.header.write_header.Statement.{statement}
-use Rattle.edit.proofs.header.write_header.Tie as tie
+use Rattle.layout.proofs.headers.write_header.Statement.{statement}
+use Rattle.layout.proofs.headers.write_header.Tie as tie
 
 put-u32-requires : tie.Need-put-u32-requires
 put-u32-requires c κs = search needs

@@ -8,8 +8,8 @@ use Rattle.number.specs.Number.{le}
 use Rattle.number.specs.NumberLaws.{length-le}
 use Rattle.number.proofs.Fields.{over, front-next}
 use Rattle.row.specs.Fields.{fields}
 use Rattle.layout.specs.declared.Header.{Header}
-use Rattle.edit.specs.Header.{headerBytes, headed}
+use Rattle.layout.specs.Header.{headerBytes, headed}
 
 pub header-fields : (b b₁ b₂ b₃ b₄ b₅ : List ℕ) (h : Header) → b₁ ≡ over b 0 (le 4 (h .arena)) 4 → b₂ ≡ over b₁ 4 (le 8 (h .next)) 8 → b₃ ≡ over b₂ 12 (le 2 (h .objects)) 2
     → b₄ ≡ over b₃ 14 (le 2 (h .uploads)) 2 → b₅ ≡ over b₄ 16 (le 2 (h .parts)) 2 → b₅ ≡ headed b h

@@ -8,10 +8,9 @@ use lib.Seq.{take-at}
 use Rattle.number.specs.Number.{le}
 use Rattle.number.specs.NumberLaws.{length-le}
 use Rattle.number.proofs.Fields.{over, front-next}
 use Rattle.row.specs.declared.Head.{Head}
 use Rattle.row.specs.Fields.{fields}
-use Rattle.row.specs.Row.{Row, encodeRow, headOf}
-use Rattle.edit.specs.RowBytes.{rowBytes}
+use Rattle.row.specs.Row.{numbersLength, headLength, rowBytes}
 
 -- two bytes as one number
 pair-bytes : (k p : ℕ) → k < 256 → p < 256 → le 2 (k + 256 * p) ≡ le 1 k ++ le 1 p
@@ -24,7 +23,7 @@ pair-bytes k p h g =
 
 pub number-fields : (b b₁ b₂ b₃ b₄ b₅ : List ℕ) (h : Head) (k p pair : ℕ) → k ≡ h .kind → k < 256 → p ≡ h .pathlen → p < 256 → pair ≡ k + 256 * p
     → b₁ ≡ over b 0 (le 4 (h .size)) 4 → b₂ ≡ over b₁ 4 (le 4 (h .number)) 4 → b₃ ≡ over b₂ 8 (le 8 (h .stamp)) 8
-    → b₄ ≡ over b₃ 16 (le 2 pair) 2 → b₅ ≡ over b₄ 18 (le 2 (h .count)) 2 → b₅ ≡ rowBytes h [] [] ++ drop 20 b
+    → b₄ ≡ over b₃ 16 (le 2 pair) 2 → b₅ ≡ over b₄ 18 (le 2 (h .count)) 2 → b₅ ≡ rowBytes h [] [] ++ drop numbersLength b
 unfolding rowBytes fields
 number-fields b b₁ b₂ b₃ b₄ b₅ h k p pair ke kl pe pl e e₁ e₂ e₃ e₄ e₅ =
     let v = le 4 (h .size) in
@@ -44,30 +43,25 @@ number-fields b b₁ b₂ b₃ b₄ b₅ h k p pair ke kl pe pl e e₁ e₂ e₃
     let q₄ = front-next b b₃ b₄ ((v ++ w) ++ x) y 16 2 q₃ l₃ (e₄ ∙ ap (λ (n : List ℕ). over b₃ 16 n 2) y-is) in
     front-next b b₄ b₅ (((v ++ w) ++ x) ++ y) z 18 2 q₄ l₄ e₅ ∙ simp (append-assoc, append-nil)
 
-length-numbers : (h : Head) → length (rowBytes h [] []) ≡ 20
+length-numbers : (h : Head) → length (rowBytes h [] []) ≡ numbersLength
 unfolding rowBytes fields
 length-numbers h =
     simp (length-append, length-le)
 
-pub row-fields : (b b₁ b₂ b₃ digest path : List ℕ) (h : Head) → length digest ≡ 16 → b₁ ≡ rowBytes h [] [] ++ drop 20 b → b₂ ≡ over b₁ 20 digest 16
-    → b₃ ≡ over b₂ 36 path (length path) → b₃ ≡ rowBytes h digest path ++ drop (36 + length path) b
+pub row-fields : (b b₁ b₂ b₃ digest path : List ℕ) (h : Head) → length digest ≡ 16 → b₁ ≡ rowBytes h [] [] ++ drop numbersLength b → b₂ ≡ over b₁ numbersLength digest 16
+    → b₃ ≡ over b₂ headLength path (length path) → b₃ ≡ rowBytes h digest path ++ drop (headLength + length path) b
 unfolding rowBytes
 row-fields b b₁ b₂ b₃ digest path h l e₁ e₂ e₃ =
     let x = rowBytes h [] [] in
-    let q₂ = front-next b b₁ b₂ x digest 20 16 e₁ (length-numbers h) e₂ in
-    let l₂ : length (x ++ digest) ≡ 36 = omega (arith, length-append x digest, length-numbers h) in
-    front-next b b₂ b₃ (x ++ digest) path 36 (length path) q₂ l₂ e₃ ∙ simp (append-assoc, append-nil)
+    let q₂ = front-next b b₁ b₂ x digest numbersLength 16 e₁ (length-numbers h) e₂ in
+    let l₂ : length (x ++ digest) ≡ headLength = omega (arith, length-append x digest, length-numbers h) in
+    front-next b b₂ b₃ (x ++ digest) path headLength (length path) q₂ l₂ e₃ ∙ simp (append-assoc, append-nil)
 
-pub length-rowBytes : (h : Head) (digest path : List ℕ) → length digest ≡ 16 → length (rowBytes h digest path) ≡ 36 + length path
+pub length-rowBytes : (h : Head) (digest path : List ℕ) → length digest ≡ 16 → length (rowBytes h digest path) ≡ headLength + length path
 unfolding rowBytes fields
 length-rowBytes h digest path l = simp (length-append, length-le, l) (omega arith)
 
 -- the first bytes of a buffer that a row was written to
-pub row-front : (b b₁ : List ℕ) (digest path : List ℕ) (h : Head) (n : ℕ) → length digest ≡ 16 → n ≡ 36 + length path → b₁ ≡ rowBytes h digest path ++ drop (36 + length path) b
+pub row-front : (b b₁ : List ℕ) (digest path : List ℕ) (h : Head) (n : ℕ) → length digest ≡ 16 → n ≡ headLength + length path → b₁ ≡ rowBytes h digest path ++ drop (headLength + length path) b
     → take n b₁ ≡ rowBytes h digest path
-row-front b b₁ digest path h n l e told = ap₂ take e told ∙ take-at (rowBytes h digest path) (drop (36 + length path) b) (36 + length path) (length-rowBytes h digest path l)
-
--- the bytes of a row that has this head
-pub row-bytes : (r : Row) → rowBytes (headOf r) (r .digest) (r .path) ≡ encodeRow r
-unfolding rowBytes encodeRow
-row-bytes r = refl
+row-front b b₁ digest path h n l e told = ap₂ take e told ∙ take-at (rowBytes h digest path) (drop (headLength + length path) b) (headLength + length path) (length-rowBytes h digest path l)

@@ -1,10 +1,10 @@
--- `edit::rows::write_row` meets its contract: numbers, digest and path, one behind the other. Assumes nothing.
-use Rattle.edit.proofs.RowFields.{row-fields}
+-- `row::write_row` meets its contract: numbers, digest and path, one behind the other. Assumes nothing.
+use Rattle.row.proofs.RowFields.{row-fields}
 use Rattle.md5.specs.Md5Laws.{length-bytesOf}
 use Rattle.md5.specs.Md5.{bytesOf}
 use borrow.Author.Needs.{needs}
-use Rattle.edit.proofs.rows.write_row.Statement.{statement}
-use Rattle.edit.proofs.rows.write_row.Tie as tie
+use Rattle.row.proofs.write_row.Statement.{statement}
+use Rattle.row.proofs.write_row.Tie as tie
 
 write-numbers-requires : tie.Need-write-numbers-requires
 write-numbers-requires c κs = search needs

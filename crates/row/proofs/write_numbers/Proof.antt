@@ -1,9 +1,9 @@
--- `edit::rows::write_numbers` meets its contract: five writes, one behind the other. Assumes nothing.
-use Rattle.edit.proofs.RowFields.{number-fields}
+-- `row::write_numbers` meets its contract: five writes, one behind the other. Assumes nothing.
+use Rattle.row.proofs.RowFields.{number-fields}
 use mathlib.Core.Path.{refl}
 use borrow.Author.Needs.{needs}
-use Rattle.edit.proofs.rows.write_numbers.Statement.{statement}
-use Rattle.edit.proofs.rows.write_numbers.Tie as tie
+use Rattle.row.proofs.write_numbers.Statement.{statement}
+use Rattle.row.proofs.write_numbers.Tie as tie
 
 put-u32-requires : tie.Need-put-u32-requires
 put-u32-requires c κs = search needs

@@ -22,7 +22,7 @@ use Rattle.machine.specs.Steps.{plainObject, putAt}
 use Rattle.machine.proofs.MapSums.{length-insert}
 use Rattle.machine.proofs.Counts.{put-counted, commit-counted, held-put}
 use Rattle.row.specs.declared.Head.{Head}
-use Rattle.row.specs.Row.{headAt}
+use Rattle.row.specs.Row.{headAt, headLength, span}
 use Rattle.layout.specs.Memory.{whole, stateOf, Stands}
 use Rattle.layout.specs.WholeLaws.{whole-stands}
 use Rattle.find.specs.declared.Place.{Place}
@@ -61,16 +61,16 @@ module _ (t a : List ℕ) (b : byte.Bytes t) (w : whole t a ≡ true) (u : ℕ) 
   h = whole-stands t a b w
 
   module _ (is-open : isSome (lookup byNumber u (s .U)) ≡ true) where
-    pub row-inside : place .at + 36 ≤ length t
+    pub row-inside : place .at + headLength ≤ length t
     row-inside = let x = is-some (lookup byNumber u (s .U)) is-open in head-inside t a s h u (x .0) (x .1) place place-is
 
-    pub path-ends : (head : Head) → head ≡ headAt (drop (place .at) t) → place .at + 36 + head .pathlen ≤ length t
+    pub path-ends : (head : Head) → head ≡ headAt (drop (place .at) t) → place .at + span head ≤ length t
     path-ends head read = let x = is-some (lookup byNumber u (s .U)) is-open in path-inside t a s h u (x .0) (x .1) place place-is head read
 
   module _ (head : Head) (read : head ≡ headAt (drop (place .at) t)) (x : Upload) (f : lookup byNumber u (s .U) ≡ some x) where
-    path-read : take (place .at + 36 + head .pathlen - (place .at + 36)) (drop (place .at + 36) t) ≡ x .path
+    path-read : take (place .at + headLength + head .pathlen - (place .at + headLength)) (drop (place .at + headLength) t) ≡ x .path
     path-read =
-        let from = place .at + 36 in
+        let from = place .at + headLength in
         let src = take (head .pathlen) (drop from t) in
         let long : head .pathlen ≤ length (drop from t) = omega (arith, path-inside t a s h u x f place place-is head read, length-drop from t) in
         rw add-sub-cancel-left
@@ -78,6 +78,6 @@ module _ (t a : List ℕ) (b : byte.Bytes t) (w : whole t a ≡ true) (u : ℕ) 
         ∙ path-copied t a s h u x f place place-is head read [] _ src refl refl)
 
     pub path-room : (r : ℕ)
-        → ((stamp : ℕ) (content : Bytes) → length content ≡ 0 → r ≡ resultOf (putAt (length a) s stamp (take (place .at + 36 + head .pathlen - (place .at + 36)) (drop (place .at + 36) t)) content))
+        → ((stamp : ℕ) (content : Bytes) → length content ≡ 0 → r ≡ resultOf (putAt (length a) s stamp (take (place .at + headLength + head .pathlen - (place .at + headLength)) (drop (place .at + headLength) t)) content))
         → (y : Object) → r ≡ cond (counted (withoutUpload (withObject s (x .path) y) u)) 0 4
     path-room r is y = is 0 [] refl ∙ ap (λ (p : Bytes). resultOf (putAt (length a) s 0 p [])) path-read ∙ room-is (length a) s (h .valid) u (x .path) y

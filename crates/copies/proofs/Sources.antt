@@ -18,7 +18,8 @@ use Rattle.machine.specs.Steps.{plainObject, putAt, act, after}
 use Rattle.machine.specs.Valid.{Valid}
 use Rattle.machine.proofs.KeepsValid.{next-valid}
 use Rattle.row.specs.declared.Head.{Head}
-use Rattle.row.specs.Row.{encodeRows, contentsOf, headAt}
+use Rattle.row.specs.Row.{encodeRows, contentsOf, headAt, numbersLength}
+use Rattle.layout.specs.Header.{headerLength}
 use Rattle.layout.specs.Memory.{objectRow, whole, stateOf, Stands}
 use Rattle.layout.specs.WholeLaws.{whole-stands}
 use Rattle.find.specs.declared.Place.{Place}
@@ -50,7 +51,7 @@ module _ (t a p : List ℕ) (b : byte.Bytes t) (w : whole t a ≡ true) (place :
   here : At t a s h (beforeObject s p) (objectRow p x) (afterObject s p)
   here = row-at t a s h (beforeObject s p) (objectRow p x) (afterObject s p) (object-found s p x found)
 
-  at-is : place .at ≡ 18 + length (encodeRows (beforeObject s p))
+  at-is : place .at ≡ headerLength + length (encodeRows (beforeObject s p))
   unfolding objectPlace
   at-is = ap (λ (z : Place). z .at) place-is
 
@@ -58,7 +59,7 @@ module _ (t a p : List ℕ) (b : byte.Bytes t) (w : whole t a ≡ true) (place :
   unfolding objectPlace
   base-is = ap (λ (z : Place). z .base) place-is
 
-  pub head-inside : place .at + 20 ≤ length t
+  pub head-inside : place .at + numbersLength ≤ length t
   head-inside = omega (arith, at-is, here .inside)
 
   module _ (head : Head) (head-is : head ≡ headAt (drop (place .at) t)) where

@@ -8,8 +8,9 @@ use Rattle.machine.specs.Map.{Map, Every, total}
 use Rattle.machine.specs.Names.{Bytes}
 use Rattle.machine.specs.State.{Object, Part, Upload, State, partsIn}
 use Rattle.machine.specs.Valid.{ObjectOk, UploadOk, Valid}
-use Rattle.row.specs.Row.{encodeRow, encodeRows}
+use Rattle.row.specs.Row.{encodeRow, encodeRows, headLength}
 use Rattle.row.specs.RowLaws.{EncodableAll, length-row, encode-append, encodable-left, encodable-right}
+use Rattle.layout.specs.Header.{headerLength}
 use Rattle.layout.specs.Memory.{objectRow, objectRows, uploadRow, partRow, partRows, uploadRows, rowsOf, arenaMost, tablesLength}
 use Rattle.layout.specs.TestLaws.{stored-path-length}
 use Rattle.layout.specs.StandsLaws.{rows-encodable}
@@ -21,14 +22,14 @@ objects-most (e ∷ m) f v =
     let q = stored-path-length (e .0) (v .0 .path) .below in
     omega (arith, length-append (encodeRow (objectRow (e .0) (e .1))) (encodeRows (objectRows m)), length-row _ (f .0), objects-most m (f .1) (v .1))
 
-parts-most : (ps : Map ℕ Part) → EncodableAll (partRows ps) → length (encodeRows (partRows ps)) ≤ 36 * length ps
+parts-most : (ps : Map ℕ Part) → EncodableAll (partRows ps) → length (encodeRows (partRows ps)) ≤ headLength * length ps
 unfolding partRows encodeRows
 parts-most [] f = omega arith
 parts-most (e ∷ ps) f =
     omega (arith, length-append (encodeRow (partRow (e .0) (e .1))) (encodeRows (partRows ps)), length-row _ (f .0), parts-most ps (f .1))
 
 uploads-most : (N : ℕ) (us : Map ℕ Upload) → EncodableAll (uploadRows us) → Every (UploadOk N) us
-    → length (encodeRows (uploadRows us)) ≤ 164 * length us + 36 * total partsIn us
+    → length (encodeRows (uploadRows us)) ≤ 164 * length us + headLength * total partsIn us
 unfolding uploadRows encodeRows
 uploads-most N [] f v = omega arith
 uploads-most N (e ∷ us) f v =
@@ -44,7 +45,7 @@ uploads-most N (e ∷ us) f v =
       uploads-most N us (encodable-right ps (uploadRows us) (f .1)) (v .1),
     )
 
-pub tables-fit : (A : ℕ) (s : State) → A ≤ arenaMost → Valid A s → 18 + length (encodeRows (rowsOf s)) ≤ tablesLength
+pub tables-fit : (A : ℕ) (s : State) → A ≤ arenaMost → Valid A s → headerLength + length (encodeRows (rowsOf s)) ≤ tablesLength
 unfolding rowsOf
 tables-fit A s l v =
     let f = rows-encodable A s l v in

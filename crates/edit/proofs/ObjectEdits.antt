@@ -21,7 +21,7 @@ use Rattle.machine.proofs.MapSums.{length-insert, length-remove}
 use Rattle.machine.proofs.MapLaws.{lookup-insert, every-lookup}
 use Rattle.machine.proofs.KeepsValid.{without-object-valid}
 use Rattle.row.specs.declared.Head.{Head}
-use Rattle.row.specs.Row.{encodeRows, contentsOf, headAt, headOf, rowBytes}
+use Rattle.row.specs.Row.{encodeRows, contentsOf, headAt, headOf, rowBytes, headLength, span}
 use Rattle.row.specs.RowLaws.{Encodable}
 use Rattle.layout.specs.declared.Header.{Header}
 use Rattle.layout.specs.Memory.{rowsOf, objectRow, whole, stateOf, Stands}
@@ -30,7 +30,7 @@ use Rattle.layout.specs.ObjectLaws.{Etagged, etagged, object-encodable}
 use Rattle.layout.specs.WholeLaws.{whole-stands}
 use Rattle.layout.specs.StandsLaws.{header-back}
 use Rattle.layout.specs.declared.Offset.{Offset}
-use Rattle.layout.specs.Header.{headerOf, headed, headerAt}
+use Rattle.layout.specs.Header.{headerOf, headed, headerAt, headerLength}
 use Rattle.find.specs.declared.Place.{Place}
 use Rattle.find.specs.Places.{behind, beforeObject, afterObject, fromObject, objectPlace}
 use Rattle.find.proofs.Splits.{object-place, object-found}
@@ -50,14 +50,14 @@ module _ (t a : List ℕ) (b : Bytes t) (w : whole t a ≡ true) where
   abbrev stands : Stands t a s
   stands = whole-stands t a b w
 
-  pub header-inside : 18 ≤ length t
+  pub header-inside : headerLength ≤ length t
   header-inside = let z = stands .size in omega arith
 
   header-is : headerAt t ≡ headerOf (length a) s
   header-is = header-back t a s stands
 
   module _ (p : List ℕ) (place : Place) (place-is : place ≡ objectPlace s p) (end : Offset) (end-is : end ≡ behind (rowsOf s)) where
-    at-is : place .at ≡ 18 + length (encodeRows (beforeObject s p))
+    at-is : place .at ≡ headerLength + length (encodeRows (beforeObject s p))
     unfolding objectPlace
     at-is = ap (λ (x : Place). x .at) place-is
 
@@ -65,7 +65,7 @@ module _ (t a : List ℕ) (b : Bytes t) (w : whole t a ≡ true) where
     unfolding objectPlace
     base-is = ap (λ (x : Place). x .base) place-is
 
-    used-is : end .at ≡ 18 + length (encodeRows (rowsOf s))
+    used-is : end .at ≡ headerLength + length (encodeRows (rowsOf s))
     used-is = ap (λ (x : Offset). x .at) end-is
 
     held-is : end .base ≡ length (contentsOf (rowsOf s))
@@ -79,7 +79,7 @@ module _ (t a : List ℕ) (b : Bytes t) (w : whole t a ≡ true) where
       found : lookup byBytes p (s .O) ≡ some x
       found = is-some (lookup byBytes p (s .O)) there .1
 
-      pub remove-head : place .at + 36 ≤ length t
+      pub remove-head : place .at + headLength ≤ length t
       remove-head = row.head-inside t a s stands (beforeObject s p) (objectRow p x) (afterObject s p) (place .at) (place .base) (end .at) (end .base) at-is base-is used-is held-is (object-found s p x found)
 
       pub some-object : 1 ≤ headerAt t .objects
@@ -88,14 +88,14 @@ module _ (t a : List ℕ) (b : Bytes t) (w : whole t a ≡ true) where
           omega (arith, rw found at (length-remove bytes p (s .O)))
 
       module _ (head : Head) (head-is : head ≡ headAt (drop (place .at) t)) where
-        pub remove-rows : (18 ≤ place .at) × (place .at + (36 + head .pathlen) ≤ end .at) × (end .at ≤ length t)
+        pub remove-rows : (headerLength ≤ place .at) × (place .at + span head ≤ end .at) × (end .at ≤ length t)
         remove-rows = row.rows-inside t a s stands (beforeObject s p) (objectRow p x) (afterObject s p) (place .at) (place .base) (end .at) (end .base) at-is base-is used-is held-is (object-found s p x found) head head-is
 
         pub remove-data : (place .base + head .size ≤ end .base) × (end .base ≤ length a)
         remove-data = row.data-inside t a s stands (beforeObject s p) (objectRow p x) (afterObject s p) (place .at) (place .base) (end .at) (end .base) at-is base-is used-is held-is (object-found s p x found) head head-is
 
         pub remove-stands : (width : ℕ) (header : Header) (t′ a′ : List ℕ) → width ≡ head .pathlen → header ≡ headerAt t
-            → t′ ≡ headed (spliced t (place .at) (36 + width) (end .at) []) (withObjects header (header .objects - 1))
+            → t′ ≡ headed (spliced t (place .at) (headLength + width) (end .at) []) (withObjects header (header .objects - 1))
             → a′ ≡ spliced a (place .base) (head .size) (end .base) [] → length t′ ≡ length t → length a′ ≡ length a → Stands t′ a′ (withoutObject s p)
         remove-stands width header t′ a′ width-is read e e′ l l′ =
             let one : length (s .O) - 1 ≡ length (withoutObject s p .O) = omega (arith, rw found at (length-remove bytes p (s .O))) in
@@ -103,7 +103,7 @@ module _ (t a : List ℕ) (b : Bytes t) (w : whole t a ≡ true) where
             let after-is : withObjects header (header .objects - 1) ≡ headerOf (length a) (withoutObject s p) = rw (was, one) in
             row.removed-stands t a s stands (beforeObject s p) (objectRow p x) (afterObject s p) (place .at) (place .base) (end .at) (end .base) at-is base-is used-is held-is (object-found s p x found) head head-is
             (withoutObject s p) (without-object-valid (length a) s p (stands .valid)) (without-object-rows s p x found) t′ a′ _ after-is
-            (e ∙ ap (λ (n : ℕ). headed (spliced t (place .at) (36 + n) (end .at) []) (withObjects header (header .objects - 1))) width-is) e′ l l′
+            (e ∙ ap (λ (n : ℕ). headed (spliced t (place .at) (headLength + n) (end .at) []) (withObjects header (header .objects - 1))) width-is) e′ l l′
 
     -- put in
     module _ (stamp kind count : ℕ) (digest : Digest) (size : ℕ) (pre : Addable t a stamp kind count digest p size) where
@@ -145,7 +145,7 @@ module _ (t a : List ℕ) (b : Bytes t) (w : whole t a ≡ true) where
       room : held s + length (y .content) ≤ length a
       room = let r = pre .room in omega (arith, content-length)
 
-      pub add-row : (18 ≤ place .at) × (place .at ≤ end .at) × (length p ≤ 128) × (end .at + (36 + length p) ≤ length t)
+      pub add-row : (headerLength ≤ place .at) × (place .at ≤ end .at) × (length p ≤ 128) × (end .at + (headLength + length p) ≤ length t)
       add-row = row.row-room t a s stands (beforeObject s p) (objectRow p y) (fromObject s p) (place .at) (place .base) (end .at) (end .base) at-is base-is used-is held-is (object-place s p) s′ (pre .valid) (new-object-rows s p y (pre .absent)) path-most row-encodable content-is room
 
       pub add-base : place .base ≤ end .base

@@ -8,25 +8,25 @@ use Rattle.machine.specs.State.{State, held}
 use Rattle.machine.specs.Valid.{Valid}
 use Rattle.buffer.specs.Buffer.{spliced, rotated}
 use Rattle.row.specs.declared.Head.{Head}
-use Rattle.row.specs.Row.{Row, encodeRow, encodeRows, contentsOf, headAt, headOf, rowBytes}
+use Rattle.row.specs.Row.{Row, encodeRow, encodeRows, contentsOf, headAt, headOf, rowBytes, headLength, span}
 use Rattle.row.specs.RowLaws.{Encodable, length-row, encode-append, contents-append}
 use Rattle.layout.specs.declared.Header.{Header}
 use Rattle.layout.specs.Memory.{rowsOf, Stands}
 use Rattle.layout.specs.RowCounts.{length-contents}
-use Rattle.layout.specs.Header.{headerOf, headed}
+use Rattle.layout.specs.Header.{headerOf, headed, headerLength}
 use Rattle.find.proofs.RowsAt.{At, row-at}
 use Rattle.edit.proofs.Fit.{tables-fit}
 use Rattle.edit.proofs.Standing.{removed, inserted}
 
 module _ (t a : List ℕ) (s : State) (h : Stands t a s) (xs : List Row) (r : Row) (ys : List Row) (at base used end : ℕ)
-    (at-is : at ≡ 18 + length (encodeRows xs)) (base-is : base ≡ length (contentsOf xs))
-    (used-is : used ≡ 18 + length (encodeRows (rowsOf s))) (end-is : end ≡ length (contentsOf (rowsOf s))) where
+    (at-is : at ≡ headerLength + length (encodeRows xs)) (base-is : base ≡ length (contentsOf xs))
+    (used-is : used ≡ headerLength + length (encodeRows (rowsOf s))) (end-is : end ≡ length (contentsOf (rowsOf s))) where
   -- the row r taken out
   module _ (split : rowsOf s ≡ xs ++ (r ∷ ys)) where
     here : At t a s h xs r ys
     here = row-at t a s h xs r ys split
 
-    pub head-inside : at + 36 ≤ length t
+    pub head-inside : at + headLength ≤ length t
     head-inside = omega (arith, here .inside)
 
     used-inside : used ≤ length t
@@ -35,7 +35,7 @@ module _ (t a : List ℕ) (s : State) (h : Stands t a s) (xs : List Row) (r : Ro
     end-inside : end ≤ length a
     end-inside = let v = h .valid .room in omega (arith, length-contents s)
 
-    rows-length : length (encodeRows (rowsOf s)) ≡ length (encodeRows xs) + (36 + length (r .path) + length (encodeRows ys))
+    rows-length : length (encodeRows (rowsOf s)) ≡ length (encodeRows xs) + (span (headOf r) + length (encodeRows ys))
     unfolding encodeRows
     rows-length =
         ap length (ap encodeRows split ∙ encode-append xs (r ∷ ys))
@@ -57,20 +57,20 @@ module _ (t a : List ℕ) (s : State) (h : Stands t a s) (xs : List Row) (r : Ro
       size-is : head .size ≡ length (r .content)
       size-is = ap (λ (x : Head). x .size) head-of
 
-      pub rows-inside : (18 ≤ at) × (at + (36 + head .pathlen) ≤ used) × (used ≤ length t)
+      pub rows-inside : (headerLength ≤ at) × (at + span head ≤ used) × (used ≤ length t)
       rows-inside = (omega (arith, at-is), omega (arith, rows-length, pathlen-is), used-inside)
 
       pub data-inside : (base + head .size ≤ end) × (end ≤ length a)
       data-inside = (omega (arith, data-length, size-is), end-inside)
 
       pub removed-stands : (s′ : State) → Valid (length a) s′ → rowsOf s′ ≡ xs ++ ys → (t′ a′ : List ℕ) (header : Header) → header ≡ headerOf (length a) s′
-          → t′ ≡ headed (spliced t at (36 + head .pathlen) used []) header → a′ ≡ spliced a base (head .size) end []
+          → t′ ≡ headed (spliced t at (span head) used []) header → a′ ≡ spliced a base (head .size) end []
           → length t′ ≡ length t → length a′ ≡ length a → Stands t′ a′ s′
       unfolding encodeRows contentsOf
       removed-stands s′ valid split′ t′ a′ header is e e′ l l′ =
-          let n-is : 36 + head .pathlen ≡ length (encodeRow r ++ []) = omega (arith, pathlen-is, length-row r (here .encodable), length-append (encodeRow r) []) in
+          let n-is : span head ≡ length (encodeRow r ++ []) = omega (arith, pathlen-is, length-row r (here .encodable), length-append (encodeRow r) []) in
           let m-is : head .size ≡ length (r .content ++ []) = omega (arith, size-is, length-append (r .content) []) in
-          removed t a s h s′ valid (spliced t at (36 + head .pathlen) used []) t′ a′ header is e l l′ xs (r ∷ []) ys at (36 + head .pathlen) used base (head .size) end split split′
+          removed t a s h s′ valid (spliced t at (span head) used []) t′ a′ header is e l l′ xs (r ∷ []) ys at (span head) used base (head .size) end split split′
           at-is n-is used-is refl base-is m-is end-is e′
 
   -- the row r put in; its data stand behind the last byte held
@@ -82,13 +82,13 @@ module _ (t a : List ℕ) (s : State) (h : Stands t a s) (xs : List Row) (r : Ro
     old-data : length (contentsOf (rowsOf s)) ≡ length (contentsOf xs) + length (contentsOf ys)
     old-data = ap length (ap contentsOf split ∙ contents-append xs ys) ∙ length-append (contentsOf xs) (contentsOf ys)
 
-    new-length : length (encodeRows (rowsOf s′)) ≡ length (encodeRows xs) + (36 + length (r .path) + length (encodeRows ys))
+    new-length : length (encodeRows (rowsOf s′)) ≡ length (encodeRows xs) + (span (headOf r) + length (encodeRows ys))
     unfolding encodeRows
     new-length =
         ap length (ap encodeRows split′ ∙ encode-append xs (r ∷ ys))
         ∙ omega (arith, length-append (encodeRows xs) (encodeRow r ++ encodeRows ys), length-append (encodeRow r) (encodeRows ys), length-row r encodable)
 
-    pub row-room : (18 ≤ at) × (at ≤ used) × (length (r .path) ≤ 128) × (used + (36 + length (r .path)) ≤ length t)
+    pub row-room : (headerLength ≤ at) × (at ≤ used) × (length (r .path) ≤ 128) × (used + span (headOf r) ≤ length t)
     row-room =
         let f = tables-fit (length a) s′ (h .small) valid in
         (omega (arith, at-is), omega (arith, old-length), path, omega (arith, old-length, new-length, h .size))

@@ -11,7 +11,7 @@ use Rattle.buffer.proofs.Live.{spliced-live, rotated-live}
 use Rattle.row.specs.Row.{Row, encodeRows, contentsOf}
 use Rattle.row.specs.RowLaws.{encode-append, contents-append}
 use Rattle.layout.specs.declared.Header.{Header}
-use Rattle.layout.specs.Header.{headerOf, headerBytes, headed, encodeHeader}
+use Rattle.layout.specs.Header.{headerOf, headerBytes, headed, encodeHeader, headerLength}
 
 encode-append₃ : (xs ys zs : List Row) → encodeRows (xs ++ (ys ++ zs)) ≡ encodeRows xs ++ (encodeRows ys ++ encodeRows zs)
 encode-append₃ xs ys zs = encode-append xs (ys ++ zs) ∙ ap (λ (l : List ℕ). encodeRows xs ++ l) (encode-append ys zs)
@@ -21,18 +21,18 @@ contents-append₃ xs ys zs = contents-append xs (ys ++ zs) ∙ ap (λ (l : List
 
 -- rows ys give way to rows ys′, of which src are the bytes
 module _ (xs ys ys′ zs : List Row) where
-  pub rows-spliced : (t t′ header free src : List ℕ) → t ≡ header ++ (encodeRows (xs ++ (ys ++ zs)) ++ free) → length header ≡ 18 → src ≡ encodeRows ys′
-      → t′ ≡ spliced t (18 + length (encodeRows xs)) (length (encodeRows ys)) (18 + length (encodeRows (xs ++ (ys ++ zs)))) src
-      → t′ ≡ header ++ (encodeRows (xs ++ (ys′ ++ zs)) ++ drop (18 + length (encodeRows (xs ++ (ys′ ++ zs)))) t)
+  pub rows-spliced : (t t′ header free src : List ℕ) → t ≡ header ++ (encodeRows (xs ++ (ys ++ zs)) ++ free) → length header ≡ headerLength → src ≡ encodeRows ys′
+      → t′ ≡ spliced t (headerLength + length (encodeRows xs)) (length (encodeRows ys)) (headerLength + length (encodeRows (xs ++ (ys ++ zs)))) src
+      → t′ ≡ header ++ (encodeRows (xs ++ (ys′ ++ zs)) ++ drop (headerLength + length (encodeRows (xs ++ (ys′ ++ zs)))) t)
   rows-spliced t t′ header free src told l is e =
       let live = header ++ encodeRows (xs ++ (ys ++ zs)) in
       let live′ = header ++ encodeRows (xs ++ (ys′ ++ zs)) in
       let p : live ≡ (header ++ encodeRows xs) ++ (encodeRows ys ++ encodeRows zs) = ap (λ (r : List ℕ). header ++ r) (encode-append₃ xs ys zs) ∙ sym (append-assoc header (encodeRows xs) _) in
       let q : live′ ≡ (header ++ encodeRows xs) ++ (src ++ encodeRows zs) =
       ap (λ (r : List ℕ). header ++ r) (encode-append₃ xs ys′ zs ∙ ap (λ (r : List ℕ). encodeRows xs ++ (r ++ encodeRows zs)) (sym is)) ∙ sym (append-assoc header (encodeRows xs) _) in
-      let k : length (header ++ encodeRows xs) ≡ 18 + length (encodeRows xs) = omega (arith, length-append header (encodeRows xs)) in
-      let u : length live ≡ 18 + length (encodeRows (xs ++ (ys ++ zs))) = omega (arith, length-append header (encodeRows (xs ++ (ys ++ zs)))) in
-      let u′ : length live′ ≡ 18 + length (encodeRows (xs ++ (ys′ ++ zs))) = omega (arith, length-append header (encodeRows (xs ++ (ys′ ++ zs)))) in
+      let k : length (header ++ encodeRows xs) ≡ headerLength + length (encodeRows xs) = omega (arith, length-append header (encodeRows xs)) in
+      let u : length live ≡ headerLength + length (encodeRows (xs ++ (ys ++ zs))) = omega (arith, length-append header (encodeRows (xs ++ (ys ++ zs)))) in
+      let u′ : length live′ ≡ headerLength + length (encodeRows (xs ++ (ys′ ++ zs))) = omega (arith, length-append header (encodeRows (xs ++ (ys′ ++ zs)))) in
       spliced-live t t′ live live′ free (told ∙ sym (append-assoc header _ free)) (header ++ encodeRows xs) (encodeRows ys) (encodeRows zs) src _ _ _ p q k refl u e
       ∙ ap (λ (n : ℕ). live′ ++ drop n t) u′
       ∙ append-assoc header _ _
@@ -56,8 +56,8 @@ data-rotated xs ys zs a a′ d free told is e =
     refl refl refl e
 
 -- the header of s′, written over that of s
-pub header-written : (A : ℕ) (s s′ : State) (t t′ rest : List ℕ) (h : Header) → length (encodeHeader A s) ≡ 18 → t ≡ encodeHeader A s ++ rest
+pub header-written : (A : ℕ) (s s′ : State) (t t′ rest : List ℕ) (h : Header) → length (encodeHeader A s) ≡ headerLength → t ≡ encodeHeader A s ++ rest
     → h ≡ headerOf A s′ → t′ ≡ headed t h → t′ ≡ encodeHeader A s′ ++ rest
 unfolding headerBytes headed
 header-written A s s′ t t′ rest h l told is e =
-    e ∙ ap₂ (λ (x : Header) (y : List ℕ). headerBytes x ++ y) is (ap (drop 18) told ∙ drop-at (encodeHeader A s) rest 18 l)
+    e ∙ ap₂ (λ (x : Header) (y : List ℕ). headerBytes x ++ y) is (ap (drop headerLength) told ∙ drop-at (encodeHeader A s) rest headerLength l)

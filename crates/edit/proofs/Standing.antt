@@ -14,7 +14,7 @@ use Rattle.layout.specs.declared.Header.{Header}
 use Rattle.layout.specs.Memory.{rowsOf, Stands}
 use Rattle.layout.specs.RowCounts.{length-contents}
 use Rattle.layout.specs.StandsLaws.{length-header}
-use Rattle.layout.specs.Header.{headerOf, headed, encodeHeader}
+use Rattle.layout.specs.Header.{headerOf, headed, encodeHeader, headerLength}
 use Rattle.edit.proofs.RowLists.{rows-spliced, data-spliced, data-rotated, header-written}
 
 module _ (t a : List ℕ) (s : State) (h : Stands t a s) (s′ : State) (valid : Valid (length a) s′) (t₁ t′ a′ : List ℕ) (header : Header)
@@ -35,24 +35,24 @@ module _ (t a : List ℕ) (s : State) (h : Stands t a s) (s′ : State) (valid :
 
   -- the rows ys cut out, with their data
   pub removed : (xs ys zs : List Row) (at n used base m end : ℕ) → rowsOf s ≡ xs ++ (ys ++ zs) → rowsOf s′ ≡ xs ++ zs
-      → at ≡ 18 + length (encodeRows xs) → n ≡ length (encodeRows ys) → used ≡ 18 + length (encodeRows (rowsOf s)) → t₁ ≡ spliced t at n used []
+      → at ≡ headerLength + length (encodeRows xs) → n ≡ length (encodeRows ys) → used ≡ headerLength + length (encodeRows (rowsOf s)) → t₁ ≡ spliced t at n used []
       → base ≡ length (contentsOf xs) → m ≡ length (contentsOf ys) → end ≡ length (contentsOf (rowsOf s)) → a′ ≡ spliced a base m end []
       → Stands t′ a′ s′
   unfolding encodeRows contentsOf
   removed xs ys zs at n used base m end split split′ at-is n-is used-is cut base-is m-is end-is cut′ =
       let told : t ≡ encodeHeader (length a) s ++ (encodeRows (xs ++ (ys ++ zs)) ++ h .tables-free) = h .tables ∙ ap (λ (rs : List Row). encodeHeader (length a) s ++ (encodeRows rs ++ h .tables-free)) split in
       let told′ : a ≡ contentsOf (xs ++ (ys ++ zs)) ++ h .arena-free = h .arena ∙ ap (λ (rs : List Row). contentsOf rs ++ h .arena-free) split in
-      let cut₁ : t₁ ≡ spliced t (18 + length (encodeRows xs)) (length (encodeRows ys)) (18 + length (encodeRows (xs ++ (ys ++ zs)))) [] = cut ∙ rw (at-is, n-is, used-is, split) in
+      let cut₁ : t₁ ≡ spliced t (headerLength + length (encodeRows xs)) (length (encodeRows ys)) (headerLength + length (encodeRows (xs ++ (ys ++ zs)))) [] = cut ∙ rw (at-is, n-is, used-is, split) in
       let cut₂ : a′ ≡ spliced a (length (contentsOf xs)) (length (contentsOf ys)) (length (contentsOf (xs ++ (ys ++ zs)))) [] = cut′ ∙ rw (base-is, m-is, end-is, split) in
       standing _ _
       (rows-spliced xs ys [] zs t t₁ (encodeHeader (length a) s) (h .tables-free) [] told (length-header (length a) s (h .small) (h .valid)) refl cut₁
-      ∙ ap (λ (rs : List Row). encodeHeader (length a) s ++ (encodeRows rs ++ drop (18 + length (encodeRows (xs ++ zs))) t)) (sym split′))
+      ∙ ap (λ (rs : List Row). encodeHeader (length a) s ++ (encodeRows rs ++ drop (headerLength + length (encodeRows (xs ++ zs))) t)) (sym split′))
       (data-spliced xs ys [] zs a a′ (h .arena-free) [] told′ refl cut₂ ∙ ap (λ (rs : List Row). contentsOf rs ++ drop (length (contentsOf (xs ++ zs))) a) (sym split′))
 
   -- the row r put in; its data stood behind the last byte held
   pub inserted : (xs : List Row) (r : Row) (zs : List Row) (at used base left : ℕ) (src : List ℕ) → rowsOf s ≡ xs ++ zs → rowsOf s′ ≡ xs ++ (r ∷ zs)
       → src ≡ encodeRow r
-      → at ≡ 18 + length (encodeRows xs) → used ≡ 18 + length (encodeRows (rowsOf s)) → t₁ ≡ spliced t at 0 used src
+      → at ≡ headerLength + length (encodeRows xs) → used ≡ headerLength + length (encodeRows (rowsOf s)) → t₁ ≡ spliced t at 0 used src
       → base ≡ length (contentsOf xs) → left ≡ length (contentsOf zs) → a′ ≡ rotated a base left (length (r .content))
       → take (length (r .content)) (drop (held s) a) ≡ r .content
       → Stands t′ a′ s′
@@ -60,7 +60,7 @@ module _ (t a : List ℕ) (s : State) (h : Stands t a s) (s′ : State) (valid :
   inserted xs r zs at used base left src split split′ row at-is used-is put base-is left-is turned content =
       let told : t ≡ encodeHeader (length a) s ++ (encodeRows (xs ++ ([] ++ zs)) ++ h .tables-free) = h .tables ∙ ap (λ (rs : List Row). encodeHeader (length a) s ++ (encodeRows rs ++ h .tables-free)) split in
       let bytes : src ≡ encodeRows (r ∷ []) = row ∙ sym (append-nil (encodeRow r)) in
-      let put₁ : t₁ ≡ spliced t (18 + length (encodeRows xs)) (length (encodeRows [])) (18 + length (encodeRows (xs ++ ([] ++ zs)))) src = put ∙ rw (at-is, used-is, split) in
+      let put₁ : t₁ ≡ spliced t (headerLength + length (encodeRows xs)) (length (encodeRows [])) (headerLength + length (encodeRows (xs ++ ([] ++ zs)))) src = put ∙ rw (at-is, used-is, split) in
       let tail : h .arena-free ≡ r .content ++ drop (length (r .content)) (h .arena-free) =
       sym (take-append-drop (length (r .content)) (h .arena-free)) ∙ ap (λ (l : List ℕ). l ++ drop (length (r .content)) (h .arena-free))
       (ap (take (length (r .content))) (sym (drop-at (contentsOf (rowsOf s)) (h .arena-free) (held s) (length-contents s)) ∙ ap (drop (held s)) (sym (h .arena))) ∙ content) in
@@ -68,6 +68,6 @@ module _ (t a : List ℕ) (s : State) (h : Stands t a s) (s′ : State) (valid :
       let turned₁ : a′ ≡ rotated a (length (contentsOf xs)) (length (contentsOf zs)) (length (r .content)) = turned ∙ rw (base-is, left-is) in
       standing _ _
       (rows-spliced xs [] (r ∷ []) zs t t₁ (encodeHeader (length a) s) (h .tables-free) src told (length-header (length a) s (h .small) (h .valid)) bytes put₁
-      ∙ ap (λ (rs : List Row). encodeHeader (length a) s ++ (encodeRows rs ++ drop (18 + length (encodeRows (xs ++ (r ∷ zs)))) t)) (sym split′))
+      ∙ ap (λ (rs : List Row). encodeHeader (length a) s ++ (encodeRows rs ++ drop (headerLength + length (encodeRows (xs ++ (r ∷ zs)))) t)) (sym split′))
       (data-rotated xs (r ∷ []) zs a a′ (r .content) (drop (length (r .content)) (h .arena-free)) told′ (sym (append-nil (r .content))) turned₁
       ∙ ap (λ (rs : List Row). contentsOf rs ++ drop (length (r .content)) (h .arena-free)) (sym split′))

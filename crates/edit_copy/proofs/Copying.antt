@@ -16,11 +16,12 @@ use Rattle.machine.specs.State.{Object, State, withObject, withoutObject}
 use Rattle.machine.specs.Valid.{Valid}
 use Rattle.machine.proofs.MapLaws.{lookup-remove-other}
 use Rattle.row.specs.declared.Head.{Head}
-use Rattle.row.specs.Row.{encodeRows, contentsOf, headAt}
+use Rattle.row.specs.Row.{encodeRows, contentsOf, headAt, headLength}
 use Rattle.layout.specs.Memory.{rowsOf, objectRow, stateOf, Stands}
 use Rattle.layout.specs.WholeLaws.{whole-stands}
 use Rattle.layout.specs.StandsLaws.{stands-state}
 use Rattle.layout.specs.declared.Offset.{Offset}
+use Rattle.layout.specs.Header.{headerLength}
 use Rattle.find.specs.declared.Place.{Place}
 use Rattle.find.specs.Places.{behind, beforeObject, afterObject, objectPlace}
 use Rattle.find.proofs.Splits.{object-found}
@@ -64,7 +65,7 @@ module _ (t a p q : List ℕ) (b : Bytes t) (stamp : ℕ) (digest : Digest) (pre
   place-of : place ≡ objectPlace s₁ p
   place-of = place-is ∙ ap (λ (z : State). objectPlace z p) (stands-state t₁ a₁ s₁ h)
 
-  at-is : place .at ≡ 18 + length (encodeRows (beforeObject s₁ p))
+  at-is : place .at ≡ headerLength + length (encodeRows (beforeObject s₁ p))
   unfolding objectPlace
   at-is = ap (λ (z : Place). z .at) place-of
 
@@ -72,7 +73,7 @@ module _ (t a p q : List ℕ) (b : Bytes t) (stamp : ℕ) (digest : Digest) (pre
   unfolding objectPlace
   base-is = ap (λ (z : Place). z .base) place-of
 
-  pub source-inside : place .at + 36 ≤ length t₁
+  pub source-inside : place .at + headLength ≤ length t₁
   source-inside = omega (arith, at-is, here .inside)
 
   valid-content : Valid (length a) (withObject s q (plainWith stamp digest (x .content)))

@@ -17,7 +17,7 @@ use Rattle.machine.specs.Valid.{ObjectOk}
 use Rattle.machine.proofs.MapSums.{length-insert}
 use Rattle.machine.proofs.MapLaws.{lookup-insert, every-lookup}
 use Rattle.row.specs.declared.Head.{Head}
-use Rattle.row.specs.Row.{Row, encodeRow, encodeRows, contentsOf, headAt, headOf, rowBytes}
+use Rattle.row.specs.Row.{Row, encodeRow, encodeRows, contentsOf, headAt, headOf, rowBytes, headLength}
 use Rattle.row.specs.RowLaws.{length-row, encode-append, contents-append}
 use Rattle.layout.specs.declared.Header.{Header}
 use Rattle.layout.specs.Memory.{rowsOf, objectRow, stateOf, Stands}
@@ -25,7 +25,7 @@ use Rattle.layout.specs.TestLaws.{stored-path-length}
 use Rattle.layout.specs.WholeLaws.{whole-stands}
 use Rattle.layout.specs.StandsLaws.{length-header, header-back}
 use Rattle.layout.specs.declared.Offset.{Offset}
-use Rattle.layout.specs.Header.{headerOf, headed, encodeHeader, headerAt}
+use Rattle.layout.specs.Header.{headerOf, headed, encodeHeader, headerAt, headerLength}
 use Rattle.find.specs.declared.Place.{Place}
 use Rattle.find.specs.Places.{behind, beforeObject, afterObject, objectPlace}
 use Rattle.find.proofs.Splits.{object-found}
@@ -80,11 +80,11 @@ module _ (t a p : List ℕ) (b : Bytes t) (stamp : ℕ) (digest : Digest) (pre :
   here : At t a s stands xs (objectRow p x) ys
   here = row-at t a s stands xs (objectRow p x) ys split
 
-  at-is : place .at ≡ 18 + length (encodeRows xs)
+  at-is : place .at ≡ headerLength + length (encodeRows xs)
   unfolding objectPlace
   at-is = ap (λ (q : Place). q .at) place-is
 
-  used-is : end .at ≡ 18 + length (encodeRows (rowsOf s))
+  used-is : end .at ≡ headerLength + length (encodeRows (rowsOf s))
   used-is = ap (λ (q : Offset). q .at) end-is
 
   object-ok : ObjectOk p y
@@ -93,57 +93,57 @@ module _ (t a p : List ℕ) (b : Bytes t) (stamp : ℕ) (digest : Digest) (pre :
   pub path-most : length p ≤ 128
   path-most = stored-path-length p (object-ok .path) .below
 
-  pub header-inside : 18 ≤ length t
+  pub header-inside : headerLength ≤ length t
   header-inside = let z = stands .size in omega arith
 
-  pub head-inside : place .at + 36 ≤ length t
+  pub head-inside : place .at + headLength ≤ length t
   head-inside = omega (arith, at-is, here .inside)
 
-  row-length : length (encodeRow (objectRow p x)) ≡ 36 + length p
+  row-length : length (encodeRow (objectRow p x)) ≡ headLength + length p
   row-length = length-row (objectRow p x) (here .encodable)
 
-  rows-length : length (encodeRows (rowsOf s)) ≡ length (encodeRows xs) + (36 + length p + length (encodeRows ys))
+  rows-length : length (encodeRows (rowsOf s)) ≡ length (encodeRows xs) + (headLength + length p + length (encodeRows ys))
   unfolding encodeRows
   rows-length =
       ap length (ap encodeRows split ∙ encode-append xs (objectRow p x ∷ ys))
       ∙ omega (arith, length-append (encodeRows xs) (encodeRow (objectRow p x) ++ encodeRows ys), length-append (encodeRow (objectRow p x)) (encodeRows ys), row-length)
 
-  pub rows-inside : (18 ≤ place .at) × (place .at + (36 + length p) ≤ end .at) × (end .at ≤ length t)
+  pub rows-inside : (headerLength ≤ place .at) × (place .at + (headLength + length p) ≤ end .at) × (end .at ≤ length t)
   rows-inside =
       let f = tables-fit (length a) s (stands .small) (stands .valid) in
       (omega (arith, at-is), omega (arith, at-is, used-is, rows-length), omega (arith, used-is, stands .size))
 
   -- without the row
-  module _ (header : Header) (read : header ≡ headerAt t) (t₁ : List ℕ) (e₁ : t₁ ≡ headed (spliced t (place .at) (36 + length p) (end .at) []) header) where
+  module _ (header : Header) (read : header ≡ headerAt t) (t₁ : List ℕ) (e₁ : t₁ ≡ headed (spliced t (place .at) (headLength + length p) (end .at) []) header) where
     header-is : header ≡ headerOf (length a) s
     header-is = read ∙ header-back t a s stands
 
-    header-length : length (encodeHeader (length a) s) ≡ 18
+    header-length : length (encodeHeader (length a) s) ≡ headerLength
     header-length = length-header (length a) s (stands .small) (stands .valid)
 
     told : t ≡ encodeHeader (length a) s ++ (encodeRows (xs ++ ((objectRow p x ∷ []) ++ ys)) ++ stands .tables-free)
     told = stands .tables ∙ ap (λ (rs : List Row). encodeHeader (length a) s ++ (encodeRows rs ++ stands .tables-free)) split
 
-    cut-told : t₁ ≡ encodeHeader (length a) s ++ (encodeRows (xs ++ ys) ++ drop (18 + length (encodeRows (xs ++ ys))) t)
+    cut-told : t₁ ≡ encodeHeader (length a) s ++ (encodeRows (xs ++ ys) ++ drop (headerLength + length (encodeRows (xs ++ ys))) t)
     unfolding encodeRows
     cut-told =
-        let n-is : 36 + length p ≡ length (encodeRow (objectRow p x) ++ []) = omega (arith, row-length, length-append (encodeRow (objectRow p x)) []) in
-        let is : spliced t (place .at) (36 + length p) (end .at) [] ≡ spliced t (18 + length (encodeRows xs)) (length (encodeRow (objectRow p x) ++ [])) (18 + length (encodeRows (xs ++ ((objectRow p x ∷ []) ++ ys)))) [] =
-        ap₂ (λ (i j : ℕ). spliced t i (36 + length p) j []) at-is (used-is ∙ ap (λ (rs : List Row). 18 + length (encodeRows rs)) split) ∙ ap (λ (n : ℕ). spliced t (18 + length (encodeRows xs)) n (18 + length (encodeRows (xs ++ (objectRow p x ∷ ys)))) []) n-is in
-        header-written (length a) s s (spliced t (place .at) (36 + length p) (end .at) []) t₁ _ header header-length
-        (rows-spliced xs (objectRow p x ∷ []) [] ys t (spliced t (place .at) (36 + length p) (end .at) []) (encodeHeader (length a) s) (stands .tables-free) [] told header-length refl is)
+        let n-is : headLength + length p ≡ length (encodeRow (objectRow p x) ++ []) = omega (arith, row-length, length-append (encodeRow (objectRow p x)) []) in
+        let is : spliced t (place .at) (headLength + length p) (end .at) [] ≡ spliced t (headerLength + length (encodeRows xs)) (length (encodeRow (objectRow p x) ++ [])) (headerLength + length (encodeRows (xs ++ ((objectRow p x ∷ []) ++ ys)))) [] =
+        ap₂ (λ (i j : ℕ). spliced t i (headLength + length p) j []) at-is (used-is ∙ ap (λ (rs : List Row). headerLength + length (encodeRows rs)) split) ∙ ap (λ (n : ℕ). spliced t (headerLength + length (encodeRows xs)) n (headerLength + length (encodeRows (xs ++ (objectRow p x ∷ ys)))) []) n-is in
+        header-written (length a) s s (spliced t (place .at) (headLength + length p) (end .at) []) t₁ _ header header-length
+        (rows-spliced xs (objectRow p x ∷ []) [] ys t (spliced t (place .at) (headLength + length p) (end .at) []) (encodeHeader (length a) s) (stands .tables-free) [] told header-length refl is)
         header-is e₁
 
-    between-length : 18 + length (encodeRows (xs ++ ys)) ≡ end .at - (36 + length p)
+    between-length : headerLength + length (encodeRows (xs ++ ys)) ≡ end .at - (headLength + length p)
     between-length = omega (arith, used-is, rows-length, ap length (encode-append xs ys), length-append (encodeRows xs) (encodeRows ys))
 
-    pub again-inside : (18 ≤ place .at) × (place .at ≤ end .at - (36 + length p)) × (length p ≤ 128) × (end .at - (36 + length p) + (36 + length p) ≤ length t)
+    pub again-inside : (headerLength ≤ place .at) × (place .at ≤ end .at - (headLength + length p)) × (length p ≤ 128) × (end .at - (headLength + length p) + (headLength + length p) ≤ length t)
     again-inside =
         let r = rows-inside in
         (r .0, omega (arith, r .1), path-most, omega (arith, r .1, r .2))
 
     pub restamped : (old : Head) (t′ : List ℕ) → old ≡ headAt (drop (place .at) t)
-        → t′ ≡ headed (spliced t₁ (place .at) 0 (end .at - (36 + length p)) (rowBytes (record { size = old .size; number = 0; stamp = stamp; kind = 0; pathlen = length p; count = 0 }) (bytesOf digest) p)) header
+        → t′ ≡ headed (spliced t₁ (place .at) 0 (end .at - (headLength + length p)) (rowBytes (record { size = old .size; number = 0; stamp = stamp; kind = 0; pathlen = length p; count = 0 }) (bytesOf digest) p)) header
         → length t′ ≡ length t → Stands t′ a s′
     unfolding encodeRows
     restamped old t′ old-is e l =
@@ -152,8 +152,8 @@ module _ (t a p : List ℕ) (b : Bytes t) (stamp : ℕ) (digest : Digest) (pre :
         let bytes-is : rowBytes (record { size = old .size; number = 0; stamp = stamp; kind = 0; pathlen = length p; count = 0 }) (bytesOf digest) p ≡ encodeRow (objectRow p y) ++ [] =
         ap (λ (q : Head). rowBytes q (bytesOf digest) p) head-is ∙ sym (append-nil (encodeRow (objectRow p y))) in
         let src = rowBytes (record { size = old .size; number = 0; stamp = stamp; kind = 0; pathlen = length p; count = 0 }) (bytesOf digest) p in
-        let t₂ = spliced t₁ (place .at) 0 (end .at - (36 + length p)) src in
-        let is : t₂ ≡ spliced t₁ (18 + length (encodeRows xs)) 0 (18 + length (encodeRows (xs ++ ([] ++ ys)))) src = ap₂ (λ (i j : ℕ). spliced t₁ i 0 j src) at-is (sym between-length) in
+        let t₂ = spliced t₁ (place .at) 0 (end .at - (headLength + length p)) src in
+        let is : t₂ ≡ spliced t₁ (headerLength + length (encodeRows xs)) 0 (headerLength + length (encodeRows (xs ++ ([] ++ ys)))) src = ap₂ (λ (i j : ℕ). spliced t₁ i 0 j src) at-is (sym between-length) in
         let rows = rows-spliced xs [] (objectRow p y ∷ []) ys t₁ t₂ (encodeHeader (length a) s) _ src cut-told header-length bytes-is is in
         let same : length (s .O) ≡ length (s′ .O) = omega (arith, rw found at (length-insert bytes p y (s .O))) in
         let header-is′ : header ≡ headerOf (length a) s′ = header-is ∙ rw same in
@@ -165,7 +165,7 @@ module _ (t a p : List ℕ) (b : Bytes t) (stamp : ℕ) (digest : Digest) (pre :
           small = stands .small;
           valid = pre .valid;
           tables-free = _;
-          tables = tables ∙ ap (λ (rs : List Row). encodeHeader (length a) s′ ++ (encodeRows rs ++ drop (18 + length (encodeRows (xs ++ (objectRow p y ∷ ys)))) t₁)) (sym split′);
+          tables = tables ∙ ap (λ (rs : List Row). encodeHeader (length a) s′ ++ (encodeRows rs ++ drop (headerLength + length (encodeRows (xs ++ (objectRow p y ∷ ys)))) t₁)) (sym split′);
           arena-free = stands .arena-free;
           arena = stands .arena ∙ ap (λ (d : List ℕ). d ++ stands .arena-free) contents;
         }

@@ -20,7 +20,7 @@ fn restamp(tables: &mut [u8], arena: &[u8], stamp: u64, digest: Digest, path: &[
     let header = layout::headers::read_header(tables);
     let at = place.at;
     let old = row::read_head(tables, at);
-    let n = 36 + path.len();
+    let n = row::HEAD + path.len();
     let used = end.at;
     let h = Head {
         size: old.size,

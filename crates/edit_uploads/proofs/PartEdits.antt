@@ -18,7 +18,7 @@ use Rattle.machine.specs.Valid.{Valid, PartOk, UploadOk}
 use Rattle.machine.proofs.MapLaws.{lookup-insert, every-lookup}
 use Rattle.machine.proofs.Counts.{parts-part}
 use Rattle.row.specs.declared.Head.{Head}
-use Rattle.row.specs.Row.{encodeRows, contentsOf, headAt, headOf, rowBytes}
+use Rattle.row.specs.Row.{encodeRows, contentsOf, headAt, headOf, rowBytes, headLength, span}
 use Rattle.row.specs.RowLaws.{Encodable}
 use Rattle.layout.specs.declared.Header.{Header}
 use Rattle.layout.specs.Memory.{rowsOf, partRow, whole, stateOf, Stands}
@@ -26,7 +26,7 @@ use Rattle.layout.specs.UploadLaws.{part-encodable}
 use Rattle.layout.specs.WholeLaws.{whole-stands}
 use Rattle.layout.specs.StandsLaws.{header-back}
 use Rattle.layout.specs.declared.Offset.{Offset}
-use Rattle.layout.specs.Header.{headerOf, headed, headerAt}
+use Rattle.layout.specs.Header.{headerOf, headed, headerAt, headerLength}
 use Rattle.find.specs.declared.Place.{Place}
 use Rattle.find.specs.Places.{behind, beforePart, afterPart, fromPart, partPlace}
 use Rattle.find.proofs.RowsAt.{row-at}
@@ -52,7 +52,7 @@ module _ (t a : List ℕ) (b : Bytes t) (w : whole t a ≡ true) (u n : ℕ) (x 
   parts-are : header .parts ≡ total partsIn (s .U)
   parts-are = ap (λ (h : Header). h .parts) header-is
 
-  at-is : place .at ≡ 18 + length (encodeRows (beforePart s u x n))
+  at-is : place .at ≡ headerLength + length (encodeRows (beforePart s u x n))
   unfolding partPlace
   at-is = ap (λ (k : Place). k .at) (place-is x is-open)
 
@@ -60,7 +60,7 @@ module _ (t a : List ℕ) (b : Bytes t) (w : whole t a ≡ true) (u n : ℕ) (x 
   unfolding partPlace
   base-is = ap (λ (k : Place). k .base) (place-is x is-open)
 
-  used-is : end .at ≡ 18 + length (encodeRows (rowsOf s))
+  used-is : end .at ≡ headerLength + length (encodeRows (rowsOf s))
   used-is = ap (λ (k : Offset). k .at) end-is
 
   held-is : end .base ≡ length (contentsOf (rowsOf s))
@@ -92,7 +92,7 @@ module _ (t a : List ℕ) (b : Bytes t) (w : whole t a ≡ true) (u n : ℕ) (x 
         rw (header-is, one, same-uploads s u x is-open (withoutPart x n))
 
     pub record Removal : Type 0 where
-      pub head : place .at + 36 ≤ length t
+      pub head : place .at + headLength ≤ length t
       pub count : 1 ≤ header .parts
 
     pub removal : Removal
@@ -103,15 +103,15 @@ module _ (t a : List ℕ) (b : Bytes t) (w : whole t a ≡ true) (u n : ℕ) (x 
         }
 
     module _ (head : Head) (head-is : head ≡ headAt (drop (place .at) t)) where
-      no-path : 36 + head .pathlen ≡ 36
+      no-path : span head ≡ headLength
       no-path =
-          ap (λ (h : Head). 36 + h .pathlen)
+          ap (λ (h : Head). span h)
           (head-is ∙ ap (λ (i : ℕ). headAt (drop i t)) at-is ∙ row-at t a s stands (beforePart s u x n) (partRow n y) (afterPart s u x n) split .head)
 
       pub record Cutting : Type 0 where
-        pub rows : (18 ≤ place .at) × (place .at + 36 ≤ end .at) × (end .at ≤ length t)
+        pub rows : (headerLength ≤ place .at) × (place .at + headLength ≤ end .at) × (end .at ≤ length t)
         pub content : (place .base + head .size ≤ end .base) × (end .base ≤ length a)
-        pub stands : (t′ a′ : List ℕ) → t′ ≡ headed (spliced t (place .at) 36 (end .at) []) (counting (header .parts - 1)) → a′ ≡ spliced a (place .base) (head .size) (end .base) []
+        pub stands : (t′ a′ : List ℕ) → t′ ≡ headed (spliced t (place .at) headLength (end .at) []) (counting (header .parts - 1)) → a′ ≡ spliced a (place .base) (head .size) (end .base) []
             → length t′ ≡ length t → length a′ ≡ length a → (z : Upload) → lookup byNumber u (s .U) ≡ some z → Stands t′ a′ (withUpload s u (withoutPart z n))
 
       pub cutting : Cutting
@@ -183,7 +183,7 @@ module _ (t a : List ℕ) (b : Bytes t) (w : whole t a ≡ true) (u n : ℕ) (x 
     pub record Adding : Type 0 where
       pub fits : size < 256 ^ 4
       pub count : header .parts ≤ 255
-      pub rows : (18 ≤ place .at) × (place .at ≤ end .at) × (0 ≤ 128) × (end .at + 36 ≤ length t)
+      pub rows : (headerLength ≤ place .at) × (place .at ≤ end .at) × (0 ≤ 128) × (end .at + headLength ≤ length t)
       pub base : place .base ≤ end .base
       pub content : place .base + (end .base - place .base) + size ≤ length a
       pub stands : (t′ a′ : List ℕ) → t′ ≡ headed (spliced t (place .at) 0 (end .at) (rowBytes new-head (bytesOf digest) [])) (counting (header .parts + 1))

@@ -20,7 +20,7 @@ use Rattle.machine.proofs.MapSums.{length-insert, length-remove, total-insert, 
 use Rattle.machine.proofs.MapLaws.{lookup-insert, every-lookup}
 use Rattle.machine.proofs.KeepsValid.{without-upload-valid}
 use Rattle.row.specs.declared.Head.{Head}
-use Rattle.row.specs.Row.{Row, encodeRows, contentsOf, headOf, rowBytes}
+use Rattle.row.specs.Row.{Row, encodeRows, contentsOf, headOf, rowBytes, headLength}
 use Rattle.row.specs.RowLaws.{Encodable, encode-append, contents-append}
 use Rattle.layout.specs.declared.Header.{Header}
 use Rattle.layout.specs.Rules.{zeros}
@@ -31,7 +31,7 @@ use Rattle.layout.specs.WholeLaws.{whole-stands}
 use Rattle.layout.specs.StandsLaws.{header-back}
 use Rattle.layout.specs.RowCounts.{length-contents}
 use Rattle.layout.specs.declared.Offset.{Offset}
-use Rattle.layout.specs.Header.{headerOf, headed, headerAt}
+use Rattle.layout.specs.Header.{headerOf, headed, headerAt, headerLength}
 use Rattle.find.specs.declared.Place.{Place}
 use Rattle.find.specs.declared.Parts.{Parts}
 use Rattle.find.specs.Places.{behind, beforeUpload, beforeParts, afterUpload, throughParts, uploadPlace, partsOf}
@@ -79,7 +79,7 @@ module _ (t a : List ℕ) (b : Bytes t) (w : whole t a ≡ true) (end : Offset) 
   parts-are : header .parts ≡ total partsIn (s .U)
   parts-are = ap (λ (h : Header). h .parts) header-is
 
-  used-is : end .at ≡ 18 + length (encodeRows (rowsOf s))
+  used-is : end .at ≡ headerLength + length (encodeRows (rowsOf s))
   used-is = ap (λ (x : Offset). x .at) end-is
 
   held-is : end .base ≡ length (contentsOf (rowsOf s))
@@ -136,7 +136,7 @@ module _ (t a : List ℕ) (b : Bytes t) (w : whole t a ≡ true) (end : Offset) 
       pub path : length p ≤ 128
       pub number : header .next < 256 ^ 4
       pub count : header .uploads ≤ 15
-      pub room : (18 ≤ end .at) × (end .at ≤ end .at) × (length p ≤ 128) × (end .at + (36 + length p) ≤ length t)
+      pub room : (headerLength ≤ end .at) × (end .at ≤ end .at) × (length p ≤ 128) × (end .at + (headLength + length p) ≤ length t)
       pub stands : (t′ : List ℕ) → t′ ≡ headed (spliced t (end .at) 0 (end .at) (rowBytes head (bytesOf zeroDigest) p)) opened → length t′ ≡ length t → Stands t′ a s′
 
     pub opening : Opening
@@ -171,7 +171,7 @@ module _ (t a : List ℕ) (b : Bytes t) (w : whole t a ≡ true) (end : Offset) 
     unfolding throughParts beforeParts
     through = append-assoc (beforeUpload s u) (uploadRow u y ∷ []) (partRows (y .parts))
 
-    at-is : place .at ≡ 18 + length (encodeRows (beforeUpload s u))
+    at-is : place .at ≡ headerLength + length (encodeRows (beforeUpload s u))
     unfolding uploadPlace
     at-is = ap (λ (k : Place). k .at) place-is
 
@@ -183,7 +183,7 @@ module _ (t a : List ℕ) (b : Bytes t) (w : whole t a ≡ true) (end : Offset) 
     unfolding partsOf
     count-is = ap (λ (k : Parts). k .count) (parts-told y found)
 
-    at-through : parts .at ≡ 18 + length (encodeRows (throughParts s u y))
+    at-through : parts .at ≡ headerLength + length (encodeRows (throughParts s u y))
     unfolding partsOf
     at-through = ap (λ (k : Parts). k .at) (parts-told y found)
 
@@ -246,7 +246,7 @@ module _ (t a : List ℕ) (b : Bytes t) (w : whole t a ≡ true) (end : Offset) 
       pub uploads : 1 ≤ header .uploads
       pub count : parts .count ≤ header .parts
       pub few : header .parts ≤ 256
-      pub rows : (18 ≤ place .at) × (place .at + (parts .at - place .at) ≤ end .at) × (end .at ≤ length t)
+      pub rows : (headerLength ≤ place .at) × (place .at + (parts .at - place .at) ≤ end .at) × (end .at ≤ length t)
       pub content : (place .base + (parts .base - place .base) ≤ end .base) × (end .base ≤ length a)
       pub stands : (t′ a′ : List ℕ) → t′ ≡ headed (spliced t (place .at) (parts .at - place .at) (end .at) []) closed
           → a′ ≡ spliced a (place .base) (parts .base - place .base) (end .base) [] → length t′ ≡ length t → length a′ ≡ length a → Stands t′ a′ (withoutUpload s u)

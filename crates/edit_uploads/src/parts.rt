@@ -29,7 +29,7 @@ fn remove_part(tables: &mut [u8], arena: &mut [u8], upload: u32, number: u16)
         uploads: header.uploads,
         parts: header.parts - 1,
     };
-    edit::rows::remove_rows(tables, at, 36, end.at, after);
+    edit::rows::remove_rows(tables, at, row::HEAD, end.at, after);
     buffer::remove(arena, base, m, end.base);
 }
 

@@ -10,6 +10,7 @@ use lib.Seq.{take-at, drop-at}
 use Rattle.machine.specs.Map.{isSome, byNumber, lookup, place}
 use Rattle.machine.specs.State.{Upload, State}
 use Rattle.row.specs.Row.{Row, encodeRows, contentsOf}
+use Rattle.layout.specs.Header.{headerLength}
 use Rattle.layout.specs.Memory.{uploadRow, partRows, rowsOf}
 use Rattle.layout.specs.UploadLaws.{length-part-rows}
 use Rattle.find.specs.declared.RowPlace.{RowPlace}
@@ -32,7 +33,7 @@ place-row rs p i e = ap (λ (q : RowPlace). q .row) e
 pub is-row-place : (rs : List Row) (p : RowPlace) (i : ℕ) → p ≡ rowPlaceAt rs i → i ≤ length rs → IsRowPlace rs p
 is-row-place rs p i e l = let n = place-row rs p i e in (e ∙ ap (rowPlaceAt rs) (sym n), omega arith)
 
-pub first-row-place : (rs : List Row) → IsRowPlace rs (rowPlace 0 18 0)
+pub first-row-place : (rs : List Row) → IsRowPlace rs (rowPlace 0 headerLength 0)
 unfolding rowPlaceAt encodeRows contentsOf
 first-row-place rs = (refl, omega arith)
 
@@ -51,7 +52,7 @@ sought-row-place g rs p i e l = is-row-place rs p _ e (omega (arith, reach-lengt
 
 -- a place behind the rows xs, where ys are the rest
 pub record Behind (rs xs ys : List Row) (p : RowPlace) : Type 0 where
-  pub at : p .at ≡ 18 + length (encodeRows xs)
+  pub at : p .at ≡ headerLength + length (encodeRows xs)
   pub base : p .base ≡ length (contentsOf xs)
   pub row : p .row ≡ length xs
   pub rest : drop (p .row) rs ≡ ys
@@ -62,7 +63,7 @@ place-behind rs xs ys p e q =
     let front : take (length xs) rs ≡ xs = ap (take (length xs)) e ∙ take-at xs ys (length xs) refl in
     let n : p .row ≡ length xs = ap (λ (z : RowPlace). z .row) q in
     record {
-      at = ap (λ (z : RowPlace). z .at) q ∙ ap (λ (l : List Row). 18 + length (encodeRows l)) front;
+      at = ap (λ (z : RowPlace). z .at) q ∙ ap (λ (l : List Row). headerLength + length (encodeRows l)) front;
       base = ap (λ (z : RowPlace). z .base) q ∙ ap (λ (l : List Row). length (contentsOf l)) front;
       row = n;
       rest = ap (λ (i : ℕ). drop i rs) n ∙ ap (drop (length xs)) e ∙ drop-at xs ys (length xs) refl;

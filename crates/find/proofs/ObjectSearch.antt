@@ -13,7 +13,8 @@ use Rattle.machine.specs.Map.{isSome, lookup, place}
 use Rattle.machine.specs.Names.{Bytes}
 use Rattle.machine.specs.State.{State}
 use Rattle.row.specs.declared.Head.{Head}
-use Rattle.row.specs.Row.{Row, encodeRows, contentsOf, headAt}
+use Rattle.row.specs.Row.{Row, encodeRows, contentsOf, headAt, headLength, span}
+use Rattle.layout.specs.Header.{headerLength}
 use Rattle.layout.specs.Memory.{objectRows, Stands}
 use Rattle.layout.specs.ObjectLaws.{length-object-rows}
 use Rattle.find.specs.declared.Place.{Place}
@@ -24,7 +25,7 @@ use Rattle.find.proofs.ObjectAt.{blank, entry, row, front, rest, split,
 -- the paths of the first i objects are below p, and the next row begins at `at`
 pub record Passed (s : State) (p : Bytes) (i at base : ℕ) : Type 0 where
   pub within : i ≤ length (s .O)
-  pub rows : at ≡ 18 + length (encodeRows (objectRows (take i (s .O))))
+  pub rows : at ≡ headerLength + length (encodeRows (objectRows (take i (s .O))))
   pub contents : base ≡ length (contentsOf (objectRows (take i (s .O))))
   pub places : place byBytes p (s .O) ≡ i + place byBytes p (drop i (s .O))
   pub found : lookup byBytes p (s .O) ≡ lookup byBytes p (drop i (s .O))
@@ -32,7 +33,7 @@ pub record Passed (s : State) (p : Bytes) (i at base : ℕ) : Type 0 where
 abbrev pub placed : Bool → ℕ → ℕ → ℕ → Place
 placed found row at base = record { found = found; row = row; at = at; base = base }
 
-pub passed-none : (s : State) (p : Bytes) → Passed s p 0 18 0
+pub passed-none : (s : State) (p : Bytes) → Passed s p 0 headerLength 0
 unfolding encodeRows contentsOf objectRows
 passed-none s p = record { within = omega arith; rows = refl; contents = refl; places = omega arith; found = refl }
 
@@ -52,17 +53,17 @@ passed-all s p i at base k l =
 
 -- what the code knows at the row of object i, by the head that it read there and the comparison of the paths
 pub record Turn (t a : List ℕ) (s : State) (p : Bytes) (i at base : ℕ) (head : Head) : Type 0 where
-  pub inside : at + 36 + head .pathlen ≤ length t
+  pub inside : at + span head ≤ length t
   pub arena-inside : base + head .size ≤ length a
-  pub less : byBytes p (take (head .pathlen) (drop (at + 36) t)) ≡ Ordering·lt → placed false i at base ≡ objectPlace s p
-  pub equal : byBytes p (take (head .pathlen) (drop (at + 36) t)) ≡ Ordering·eq → placed true i at base ≡ objectPlace s p
-  pub greater : byBytes p (take (head .pathlen) (drop (at + 36) t)) ≡ Ordering·gt → Passed s p (i + 1) (at + 36 + head .pathlen) (base + head .size)
+  pub less : byBytes p (take (head .pathlen) (drop (at + headLength) t)) ≡ Ordering·lt → placed false i at base ≡ objectPlace s p
+  pub equal : byBytes p (take (head .pathlen) (drop (at + headLength) t)) ≡ Ordering·eq → placed true i at base ≡ objectPlace s p
+  pub greater : byBytes p (take (head .pathlen) (drop (at + headLength) t)) ≡ Ordering·gt → Passed s p (i + 1) (at + headLength + head .pathlen) (base + head .size)
 
 module _ (t a : List ℕ) (s : State) (h : Stands t a s) (p : Bytes) (i at base : ℕ) (k : Passed s p i at base) (l : i < length (s .O)) where
   here-at : At t a s h (front s i) (row s i) (rest s i)
   here-at = row-at t a s h (front s i) (row s i) (rest s i) (split s i l)
 
-  pub object-inside : at + 36 ≤ length t
+  pub object-inside : at + headLength ≤ length t
   unfolding front
   object-inside = let q = k .rows in let z = here-at .inside in omega arith
 
@@ -71,7 +72,7 @@ module _ (t a : List ℕ) (s : State) (h : Stands t a s) (p : Bytes) (i at base 
     unfolding front
     here-read = row-read t a s h (front s i) (row s i) (rest s i) at base head here-at (k .rows) (k .contents) q
 
-    answer : (o : Ordering) → byBytes p (take (head .pathlen) (drop (at + 36) t)) ≡ o
+    answer : (o : Ordering) → byBytes p (take (head .pathlen) (drop (at + headLength) t)) ≡ o
         → (lookup byBytes p (drop i (s .O)) ≡ by o none (some (entry s i .1)) (lookup byBytes p (drop (suc i) (s .O))))
         × (place byBytes p (drop i (s .O)) ≡ by o 0 0 (suc (place byBytes p (drop (suc i) (s .O)))))
     answer o e =
@@ -90,7 +91,7 @@ module _ (t a : List ℕ) (s : State) (h : Stands t a s) (p : Bytes) (i at base 
           greater = λ e.
               record {
                 within = omega arith;
-                rows = r .next ∙ ap (λ (rs : List Row). 18 + length (encodeRows rs)) (sym (next-front s i l));
+                rows = r .next ∙ ap (λ (rs : List Row). headerLength + length (encodeRows rs)) (sym (next-front s i l));
                 contents = r .arena-next ∙ ap (λ (rs : List Row). length (contentsOf rs)) (sym (next-front s i l));
                 places = rw add-one (let m = k .places in omega (arith, answer _ e .1));
                 found = rw add-one (k .found ∙ answer _ e .0);

@@ -7,17 +7,17 @@ use lib.ListN.{length, take, drop, length-append}
 use lib.Seq.{take-at, drop-at, drop-drop}
 use Rattle.machine.specs.State.{State}
 use Rattle.row.specs.declared.Head.{Head}
-use Rattle.row.specs.Row.{Row, encodeRow, encodeRows, contentsOf, headAt, digestAt, pathAt, headOf}
+use Rattle.row.specs.Row.{Row, encodeRow, encodeRows, contentsOf, headAt, digestAt, pathAt, headOf, numbersLength, headLength, span}
 use Rattle.row.specs.RowLaws.{Encodable, EncodableAll, encode-append, contents-append, encodable-right, length-row, head-back, digest-back, path-back}
 use Rattle.layout.specs.Memory.{rowsOf, Stands}
 use Rattle.layout.specs.StandsLaws.{rows-encodable, length-header}
-use Rattle.layout.specs.Header.{encodeHeader}
+use Rattle.layout.specs.Header.{encodeHeader, headerLength}
 
 -- tables and arena, cut behind the rows xs, where ys are the rest
 pub record Cut (t a : List ℕ) (s : State) (h : Stands t a s) (xs ys : List Row) : Type 0 where
-  pub before : take (18 + length (encodeRows xs)) t ≡ encodeHeader (length a) s ++ encodeRows xs
-  pub behind : drop (18 + length (encodeRows xs)) t ≡ encodeRows ys ++ h .tables-free
-  pub inside : 18 + length (encodeRows xs) ≤ length t
+  pub before : take (headerLength + length (encodeRows xs)) t ≡ encodeHeader (length a) s ++ encodeRows xs
+  pub behind : drop (headerLength + length (encodeRows xs)) t ≡ encodeRows ys ++ h .tables-free
+  pub inside : headerLength + length (encodeRows xs) ≤ length t
   pub arena-before : take (length (contentsOf xs)) a ≡ contentsOf xs
   pub arena-behind : drop (length (contentsOf xs)) a ≡ contentsOf ys ++ h .arena-free
   pub arena-inside : length (contentsOf xs) ≤ length a
@@ -29,14 +29,14 @@ module _ (t a : List ℕ) (s : State) (h : Stands t a s) (xs ys : List Row) (e :
   arena-cut : a ≡ contentsOf xs ++ (contentsOf ys ++ h .arena-free)
   arena-cut = h .arena ∙ rw (e, contents-append) (simp append-assoc)
 
-  length-front : length (encodeHeader (length a) s ++ encodeRows xs) ≡ 18 + length (encodeRows xs)
+  length-front : length (encodeHeader (length a) s ++ encodeRows xs) ≡ headerLength + length (encodeRows xs)
   length-front = rw (length-append, length-header (length a) s (h .small) (h .valid))
 
   pub cut : Cut t a s h xs ys
   cut =
       record {
-        before = ap (take (18 + length (encodeRows xs))) tables-cut ∙ take-at (encodeHeader (length a) s ++ encodeRows xs) (encodeRows ys ++ h .tables-free) (18 + length (encodeRows xs)) length-front;
-        behind = ap (drop (18 + length (encodeRows xs))) tables-cut ∙ drop-at (encodeHeader (length a) s ++ encodeRows xs) (encodeRows ys ++ h .tables-free) (18 + length (encodeRows xs)) length-front;
+        before = ap (take (headerLength + length (encodeRows xs))) tables-cut ∙ take-at (encodeHeader (length a) s ++ encodeRows xs) (encodeRows ys ++ h .tables-free) (headerLength + length (encodeRows xs)) length-front;
+        behind = ap (drop (headerLength + length (encodeRows xs))) tables-cut ∙ drop-at (encodeHeader (length a) s ++ encodeRows xs) (encodeRows ys ++ h .tables-free) (headerLength + length (encodeRows xs)) length-front;
         inside = omega (arith, ap length tables-cut, length-append (encodeHeader (length a) s ++ encodeRows xs) (encodeRows ys ++ h .tables-free), length-front);
         arena-before = ap (take (length (contentsOf xs))) arena-cut ∙ take-at (contentsOf xs) (contentsOf ys ++ h .arena-free) (length (contentsOf xs)) refl;
         arena-behind = ap (drop (length (contentsOf xs))) arena-cut ∙ drop-at (contentsOf xs) (contentsOf ys ++ h .arena-free) (length (contentsOf xs)) refl;
@@ -46,12 +46,12 @@ module _ (t a : List ℕ) (s : State) (h : Stands t a s) (xs ys : List Row) (e :
 -- the row r behind the rows xs: what is read of it, that it stands inside, and where the next row begins
 pub record At (t a : List ℕ) (s : State) (h : Stands t a s) (xs : List Row) (r : Row) (ys : List Row) : Type 0 where
   pub encodable : Encodable r
-  pub row : drop (18 + length (encodeRows xs)) t ≡ encodeRow r ++ (encodeRows ys ++ h .tables-free)
-  pub head : headAt (drop (18 + length (encodeRows xs)) t) ≡ headOf r
-  pub digest : take 16 (drop (18 + length (encodeRows xs) + 20) t) ≡ r .digest
-  pub path : take (length (r .path)) (drop (18 + length (encodeRows xs) + 36) t) ≡ r .path
-  pub inside : 18 + length (encodeRows xs) + 36 + length (r .path) ≤ length t
-  pub next : 18 + length (encodeRows (xs ++ (r ∷ []))) ≡ 18 + length (encodeRows xs) + 36 + length (r .path)
+  pub row : drop (headerLength + length (encodeRows xs)) t ≡ encodeRow r ++ (encodeRows ys ++ h .tables-free)
+  pub head : headAt (drop (headerLength + length (encodeRows xs)) t) ≡ headOf r
+  pub digest : take 16 (drop (headerLength + length (encodeRows xs) + numbersLength) t) ≡ r .digest
+  pub path : take (length (r .path)) (drop (headerLength + length (encodeRows xs) + headLength) t) ≡ r .path
+  pub inside : headerLength + length (encodeRows xs) + span (headOf r) ≤ length t
+  pub next : headerLength + length (encodeRows (xs ++ (r ∷ []))) ≡ headerLength + length (encodeRows xs) + span (headOf r)
   pub arena : drop (length (contentsOf xs)) a ≡ r .content ++ (contentsOf ys ++ h .arena-free)
   pub content : take (length (r .content)) (drop (length (contentsOf xs)) a) ≡ r .content
   pub arena-inside : length (contentsOf xs) + length (r .content) ≤ length a
@@ -59,7 +59,7 @@ pub record At (t a : List ℕ) (s : State) (h : Stands t a s) (xs : List Row) (r
 
 module _ (t a : List ℕ) (s : State) (h : Stands t a s) (xs : List Row) (r : Row) (ys : List Row) (e : rowsOf s ≡ xs ++ (r ∷ ys)) where
   abbrev place : ℕ
-  place = 18 + length (encodeRows xs)
+  place = headerLength + length (encodeRows xs)
 
   row-encodable : Encodable r
   row-encodable = encodable-right xs (r ∷ ys) (subst EncodableAll e (rows-encodable (length a) s (h .small) (h .valid))) .0
@@ -75,19 +75,19 @@ module _ (t a : List ℕ) (s : State) (h : Stands t a s) (xs : List Row) (r : Ro
   head-here : headAt (drop place t) ≡ headOf r
   head-here = ap headAt row-here ∙ head-back r row-encodable (encodeRows ys ++ h .tables-free) []
 
-  path-here : take (length (r .path)) (drop (place + 36) t) ≡ r .path
+  path-here : take (length (r .path)) (drop (place + headLength) t) ≡ r .path
   unfolding pathAt
   path-here =
       let p : pathAt (drop place t) ≡ r .path = ap pathAt row-here ∙ path-back r row-encodable (encodeRows ys ++ h .tables-free) [] in
-      rw (← (drop-drop 36 place t)) (rw head-here at p)
+      rw (← (drop-drop headLength place t)) (rw head-here at p)
 
-  digest-here : take 16 (drop (place + 20) t) ≡ r .digest
+  digest-here : take 16 (drop (place + numbersLength) t) ≡ r .digest
   unfolding digestAt
   digest-here =
       let p : digestAt (drop place t) ≡ r .digest = ap digestAt row-here ∙ digest-back r row-encodable (encodeRows ys ++ h .tables-free) [] in
-      rw (← (drop-drop 20 place t)) p
+      rw (← (drop-drop numbersLength place t)) p
 
-  next-row : 18 + length (encodeRows (xs ++ (r ∷ []))) ≡ place + 36 + length (r .path)
+  next-row : headerLength + length (encodeRows (xs ++ (r ∷ []))) ≡ place + span (headOf r)
   unfolding encodeRows
   next-row = omega (arith, ap length (encode-append xs (r ∷ [])), length-append (encodeRows xs) (encodeRow r ++ []), length-append (encodeRow r) [], length-row r row-encodable)
 
@@ -117,14 +117,14 @@ module _ (t a : List ℕ) (s : State) (h : Stands t a s) (xs : List Row) (r : Ro
 -- what the code knows at the row r behind the rows xs, by the head that it read there
 pub record Read (t a : List ℕ) (xs : List Row) (r : Row) (at base : ℕ) (head : Head) : Type 0 where
   pub same : head ≡ headOf r
-  pub path : take (head .pathlen) (drop (at + 36) t) ≡ r .path
-  pub inside : at + 36 + head .pathlen ≤ length t
-  pub next : at + 36 + head .pathlen ≡ 18 + length (encodeRows (xs ++ (r ∷ [])))
+  pub path : take (head .pathlen) (drop (at + headLength) t) ≡ r .path
+  pub inside : at + span head ≤ length t
+  pub next : at + headLength + head .pathlen ≡ headerLength + length (encodeRows (xs ++ (r ∷ [])))
   pub arena-inside : base + head .size ≤ length a
   pub arena-next : base + head .size ≡ length (contentsOf (xs ++ (r ∷ [])))
 
 pub row-read : (t a : List ℕ) (s : State) (h : Stands t a s) (xs : List Row) (r : Row) (ys : List Row) (at base : ℕ) (head : Head) → At t a s h xs r ys
-    → at ≡ 18 + length (encodeRows xs) → base ≡ length (contentsOf xs) → head ≡ headAt (drop at t) → Read t a xs r at base head
+    → at ≡ headerLength + length (encodeRows xs) → base ≡ length (contentsOf xs) → head ≡ headAt (drop at t) → Read t a xs r at base head
 row-read t a s h xs r ys at base head k e f q =
     let same : head ≡ headOf r = q ∙ ap (λ (n : ℕ). headAt (drop n t)) e ∙ k .head in
     let n : head .pathlen ≡ length (r .path) = ap (λ (x : Head). x .pathlen) same in

@@ -11,7 +11,8 @@ use lib.ListN.{length, getD, take, drop, drop-of-length-le}
 use lib.Seq.{drop-cons, take-suc, split-at}
 use Rattle.machine.specs.State.{State}
 use Rattle.row.specs.declared.Head.{Head}
-use Rattle.row.specs.Row.{Row, encodeRows, contentsOf, headAt, headOf}
+use Rattle.row.specs.Row.{Row, encodeRows, contentsOf, headAt, headOf, headLength, span}
+use Rattle.layout.specs.Header.{headerLength}
 use Rattle.layout.specs.Memory.{rowsOf, Stands}
 use Rattle.layout.specs.RowCounts.{length-rows}
 use Rattle.find.specs.declared.RowPlace.{RowPlace}
@@ -25,7 +26,7 @@ rowPlace row at base = record { row = row; at = at; base = base }
 -- row i of the rows of s stands at `at`, its data at `base`
 pub record Reached (s : State) (i at base : ℕ) : Type 0 where
   pub within : i ≤ length (rowsOf s)
-  pub rows : at ≡ 18 + length (encodeRows (take i (rowsOf s)))
+  pub rows : at ≡ headerLength + length (encodeRows (take i (rowsOf s)))
   pub contents : base ≡ length (contentsOf (take i (rowsOf s)))
 
 pub reached-place : (s : State) (i at base : ℕ) → Reached s i at base → rowPlace i at base ≡ rowPlaceAt (rowsOf s) i
@@ -49,9 +50,9 @@ pub record Turn (t a : List ℕ) (s : State) (i at base : ℕ) (head : Head) : T
   pub row : Row
   pub here : drop i (rowsOf s) ≡ row ∷ drop (i + 1) (rowsOf s)
   pub same : head ≡ headOf row
-  pub inside : at + 36 + head .pathlen ≤ length t
+  pub inside : at + span head ≤ length t
   pub arena-inside : base + head .size ≤ length a
-  pub next : Reached s (i + 1) (at + 36 + head .pathlen) (base + head .size)
+  pub next : Reached s (i + 1) (at + headLength + head .pathlen) (base + head .size)
 
 abbrev blank : Row
 blank = record { number = 0; stamp = 0; kind = 0; count = 0; digest = []; path = []; content = [] }
@@ -66,7 +67,7 @@ module _ (t a : List ℕ) (s : State) (h : Stands t a s) (i at base : ℕ) (k : 
   here-at : At t a s h (take i rs) r (drop (suc i) rs)
   here-at = row-at t a s h (take i rs) r (drop (suc i) rs) (split-at rs i blank l)
 
-  pub row-inside : at + 36 ≤ length t
+  pub row-inside : at + headLength ≤ length t
   row-inside = let q = k .rows in let z = here-at .inside in omega arith
 
   pub row-turn : (head : Head) → head ≡ headAt (drop at t) → Turn t a s i at base head
@@ -82,7 +83,7 @@ module _ (t a : List ℕ) (s : State) (h : Stands t a s) (i at base : ℕ) (k : 
         next =
             record {
               within = omega arith;
-              rows = g .next ∙ ap (λ (xs : List Row). 18 + length (encodeRows xs)) (sym n);
+              rows = g .next ∙ ap (λ (xs : List Row). headerLength + length (encodeRows xs)) (sym n);
               contents = g .arena-next ∙ ap (λ (xs : List Row). length (contentsOf xs)) (sym n);
             };
       }

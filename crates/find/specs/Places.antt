@@ -10,6 +10,7 @@ use Rattle.machine.specs.State.{Upload, State}
 use Rattle.row.specs.Row.{Row, encodeRows, contentsOf}
 use Rattle.layout.specs.Memory.{objectRows, uploadRow, partRows, uploadRows, rowsOf}
 use Rattle.layout.specs.declared.Offset.{Offset}
+use Rattle.layout.specs.Header.{headerLength}
 use Rattle.find.specs.declared.Place.{Place}
 use Rattle.find.specs.declared.Parts.{Parts}
 use Rattle.find.specs.declared.PassedParts.{PassedParts}
@@ -17,10 +18,10 @@ use Rattle.find.specs.Search.{rowPlaceAt}
 
 -- where the rows behind rs begin, and their data
 abbrev pub behind : List Row → Offset
-behind rs = record { at = 18 + length (encodeRows rs); base = length (contentsOf rs) }
+behind rs = record { at = headerLength + length (encodeRows rs); base = length (contentsOf rs) }
 
 abbrev pub placeBehind : Bool → List Row → Place
-placeBehind found rs = record { found = found; row = length rs; at = 18 + length (encodeRows rs); base = length (contentsOf rs) }
+placeBehind found rs = record { found = found; row = length rs; at = headerLength + length (encodeRows rs); base = length (contentsOf rs) }
 
 -- the rows before those of the object at a path, of an upload, of an upload's parts, of a part, and of what follows an upload's parts
 unfoldable pub beforeObject : State → Bytes → List Row

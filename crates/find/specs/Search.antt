@@ -7,6 +7,7 @@ use lib.Dec.{leb, eqb}
 use lib.ListN.{length, take, drop}
 use Rattle.row.specs.declared.Head.{Head}
 use Rattle.row.specs.Row.{Row, encodeRows, contentsOf, headOf}
+use Rattle.layout.specs.Header.{headerLength}
 use Rattle.layout.specs.Rules.{uploadKind}
 use Rattle.find.specs.declared.RowPlace.{RowPlace}
 use Rattle.find.specs.declared.search.Goal.{Goal}
@@ -29,7 +30,7 @@ stopsOf g r = stopsAt g (headOf r)
 
 -- the place of row i of rs, counted from 0, or behind them all
 unfoldable pub rowPlaceAt : List Row → ℕ → RowPlace
-rowPlaceAt rs i = record { row = i; at = 18 + length (encodeRows (take i rs)); base = length (contentsOf (take i rs)) }
+rowPlaceAt rs i = record { row = i; at = headerLength + length (encodeRows (take i rs)); base = length (contentsOf (take i rs)) }
 
 -- p is the place of one of the rows rs, or behind them all
 abbrev pub IsRowPlace : List Row → RowPlace → Type 0

@@ -26,7 +26,7 @@ pub fn upload_row(tables: &[u8], arena: &[u8], upload: u32) -> RowPlace
 {
     let first = RowPlace {
         row: 0,
-        at: 18,
+        at: layout::HEADER,
         base: 0,
     };
     seek(tables, arena, first, Goal::Upload(upload))
@@ -48,7 +48,7 @@ pub fn rows_end(tables: &[u8], arena: &[u8]) -> Offset
 {
     let first = RowPlace {
         row: 0,
-        at: 18,
+        at: layout::HEADER,
         base: 0,
     };
     let end = seek(tables, arena, first, Goal::End);

@@ -12,7 +12,8 @@ use Rattle.machine.specs.State.{Upload, State}
 use Rattle.machine.specs.Valid.{UploadOk}
 use Rattle.machine.proofs.MapLaws.{every-lookup}
 use Rattle.row.specs.declared.Head.{Head}
-use Rattle.row.specs.Row.{encodeRows, contentsOf, headAt}
+use Rattle.row.specs.Row.{encodeRows, contentsOf, headAt, headLength, span}
+use Rattle.layout.specs.Header.{headerLength}
 use Rattle.layout.specs.Memory.{uploadRow, partRows, Stands}
 use Rattle.layout.specs.TestLaws.{stored-path-length}
 use Rattle.find.specs.declared.Place.{Place}
@@ -21,7 +22,7 @@ use Rattle.find.proofs.Splits.{upload-found}
 use Rattle.find.proofs.RowsAt.{At, Read, row-at, row-read}
 
 module _ (t a : List ℕ) (s : State) (h : Stands t a s) (u : ℕ) (x : Upload) (f : lookup byNumber u (s .U) ≡ some x) (place : Place) (place-is : place ≡ uploadPlace s u) where
-  at-is : place .at ≡ 18 + length (encodeRows (beforeUpload s u))
+  at-is : place .at ≡ headerLength + length (encodeRows (beforeUpload s u))
   unfolding uploadPlace
   at-is = ap (λ (k : Place). k .at) place-is
 
@@ -32,14 +33,14 @@ module _ (t a : List ℕ) (s : State) (h : Stands t a s) (u : ℕ) (x : Upload) 
   here : At t a s h (beforeUpload s u) (uploadRow u x) (partRows (x .parts) ++ afterUpload s u)
   here = row-at t a s h (beforeUpload s u) (uploadRow u x) (partRows (x .parts) ++ afterUpload s u) (upload-found s u x f)
 
-  pub head-inside : place .at + 36 ≤ length t
+  pub head-inside : place .at + headLength ≤ length t
   head-inside = let i = here .inside in omega (arith, at-is)
 
   module _ (head : Head) (read : head ≡ headAt (drop (place .at) t)) where
     there : Read t a (beforeUpload s u) (uploadRow u x) (place .at) (place .base) head
     there = row-read t a s h (beforeUpload s u) (uploadRow u x) (partRows (x .parts) ++ afterUpload s u) (place .at) (place .base) head here at-is base-is read
 
-    pub path-inside : place .at + 36 + head .pathlen ≤ length t
+    pub path-inside : place .at + span head ≤ length t
     path-inside = there .inside
 
     pub path-small : head .pathlen ≤ 128
@@ -51,7 +52,7 @@ module _ (t a : List ℕ) (s : State) (h : Stands t a s) (u : ℕ) (x : Upload) 
     pub stamp-read : head .stamp ≡ x .started
     stamp-read = ap (λ (k : Head). k .stamp) (there .same)
 
-    pub path-copied : (d d′ src : List ℕ) → src ≡ take (head .pathlen) (drop (place .at + 36) t) → d′ ≡ take 0 d ++ src ++ drop (0 + length src) d → take (head .pathlen) d′ ≡ x .path
+    pub path-copied : (d d′ src : List ℕ) → src ≡ take (head .pathlen) (drop (place .at + headLength) t) → d′ ≡ take 0 d ++ src ++ drop (0 + length src) d → take (head .pathlen) d′ ≡ x .path
     path-copied d d′ src is e =
         let q : src ≡ x .path = is ∙ there .path in
         let n : length src ≡ head .pathlen = ap length q ∙ sym (ap (λ (k : Head). k .pathlen) (there .same)) in

@@ -29,7 +29,7 @@ use Rattle.layout.specs.declared.Header.{Header}
 use Rattle.layout.specs.Memory.{uploadRow, partRows, rowsOf, Stands}
 use Rattle.layout.specs.RowCounts.{length-contents, length-part-contents}
 use Rattle.layout.specs.StandsLaws.{length-header}
-use Rattle.layout.specs.Header.{headerOf, headed, encodeHeader}
+use Rattle.layout.specs.Header.{headerOf, headed, encodeHeader, headerLength}
 use Rattle.find.specs.Places.{beforeUpload, beforeParts, throughParts, afterUpload}
 use Rattle.find.proofs.Splits.{parts-place, parts-behind}
 use Rattle.edit.proofs.Changes.{without-upload-rows}
@@ -85,19 +85,19 @@ module _ (t a : List ℕ) (s : State) (h : Stands t a s) (u : ℕ) (x : Upload) 
   pub few : length list ≤ 512
   few = omega (arith, even, fit-count (partList list) (x .parts) ys fits, fit-length (partList list) (x .parts) ys fits, few-parts t a s h u x f)
 
-  at-is : b .at ≡ 18 + length (encodeRows (beforeUpload s u))
+  at-is : b .at ≡ headerLength + length (encodeRows (beforeUpload s u))
   unfolding boundsOf
   at-is = ap (λ (k : Bounds). k .at) b-is
 
-  pub first-is : b .first ≡ 18 + length (encodeRows ahead)
+  pub first-is : b .first ≡ headerLength + length (encodeRows ahead)
   unfolding boundsOf
   first-is = ap (λ (k : Bounds). k .first) b-is
 
-  behind-is : b .behind ≡ 18 + length (encodeRows (throughParts s u x))
+  behind-is : b .behind ≡ headerLength + length (encodeRows (throughParts s u x))
   unfolding boundsOf
   behind-is = ap (λ (k : Bounds). k .behind) b-is
 
-  used-is : b .used ≡ 18 + length (encodeRows (rowsOf s))
+  used-is : b .used ≡ headerLength + length (encodeRows (rowsOf s))
   unfolding boundsOf
   used-is = ap (λ (k : Bounds). k .used) b-is
 
@@ -154,7 +154,7 @@ module _ (t a : List ℕ) (s : State) (h : Stands t a s) (u : ℕ) (x : Upload) 
 
   -- what `cut` asks, in memory of the same lengths
   pub cut-inside : (t₁ a₁ : List ℕ) → length t₁ ≡ length t → length a₁ ≡ length a
-      → (18 ≤ b .at) × (b .at ≤ b .behind) × (b .behind ≤ b .used) × (b .used ≤ length t₁) × (b .base + b .size ≤ b .held) × (b .held ≤ length a₁)
+      → (headerLength ≤ b .at) × (b .at ≤ b .behind) × (b .behind ≤ b .used) × (b .used ≤ length t₁) × (b .base + b .size ≤ b .held) × (b .held ≤ length a₁)
   cut-inside t₁ a₁ l l′ =
       let z = h .size in
       let r = h .valid .room in (
@@ -249,13 +249,13 @@ module _ (t a : List ℕ) (s : State) (h : Stands t a s) (u : ℕ) (x : Upload) 
         )
 
     pub tables-cut : (t₂ : List ℕ) → t₂ ≡ spliced t₁ (b .at) (b .behind - b .at) (b .used) []
-        → t₂ ≡ header ++ (encodeRows (rowsOf s′) ++ drop (18 + length (encodeRows (beforeUpload s u ++ after))) t₁)
+        → t₂ ≡ header ++ (encodeRows (rowsOf s′) ++ drop (headerLength + length (encodeRows (beforeUpload s u ++ after))) t₁)
     unfolding encodeRows
     tables-cut t₂ c =
-        let used : b .used ≡ 18 + length (encodeRows (beforeUpload s u ++ (gone ++ after))) = omega (arith, used-is, same-used) in
-        let c₁ : t₂ ≡ spliced t₁ (18 + length (encodeRows (beforeUpload s u))) (length (encodeRows gone)) (18 + length (encodeRows (beforeUpload s u ++ (gone ++ after)))) [] = c ∙ (λ i. spliced t₁ (at-is i) (width i) (used i) []) in
+        let used : b .used ≡ headerLength + length (encodeRows (beforeUpload s u ++ (gone ++ after))) = omega (arith, used-is, same-used) in
+        let c₁ : t₂ ≡ spliced t₁ (headerLength + length (encodeRows (beforeUpload s u))) (length (encodeRows gone)) (headerLength + length (encodeRows (beforeUpload s u ++ (gone ++ after)))) [] = c ∙ (λ i. spliced t₁ (at-is i) (width i) (used i) []) in
         rows-spliced (beforeUpload s u) gone [] after t₁ t₂ header (h .tables-free) [] told (length-header (length a) s (h .small) (h .valid)) refl c₁
-        ∙ ap (λ (rs : List Row). header ++ (encodeRows rs ++ drop (18 + length (encodeRows (beforeUpload s u ++ after))) t₁)) (sym (without-upload-rows s u x f))
+        ∙ ap (λ (rs : List Row). header ++ (encodeRows rs ++ drop (headerLength + length (encodeRows (beforeUpload s u ++ after))) t₁)) (sym (without-upload-rows s u x f))
 
     size-told : b .size ≡ length (contents ys)
     size-told = size-is ∙ length-part-contents (x .parts) ∙ sym (fit-contents (partList list) (x .parts) ys fits)
@@ -288,7 +288,7 @@ module _ (t a : List ℕ) (s : State) (h : Stands t a s) (u : ℕ) (x : Upload) 
       → a₂ ≡ rotated a₁ (b .base) (b .size) (b .held - (b .base + b .size)) → length t₂ ≡ length t → length a₂ ≡ length a
       → Stands t₂ a₂ s′ × (take (b .size) (drop (held s′) a₂) ≡ contents ys) × (b .size ≡ length (contents ys)) × (b .count ≡ length ys) × (bytesOf digest ≡ md5 (digests ys))
   taken t₁ a₁ t₂ a₂ digest head g keeps is e e′ l l′ =
-      let free = drop (18 + length (encodeRows (beforeUpload s u ++ after))) t₁ in
+      let free = drop (headerLength + length (encodeRows (beforeUpload s u ++ after))) t₁ in
       let cut = tables-cut t₁ a₁ (g .tables) (g .arena) keeps _ refl in
       let arena : a₂ ≡ contentsOf (rowsOf s′) ++ (contents ys ++ h .arena-free) = arena-cut t₁ a₁ (g .tables) (g .arena) keeps a₂ e′ in
       let written = header-written (length a) s s′ _ t₂ (encodeRows (rowsOf s′) ++ free) _ (length-header (length a) s (h .small) (h .valid)) cut (closed-is head is) e in

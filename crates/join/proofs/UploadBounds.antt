@@ -9,18 +9,19 @@ use Rattle.order.specs.OrderLaws.{numbers}
 use Rattle.machine.specs.Map.{Map, byNumber, lookup}
 use Rattle.machine.specs.State.{Part, Upload, State, partsIn}
 use Rattle.machine.proofs.MapSums.{total-share}
-use Rattle.row.specs.Row.{encodeRow, encodeRows, contentsOf}
+use Rattle.row.specs.Row.{encodeRow, encodeRows, contentsOf, headLength}
 use Rattle.row.specs.RowLaws.{EncodableAll, encode-append, contents-append, encodable-left, encodable-right, length-row}
 use Rattle.layout.specs.Memory.{uploadRow, partRow, partRows, rowsOf, Stands}
 use Rattle.layout.specs.StandsLaws.{rows-encodable}
 use Rattle.layout.specs.declared.Offset.{Offset}
+use Rattle.layout.specs.Header.{headerLength}
 use Rattle.find.specs.declared.Place.{Place}
 use Rattle.find.specs.declared.Parts.{Parts}
 use Rattle.find.specs.Places.{behind, beforeUpload, beforeParts, throughParts, afterUpload, uploadPlace, partsOf}
 use Rattle.find.proofs.Splits.{parts-place}
 use Rattle.join.specs.Bounds.{boundsOf}
 
-length-part-bytes : (m : Map ℕ Part) → EncodableAll (partRows m) → length (encodeRows (partRows m)) ≡ 36 * length m
+length-part-bytes : (m : Map ℕ Part) → EncodableAll (partRows m) → length (encodeRows (partRows m)) ≡ headLength * length m
 unfolding partRows encodeRows
 length-part-bytes [] f = refl
 length-part-bytes (e ∷ m) f = omega (arith, length-append (encodeRow (partRow (e .0) (e .1))) (encodeRows (partRows m)), length-row _ (f .0), length-part-bytes m (f .1))
@@ -39,7 +40,7 @@ module _ (t a : List ℕ) (s : State) (h : Stands t a s) (u : ℕ) (x : Upload) 
   pub few-parts : length (x .parts) ≤ 256
   few-parts = let l = h .valid .parts in omega (arith, total-share numbers partsIn u x (s .U) f)
 
-  pub rows-through : length (encodeRows (throughParts s u x)) ≡ length (encodeRows (beforeParts s u x)) + 36 * length (x .parts)
+  pub rows-through : length (encodeRows (throughParts s u x)) ≡ length (encodeRows (beforeParts s u x)) + headLength * length (x .parts)
   unfolding throughParts
   rows-through =
       omega (
@@ -60,7 +61,7 @@ module _ (t a : List ℕ) (s : State) (h : Stands t a s) (u : ℕ) (x : Upload) 
       )
 
   module _ (place : Place) (place-is : place ≡ uploadPlace s u) (parts : Parts) (parts-are : parts ≡ partsOf s u x) (end : Offset) (end-is : end ≡ behind (rowsOf s)) where
-    at-is : place .at ≡ 18 + length (encodeRows (beforeUpload s u))
+    at-is : place .at ≡ headerLength + length (encodeRows (beforeUpload s u))
     unfolding uploadPlace
     at-is = ap (λ (k : Place). k .at) place-is
 
@@ -72,7 +73,7 @@ module _ (t a : List ℕ) (s : State) (h : Stands t a s) (u : ℕ) (x : Upload) 
     unfolding partsOf
     count-is = ap (λ (k : Parts). k .count) parts-are
 
-    behind-is : parts .at ≡ 18 + length (encodeRows (throughParts s u x))
+    behind-is : parts .at ≡ headerLength + length (encodeRows (throughParts s u x))
     unfolding partsOf
     behind-is = ap (λ (k : Parts). k .at) parts-are
 
@@ -83,7 +84,7 @@ module _ (t a : List ℕ) (s : State) (h : Stands t a s) (u : ℕ) (x : Upload) 
     pub count-small : parts .count ≤ 256
     count-small = omega (arith, count-is, few-parts)
 
-    pub rows-behind : 36 * parts .count ≤ parts .at
+    pub rows-behind : headLength * parts .count ≤ parts .at
     rows-behind = omega (arith, count-is, behind-is, rows-through)
 
     pub base-behind : place .base ≤ parts .base
@@ -91,7 +92,7 @@ module _ (t a : List ℕ) (s : State) (h : Stands t a s) (u : ℕ) (x : Upload) 
 
     pub bounds-are : record {
       at = place .at;
-      first = parts .at - 36 * parts .count;
+      first = parts .at - headLength * parts .count;
       behind = parts .at;
       used = end .at;
       base = place .base;
@@ -101,8 +102,8 @@ module _ (t a : List ℕ) (s : State) (h : Stands t a s) (u : ℕ) (x : Upload) 
     } ≡ boundsOf s u x
     unfolding boundsOf
     bounds-are =
-        let first : parts .at - 36 * parts .count ≡ 18 + length (encodeRows (beforeParts s u x)) = omega (arith, count-is, behind-is, rows-through) in
+        let first : parts .at - headLength * parts .count ≡ headerLength + length (encodeRows (beforeParts s u x)) = omega (arith, count-is, behind-is, rows-through) in
         let size : parts .base - place .base ≡ length (contentsOf (partRows (x .parts))) = omega (arith, base-is, data-behind, data-through) in
-        let used : end .at ≡ 18 + length (encodeRows (rowsOf s)) = ap (λ (k : Offset). k .at) end-is in
+        let used : end .at ≡ headerLength + length (encodeRows (rowsOf s)) = ap (λ (k : Offset). k .at) end-is in
         let held : end .base ≡ length (contentsOf (rowsOf s)) = ap (λ (k : Offset). k .base) end-is in
         λ i. record { at = at-is i; first = first i; behind = behind-is i; used = used i; base = base-is i; size = size i; held = held i; count = count-is i }

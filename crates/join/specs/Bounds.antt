@@ -3,6 +3,7 @@ use Prim.Native.Nat.{ℕ, _+_}
 use lib.ListN.{length}
 use Rattle.machine.specs.State.{Upload, State}
 use Rattle.row.specs.Row.{encodeRows, contentsOf}
+use Rattle.layout.specs.Header.{headerLength}
 use Rattle.layout.specs.Memory.{partRows, rowsOf}
 use Rattle.find.specs.Places.{beforeUpload, beforeParts, throughParts}
 use Rattle.join.specs.declared.Bounds.{Bounds}
@@ -10,10 +11,10 @@ use Rattle.join.specs.declared.Bounds.{Bounds}
 unfoldable pub boundsOf : State → ℕ → Upload → Bounds
 boundsOf s u x =
     record {
-      at = 18 + length (encodeRows (beforeUpload s u));
-      first = 18 + length (encodeRows (beforeParts s u x));
-      behind = 18 + length (encodeRows (throughParts s u x));
-      used = 18 + length (encodeRows (rowsOf s));
+      at = headerLength + length (encodeRows (beforeUpload s u));
+      first = headerLength + length (encodeRows (beforeParts s u x));
+      behind = headerLength + length (encodeRows (throughParts s u x));
+      used = headerLength + length (encodeRows (rowsOf s));
       base = length (contentsOf (beforeUpload s u));
       size = length (contentsOf (partRows (x .parts)));
       held = length (contentsOf (rowsOf s));

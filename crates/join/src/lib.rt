@@ -11,7 +11,7 @@ ghost use Rattle.buffer.specs.Buffer.{spliced, rotated};
 ghost use Rattle.machine.specs.Map.{isSome, byNumber, lookup};
 ghost use Rattle.machine.specs.State.{Upload};
 ghost use Rattle.layout.specs.Memory.{whole, stateOf, Stands};
-ghost use Rattle.layout.specs.Header.{headed};
+ghost use Rattle.layout.specs.Header.{headed, headerLength};
 ghost use Rattle.calls.specs.Answers.{partList};
 ghost use Rattle.join.specs.Bounds.{boundsOf};
 ghost use Rattle.join.specs.Joined.{Listed, TakenOut, Joinable, JoinableAt, joinedState};
@@ -46,7 +46,7 @@ fn upload_bounds(tables: &[u8], arena: &[u8], upload: u32) -> Bounds
     let end = find::rows_end(tables, arena);
     Bounds {
         at: place.at,
-        first: parts.at - 36 * parts.count,
+        first: parts.at - row::HEAD * parts.count,
         behind: parts.at,
         used: end.at,
         base: place.base,
@@ -58,7 +58,7 @@ fn upload_bounds(tables: &[u8], arena: &[u8], upload: u32) -> Bounds
 
 // The upload's rows cut out, and its parts' data brought behind the last byte that is still held.
 fn cut(tables: &mut [u8], arena: &mut [u8], b: Bounds, header: Header)
-    requires { ⌜ (18 ≤ b .at) × (b .at ≤ b .behind) × (b .behind ≤ b .used) × (b .used ≤ length (now tables)) × (b .base + b .size ≤ b .held) × (b .held ≤ length (now arena)) ⌝ }
+    requires { ⌜ (headerLength ≤ b .at) × (b .at ≤ b .behind) × (b .behind ≤ b .used) × (b .used ≤ length (now tables)) × (b .base + b .size ≤ b .held) × (b .held ≤ length (now arena)) ⌝ }
     ensures { λ _. ⌜ (now (tables .exit) ≡ headed (spliced (now (tables .entry)) (b .at) (b .behind - b .at) (b .used) []) header)
         × (now (arena .exit) ≡ rotated (now (arena .entry)) (b .base) (b .size) (b .held - (b .base + b .size))) ⌝ }
 {
@@ -122,7 +122,7 @@ pub fn join(tables: &mut [u8], arena: &mut [u8], upload: u32, list: &[u8])
     let at = place.at;
     let h = row::read_head(tables, at);
     let n = h.pathlen as usize;
-    let from = at + 36;
+    let from = at + row::HEAD;
     let to = from + n;
     let mut path = [0u8; 128];
     buffer::copy_at(&mut path, 0, &tables[from..to]);

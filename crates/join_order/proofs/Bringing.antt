@@ -10,7 +10,7 @@ use Rattle.machine.specs.State.{Part}
 use Rattle.machine.proofs.MapPlaces.{split-found, remove-old}
 use Rattle.buffer.specs.Buffer.{rotated}
 use Rattle.buffer.proofs.Parts.{rotated-parts}
-use Rattle.row.specs.Row.{encodeRow}
+use Rattle.row.specs.Row.{encodeRow, headLength}
 use Rattle.layout.specs.Memory.{partRow}
 use Rattle.join_order.specs.declared.Found.{Found}
 use Rattle.join_order.specs.Region.{Region, PartAt, foundIn, Brought}
@@ -49,18 +49,18 @@ module _ (t a : List ℕ) (at base n : ℕ) (k : PartAt t a at base n) where
     size : f .size ≡ length (k .part .content)
     size = ap (λ (x : Found). x .size) found
 
-    pub rows-inside : at + f .rows + 36 ≤ length t
+    pub rows-inside : at + f .rows + headLength ≤ length t
     rows-inside = let i = here .inside in omega (arith, rows)
 
     pub bytes-inside : base + f .bytes + f .size ≤ length a
     bytes-inside = let i = here .arena-inside in omega (arith, bytes, size)
 
-    pub brought : (t′ a′ : List ℕ) → t′ ≡ rotated t at (f .rows) 36 → a′ ≡ rotated a base (f .bytes) (f .size) → Brought t a at base n k t′ a′ (f .size)
+    pub brought : (t′ a′ : List ℕ) → t′ ≡ rotated t at (f .rows) headLength → a′ ≡ rotated a base (f .bytes) (f .size) → Brought t a at base n k t′ a′ (f .size)
     brought t′ a′ e e′ =
         let row = encodeRow (partRow n (k .part)) in
         record {
           tables =
-              rotated-parts t (r .before) (rowBytes xs) row (rowBytes zs ++ r .behind) at (f .rows) 36 (tables-split t a at base r xs (n, k .part) zs split) (r .starts) (sym rows) (here .span) t′ e
+              rotated-parts t (r .before) (rowBytes xs) row (rowBytes zs ++ r .behind) at (f .rows) headLength (tables-split t a at base r xs (n, k .part) zs split) (r .starts) (sym rows) (here .span) t′ e
               ∙ ap (λ (l : List ℕ). r .before ++ (row ++ l)) (sym (ap (λ (l : List ℕ). l ++ r .behind) (ap rowBytes rest ∙ row-bytes-append xs zs) ∙ append-assoc (rowBytes xs) (rowBytes zs) (r .behind)));
           arena =
               rotated-parts a (r .arena-before) (dataBytes xs) (k .part .content) (dataBytes zs ++ r .arena-behind) base (f .bytes) (f .size) (arena-split t a at base r xs (n, k .part) zs split) (r .arena-starts) (sym bytes) (sym size) a′ e′

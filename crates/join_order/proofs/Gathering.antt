@@ -8,7 +8,7 @@ use lib.ListN.{length, take, drop, length-append}
 use lib.Seq.{drop-at, drop-drop, take-at, length-take-le}
 use Rattle.machine.specs.State.{Part}
 use Rattle.machine.specs.Steps.{digests}
-use Rattle.row.specs.Row.{Row, encodeRow, encodeRows, digestAt}
+use Rattle.row.specs.Row.{Row, encodeRow, encodeRows, digestAt, numbersLength, headLength}
 use Rattle.row.specs.RowLaws.{EncodableAll, length-row, digest-back}
 use Rattle.layout.specs.Memory.{partRow}
 use Rattle.join_order.specs.Region.{listedRows}
@@ -23,12 +23,12 @@ pub record FirstRow (t : List ℕ) (at count : ℕ) (k : OrderedAt t at count) :
   pub part : Part
   pub rest : List Part
   pub listed : k .listed ≡ part ∷ rest
-  pub inside : at + 36 ≤ length t
-  pub digest : take 16 (drop (at + 20) t) ≡ part .digest
+  pub inside : at + headLength ≤ length t
+  pub digest : take 16 (drop (at + numbersLength) t) ≡ part .digest
   pub width : length (part .digest) ≡ 16
   pub left : ℕ
   pub one-less : left + 1 ≡ count
-  pub next : OrderedAt t (at + 36) left
+  pub next : OrderedAt t (at + headLength) left
   pub next-listed : next .listed ≡ rest
 
 module _ (t : List ℕ) (at count : ℕ) (k : OrderedAt t at count) (more : 0 < count) where
@@ -61,14 +61,14 @@ module _ (t : List ℕ) (at count : ℕ) (k : OrderedAt t at count) (more : 0 < 
   here : drop at t ≡ encodeRow row ++ (encodeRows rows ++ k .behind)
   here = ap (drop at) told ∙ drop-at (k .before) (encodeRow row ++ (encodeRows rows ++ k .behind)) at (k .starts)
 
-  read : take 16 (drop (at + 20) t) ≡ parts .0 .digest
+  read : take 16 (drop (at + numbersLength) t) ≡ parts .0 .digest
   unfolding digestAt
-  read = rw (← (drop-drop 20 at t)) (ap digestAt here ∙ digest-back row (encodable .0) (encodeRows rows ++ k .behind) [])
+  read = rw (← (drop-drop numbersLength at t)) (ap digestAt here ∙ digest-back row (encodable .0) (encodeRows rows ++ k .behind) [])
 
   pub first-row : FirstRow t at count k
   first-row =
       let rest = encodeRows rows ++ k .behind in
-      let span : length (encodeRow row) ≡ 36 = length-row row (encodable .0) in
+      let span : length (encodeRow row) ≡ headLength = length-row row (encodable .0) in
       let s = k .starts in
       let m = k .many in
       let n = k .numbered in
@@ -99,7 +99,7 @@ module _ (t : List ℕ) (at count : ℕ) (k : OrderedAt t at count) (more : 0 < 
 -- the digests of the first i parts stand at the front of `all`
 pub record Gathered (t : List ℕ) (at count : ℕ) (k : OrderedAt t at count) (all : List ℕ) (i : ℕ) : Type 0 where
   pub place : ℕ
-  pub place-is : place ≡ at + 36 * i
+  pub place-is : place ≡ at + headLength * i
   pub left : ℕ
   pub left-is : left + i ≡ count
   pub rest : OrderedAt t place left
@@ -126,14 +126,14 @@ module _ (t : List ℕ) (at count : ℕ) (k : OrderedAt t at count) where
     pub turn : FirstRow t (g .place) (g .left) (g .rest)
     turn = first-row t (g .place) (g .left) (g .rest) (let q = g .left-is in omega arith)
 
-    pub row-inside : at + 36 * i + 36 ≤ length t
+    pub row-inside : at + headLength * i + headLength ≤ length t
     row-inside = let l = turn .inside in let q = g .place-is in omega arith
 
-    pub gathered-next : (all′ src : List ℕ) → 16 * i ≤ length all → src ≡ take 16 (drop (at + 36 * i + 20) t) → all′ ≡ take (16 * i) all ++ src ++ drop (16 * i + length src) all
+    pub gathered-next : (all′ src : List ℕ) → 16 * i ≤ length all → src ≡ take 16 (drop (at + headLength * i + numbersLength) t) → all′ ≡ take (16 * i) all ++ src ++ drop (16 * i + length src) all
         → Gathered t at count k all′ (i + 1)
     gathered-next all′ src room is e =
         let r = turn in
-        let got : src ≡ r .part .digest = is ∙ ap (λ (p : ℕ). take 16 (drop (p + 20) t)) (sym (g .place-is)) ∙ r .digest in
+        let got : src ≡ r .part .digest = is ∙ ap (λ (p : ℕ). take 16 (drop (p + numbersLength) t)) (sym (g .place-is)) ∙ r .digest in
         let front : length (take (16 * i) all) ≡ 16 * i = length-take-le (16 * i) all room in
         let both : length (take (16 * i) all ++ src) ≡ 16 * (i + 1) = omega (arith, length-append (take (16 * i) all) src, ap length got, r .width) in
         let q = g .place-is in
@@ -141,7 +141,7 @@ module _ (t : List ℕ) (at count : ℕ) (k : OrderedAt t at count) where
         let o = r .one-less in
         let take-is : take (16 * (i + 1)) all′ ≡ take (16 * i) all ++ src = ap (take (16 * (i + 1))) e ∙ take-at (take (16 * i) all ++ src) (drop (16 * i + length src) all) (16 * (i + 1)) both in
         record {
-          place = g .place + 36;
+          place = g .place + headLength;
           place-is = omega arith;
           left = r .left;
           left-is = omega arith;

@@ -15,7 +15,7 @@ use Rattle.machine.specs.Steps.{fit, contents}
 use Rattle.machine.proofs.Options.{none-some}
 use Rattle.machine.proofs.MapPlaces.{split-found, remove-old}
 use Rattle.machine.proofs.Fit.{fit-cons}
-use Rattle.row.specs.Row.{encodeRow, encodeRows, contentsOf}
+use Rattle.row.specs.Row.{encodeRow, encodeRows, contentsOf, headLength}
 use Rattle.row.specs.RowLaws.{EncodableAll}
 use Rattle.layout.specs.Memory.{partRow, partRows}
 use Rattle.calls.specs.Answers.{partList}
@@ -97,7 +97,7 @@ module _ (t a : List ℕ) (at base : ℕ) (list : List ℕ) (k : ListedAt t a at
     abbrev x : Part
     x = picked .0
 
-    row-span : length (encodeRow (partRow n x)) ≡ 36
+    row-span : length (encodeRow (partRow n x)) ≡ headLength
     row-span =
         let m = r .parts in
         row-here t a at base r (take (place byNumber n m) m) (n, x) (drop (suc (place byNumber n m)) m) (split-found numbers n x m (picked .2)) .span
@@ -106,11 +106,11 @@ module _ (t a : List ℕ) (at base : ℕ) (list : List ℕ) (k : ListedAt t a at
     unfolding encodeRows listedRows
     rows-turned = sym (ap₂ (λ (ns : List ℕ) (ys : List Part). encodeRows (listedRows ns ys)) named (sym (picked .4)))
 
-    pub turned-next : (t′ a′ : List ℕ) (size : ℕ) → Brought t a at base n next-part t′ a′ size → Turned t a at base list k t′ a′ (at + 36) (base + size) (drop 2 list)
+    pub turned-next : (t′ a′ : List ℕ) (size : ℕ) → Brought t a at base n next-part t′ a′ size → Turned t a at base list k t′ a′ (at + headLength) (base + size) (drop 2 list)
     unfolding orderedTables orderedArena next-part
     turned-next t′ a′ size b =
         let row = encodeRow (partRow n x) in
-        let span : length row ≡ 36 = row-span in
+        let span : length row ≡ headLength = row-span in
         let l = r .starts in
         let l′ = r .arena-starts in
         let z = b .size-is in
@@ -154,11 +154,11 @@ module _ (t a : List ℕ) (at base : ℕ) (list : List ℕ) (k : ListedAt t a at
     pub turn-part : PartAt t₁ a₁ at₁ base₁ n
     turn-part = next-part t₁ a₁ at₁ base₁ (drop i list) (m .rest) rest-more n told
 
-    pub turn : (t₂ a₂ : List ℕ) (size : ℕ) → Brought t₁ a₁ at₁ base₁ n turn-part t₂ a₂ size → Turned t a at base list k t₂ a₂ (at₁ + 36) (base₁ + size) (drop (i + 2) list)
+    pub turn : (t₂ a₂ : List ℕ) (size : ℕ) → Brought t₁ a₁ at₁ base₁ n turn-part t₂ a₂ size → Turned t a at base list k t₂ a₂ (at₁ + headLength) (base₁ + size) (drop (i + 2) list)
     unfolding turn-part
     turn t₂ a₂ size b =
         let next = turned-next t₁ a₁ at₁ base₁ (drop i list) (m .rest) rest-more n told t₂ a₂ size b in
-        subst (λ (l : List ℕ). Turned t a at base list k t₂ a₂ (at₁ + 36) (base₁ + size) l) (drop-drop 2 i list)
+        subst (λ (l : List ℕ). Turned t a at base list k t₂ a₂ (at₁ + headLength) (base₁ + size) l) (drop-drop 2 i list)
         (record { rest = next .rest; tables = next .tables ∙ m .tables; arena = next .arena ∙ m .arena })
 
 -- The last turn.

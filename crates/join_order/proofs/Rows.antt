@@ -7,7 +7,7 @@ use lib.ListN.{length, drop, length-append}
 use lib.Seq.{drop-at}
 use Rattle.machine.specs.Map.{Map}
 use Rattle.machine.specs.State.{Part}
-use Rattle.row.specs.Row.{Row, encodeRow, encodeRows, contentsOf, headAt, headOf}
+use Rattle.row.specs.Row.{Row, encodeRow, encodeRows, contentsOf, headAt, headOf, headLength}
 use Rattle.row.specs.RowLaws.{Encodable, EncodableAll, encode-append, contents-append, encodable-right, length-row, head-back}
 use Rattle.layout.specs.Memory.{partRow, partRows}
 use Rattle.find.proofs.Splits.{part-rows-append}
@@ -46,7 +46,7 @@ unfolding partRows
 encodable-head e zs f = f .0
 
 -- one part more
-pub length-rows-snoc : (xs : Map ℕ Part) (e : ℕ × Part) → length (encodeRow (partRow (e .0) (e .1))) ≡ 36 → length (rowBytes (xs ++ (e ∷ []))) ≡ length (rowBytes xs) + 36
+pub length-rows-snoc : (xs : Map ℕ Part) (e : ℕ × Part) → length (encodeRow (partRow (e .0) (e .1))) ≡ headLength → length (rowBytes (xs ++ (e ∷ []))) ≡ length (rowBytes xs) + headLength
 unfolding partRows encodeRows
 length-rows-snoc xs e span =
     omega (arith, ap length (row-bytes-append xs (e ∷ [])), length-append (rowBytes xs) (rowBytes (e ∷ [])), length-append (encodeRow (partRow (e .0) (e .1))) [])
@@ -57,8 +57,8 @@ length-data-snoc xs e = omega (arith, ap length (data-bytes-append xs (e ∷ [])
 
 -- the row of part e, behind those of xs
 pub record Here (t a : List ℕ) (at base : ℕ) (xs : Map ℕ Part) (e : ℕ × Part) : Type 0 where
-  pub span : length (encodeRow (partRow (e .0) (e .1))) ≡ 36
-  pub inside : at + length (rowBytes xs) + 36 ≤ length t
+  pub span : length (encodeRow (partRow (e .0) (e .1))) ≡ headLength
+  pub inside : at + length (rowBytes xs) + headLength ≤ length t
   pub head : headAt (drop (at + length (rowBytes xs)) t) ≡ headOf (partRow (e .0) (e .1))
   pub arena-inside : base + length (dataBytes xs) + length (e .1 .content) ≤ length a
 
@@ -84,7 +84,7 @@ module _ (t a : List ℕ) (at base : ℕ) (k : Region t a at base) (xs : Map ℕ
   pub row-here : Here t a at base xs e
   row-here =
       let rest = rowBytes zs ++ k .behind in
-      let span : length (encodeRow row) ≡ 36 = length-row row row-encodable in
+      let span : length (encodeRow row) ≡ headLength = length-row row row-encodable in
       let front : length (k .before ++ rowBytes xs) ≡ at + length (rowBytes xs) = omega (arith, length-append (k .before) (rowBytes xs), k .starts) in
       let told : t ≡ (k .before ++ rowBytes xs) ++ (encodeRow row ++ rest) = tables-split ∙ sym (append-assoc (k .before) (rowBytes xs) (encodeRow row ++ rest)) in
       record {

@@ -12,7 +12,7 @@ use Rattle.machine.specs.State.{Part}
 use Rattle.machine.proofs.MapSplits.{Below, place-append}
 use Rattle.machine.proofs.Options.{none-some}
 use Rattle.row.specs.declared.Head.{Head}
-use Rattle.row.specs.Row.{encodeRows, contentsOf, headAt, headOf}
+use Rattle.row.specs.Row.{encodeRows, contentsOf, headAt, headOf, headLength}
 use Rattle.layout.specs.Memory.{partRow, partRows}
 use Rattle.join_order.specs.Region.{PartAt, foundIn}
 use Rattle.join_order.proofs.Rows.{rowBytes, dataBytes, length-rows-snoc, length-data-snoc, Here, row-here}
@@ -60,7 +60,7 @@ module _ (t a : List ℕ) (at base n : ℕ) (k : PartAt t a at base n) where
     here : Here t a at base (p .passed) e
     here = row-here t a at base (k .region) (p .passed) e (p .rest) (p .split)
 
-    pub next-inside : at + rows + 36 ≤ length t
+    pub next-inside : at + rows + headLength ≤ length t
     next-inside = let i = here .inside in let q = p .rows-are in omega arith
 
     module _ (head : Head) (read : head ≡ headAt (drop (at + rows) t)) where
@@ -92,14 +92,14 @@ module _ (t a : List ℕ) (at base n : ℕ) (k : PartAt t a at base n) where
           λ i. record { rows = r i; bytes = b i; size = z i }
 
       -- it is another: the search goes on behind it
-      pub passed-next : (head .number ≡ n → ⊥) → Passed t a at base n k (rows + 36) (bytes + head .size)
+      pub passed-next : (head .number ≡ n → ⊥) → Passed t a at base n k (rows + headLength) (bytes + head .size)
       passed-next other =
           cases (byNumber n (e .0))
           (λ q. absurd (none-some (rw q at (p .found))))
           (λ q. absurd (other (number ∙ sym (numbers .alike n (e .0) q))))
           (λ q. behind q)
         where
-          behind : byNumber n (e .0) ≡ Ordering·gt → Passed t a at base n k (rows + 36) (bytes + head .size)
+          behind : byNumber n (e .0) ≡ Ordering·gt → Passed t a at base n k (rows + headLength) (bytes + head .size)
           behind q =
               let f : lookup byNumber n (p .rest) ≡ some (k .part) = rw q at (p .found) in
               let m = next-entry n (k .part) (p .rest) f in

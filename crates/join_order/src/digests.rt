@@ -15,7 +15,7 @@ fn gather(tables: &[u8], at: usize, count: usize) -> [u8; 4096]
     let mut all = [0u8; 4096];
     let mut i: usize = 0;
     while i < count {
-        let from = at + 36 * i + 20;
+        let from = at + row::HEAD * i + row::NUMBERS;
         let to = from + 16;
         buffer::copy_at(&mut all, 16 * i, &tables[from..to]);
         i += 1;

@@ -1,6 +1,9 @@
 // What tables and arena stand for: definitions, and the header.
 pub mod headers;
 
+// The header's length: the first row stands here.
+pub const HEADER: usize = 18;
+
 // Where a row stands in the tables, and its data in the arena.
 pub struct Offset {
     pub at: usize,
@@ -13,7 +16,7 @@ pub struct Mark {
     pub part: u32,
 }
 
-// The arena's length, the number that the coming upload gets, and how many objects, uploads and parts there are.
+// The arena's length, the number that the next upload gets, and how many objects, uploads and parts there are.
 pub struct Header {
     pub arena: u32,
     pub next: u64,

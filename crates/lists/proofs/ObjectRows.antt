@@ -19,15 +19,16 @@ use Rattle.machine.proofs.MapKeep.{keep-suc, records-append}
 use Rattle.machine.proofs.MapScan.{lookup-key}
 use Rattle.machine.proofs.MapLaws.{every-lookup}
 use Rattle.row.specs.declared.Head.{Head}
-use Rattle.row.specs.Row.{Row, encodeRows, headAt, digestAt, pathAt, headOf}
+use Rattle.row.specs.Row.{Row, encodeRows, headAt, digestAt, pathAt, headOf, headLength, span}
 use Rattle.row.specs.RowLaws.{path-back, digest-back}
+use Rattle.layout.specs.Header.{headerLength}
 use Rattle.layout.specs.Memory.{objectRows, Stands}
 use Rattle.layout.specs.ObjectLaws.{object-back}
 use Rattle.find.proofs.RowsAt.{At, row-at}
 use Rattle.find.proofs.ObjectAt.{blank, entry, row, front, rest, split, next-front}
 use Rattle.lists.specs.Rows.{textAt, recordAt, listedBytes}
 
-module _ (t a : List ℕ) (s : State) (h : Stands t a s) (i at : ℕ) (here : at ≡ 18 + length (encodeRows (objectRows (take i (s .O))))) (l : i < length (s .O)) where
+module _ (t a : List ℕ) (s : State) (h : Stands t a s) (i at : ℕ) (here : at ≡ headerLength + length (encodeRows (objectRows (take i (s .O))))) (l : i < length (s .O)) where
   row-here : At t a s h (front s i) (row s i) (rest s i)
   row-here = row-at t a s h (front s i) (row s i) (rest s i) (split s i l)
 
@@ -35,15 +36,15 @@ module _ (t a : List ℕ) (s : State) (h : Stands t a s) (i at : ℕ) (here : at
   unfolding front
   head-here = ap (λ (n : ℕ). headAt (drop n t)) here ∙ row-here .head
 
-  pub row-inside : at + 36 + headAt (drop at t) .pathlen ≤ length t
+  pub row-inside : at + span (headAt (drop at t)) ≤ length t
   unfolding front
   row-inside = omega (arith, ap (λ (x : Head). x .pathlen) head-here, row-here .inside)
 
-  pub row-next : at + 36 + headAt (drop at t) .pathlen ≡ 18 + length (encodeRows (objectRows (take (i + 1) (s .O))))
+  pub row-next : at + headLength + headAt (drop at t) .pathlen ≡ headerLength + length (encodeRows (objectRows (take (i + 1) (s .O))))
   unfolding front
   row-next =
-      let q : 18 + length (encodeRows (front s i ++ (row s i ∷ []))) ≡ at + 36 + headAt (drop at t) .pathlen = omega (arith, row-here .next, ap (λ (x : Head). x .pathlen) head-here) in
-      sym (ap (λ (rs : List Row). 18 + length (encodeRows rs)) (next-front s i l) ∙ q)
+      let q : headerLength + length (encodeRows (front s i ++ (row s i ∷ []))) ≡ at + headLength + headAt (drop at t) .pathlen = omega (arith, row-here .next, ap (λ (x : Head). x .pathlen) head-here) in
+      sym (ap (λ (rs : List Row). headerLength + length (encodeRows rs)) (next-front s i l) ∙ q)
 
   path-here : pathAt (drop at t) ≡ entry s i .0
   unfolding front
@@ -94,19 +95,19 @@ module _ (t a : List ℕ) (s : State) (h : Stands t a s) (i at : ℕ) (here : at
 -- the first i objects measured: the next row begins at `at`, and LIST has so many records and bytes of them
 pub record Walked (s : State) (prefix suffix : Bytes) (i at count size : ℕ) : Type 0 where
   pub within : i ≤ length (s .O)
-  pub rows : at ≡ 18 + length (encodeRows (objectRows (take i (s .O))))
+  pub rows : at ≡ headerLength + length (encodeRows (objectRows (take i (s .O))))
   pub counted : count ≡ length (listed prefix suffix (take i (s .O)))
   pub sized : size ≡ length (records listRecord (listed prefix suffix (take i (s .O))))
   pub few : count ≤ i
   pub small : size ≤ 307 * i
 
-pub walked-none : (s : State) (prefix suffix : Bytes) → Walked s prefix suffix 0 18 0 0
+pub walked-none : (s : State) (prefix suffix : Bytes) → Walked s prefix suffix 0 headerLength 0 0
 unfolding encodeRows objectRows listed
 walked-none s prefix suffix = record { within = omega arith; rows = refl; counted = refl; sized = refl; few = omega arith; small = omega arith }
 
 pub walked-next : (t a : List ℕ) (s : State) (h : Stands t a s) (prefix suffix : Bytes) (i at count size n c k : ℕ) → Walked s prefix suffix i at count size → i < length (s .O)
     → n ≡ headAt (drop at t) .pathlen → c ≡ cond (isListed prefix suffix (pathAt (drop at t))) 1 0 → k ≡ length (listedBytes prefix suffix (drop at t)) → c ≤ 1 → k ≤ 307
-    → Walked s prefix suffix (i + 1) (at + 36 + n) (count + c) (size + k)
+    → Walked s prefix suffix (i + 1) (at + headLength + n) (count + c) (size + k)
 walked-next t a s h prefix suffix i at count size n c k w l e f g few small =
     let x = w .counted in
     let y = w .sized in

@@ -17,7 +17,7 @@ use Rattle.text.specs.Text.{hex, decimal}
 use Rattle.text.specs.TextLaws.{length-hex}
 use Rattle.machine.specs.Etags.{plain, joined, text}
 use Rattle.row.specs.declared.Head.{Head}
-use Rattle.row.specs.Row.{headAt, digestAt, pathAt}
+use Rattle.row.specs.Row.{headAt, digestAt, pathAt, numbersLength, headLength, span}
 use Rattle.layout.specs.Memory.{etagOf}
 use Rattle.lists.specs.Rows.{textAt, recordAt}
 use Rattle.lists.proofs.RowLengths.{record-length, text-plain, text-joined}
@@ -28,21 +28,21 @@ pub byte-next : (b b₁ y : List ℕ) (to v m : ℕ) → to + (1 + m) ≤ length
 byte-next b b₁ y to v m room e = over-next b (set b to v) b₁ (v ∷ []) y to 1 m refl (omega arith) (write-byte b to v (omega arith)) e
 
 -- the length of the path, and the path
-module _ (t b : List ℕ) (at n to : ℕ) (inside : at + 36 + n ≤ length t) (room : to + (1 + n) ≤ length b) where
+module _ (t b : List ℕ) (at n to : ℕ) (inside : at + headLength + n ≤ length t) (room : to + (1 + n) ≤ length b) where
   abbrev part : List ℕ
-  part = take (at + 36 + n - (at + 36)) (drop (at + 36) t)
+  part = take (at + headLength + n - (at + headLength)) (drop (at + headLength) t)
 
-  part-is : part ≡ take n (drop (at + 36) t)
-  part-is = ap (λ (k : ℕ). take k (drop (at + 36) t)) (add-sub-cancel-left (at + 36) n)
+  part-is : part ≡ take n (drop (at + headLength) t)
+  part-is = ap (λ (k : ℕ). take k (drop (at + headLength) t)) (add-sub-cancel-left (at + headLength) n)
 
   part-length : length part ≡ n
-  part-length = ap length part-is ∙ length-take-le n (drop (at + 36) t) (simp length-drop (omega arith))
+  part-length = ap length part-is ∙ length-take-le n (drop (at + headLength) t) (simp length-drop (omega arith))
 
   pub path-fits : (v : ℕ) → to + 1 + length part ≤ length (set b to v)
   path-fits v = omega (arith, part-length, length-set b to v)
 
-  pub path-written : (b₁ : List ℕ) → b₁ ≡ over (set b to n) (to + 1) part (length part) → b₁ ≡ over b to (n ∷ take n (drop (at + 36) t)) (1 + n)
-  path-written b₁ e = byte-next b b₁ (take n (drop (at + 36) t)) to n n room (e ∙ ap₂ (λ (x : List ℕ) (k : ℕ). over (set b to n) (to + 1) x k) part-is part-length)
+  pub path-written : (b₁ : List ℕ) → b₁ ≡ over (set b to n) (to + 1) part (length part) → b₁ ≡ over b to (n ∷ take n (drop (at + headLength) t)) (1 + n)
+  path-written b₁ e = byte-next b b₁ (take n (drop (at + headLength) t)) to n n room (e ∙ ap₂ (λ (x : List ℕ) (k : ℕ). over (set b to n) (to + 1) x k) part-is part-length)
 
 -- the length of the data, the stamp, and the length of the text
 pub numbers-written : (b b₁ b₂ : List ℕ) (to size created n : ℕ) → to + 13 ≤ length b → b₁ ≡ over b to (le 4 size) 4 → b₂ ≡ over b₁ (to + 4) (le 8 created) 8
@@ -62,16 +62,16 @@ unfolding text
 text-least true d count l = omega (arith, length-hex d)
 text-least false d count l = omega (arith, length-hex d, length-append (hex d) (45 ∷ decimal count))
 
-module _ (t b b₁ : List ℕ) (at to kind count : ℕ) (inside : at + 36 ≤ length t) where
+module _ (t b b₁ : List ℕ) (at to kind count : ℕ) (inside : at + headLength ≤ length t) where
   abbrev digest : List ℕ
-  digest = take (at + 20 + 16 - (at + 20)) (drop (at + 20) t)
+  digest = take (at + numbersLength + 16 - (at + numbersLength)) (drop (at + numbersLength) t)
 
   digest-is : digest ≡ digestAt (drop at t)
   unfolding digestAt
-  digest-is = ap₂ take (add-sub-cancel-left (at + 20) 16) (sym (drop-drop 20 at t))
+  digest-is = ap₂ take (add-sub-cancel-left (at + numbersLength) 16) (sym (drop-drop numbersLength at t))
 
   pub digest-read : length digest ≡ 16
-  digest-read = length-take-le (at + 20 + 16 - (at + 20)) (drop (at + 20) t) (simp length-drop (omega arith)) ∙ add-sub-cancel-left (at + 20) 16
+  digest-read = length-take-le (at + numbersLength + 16 - (at + numbersLength)) (drop (at + numbersLength) t) (simp length-drop (omega arith)) ∙ add-sub-cancel-left (at + numbersLength) 16
 
   abbrev etag : List ℕ
   etag = text (etagOf kind (digestAt (drop at t)) count)
@@ -112,7 +112,7 @@ module _ (t b b₁ : List ℕ) (at to kind count : ℕ) (inside : at + 36 ≤ le
 pieces : (n k : ℕ) (p s c e : List ℕ) → ((n ∷ p) ++ (s ++ (c ++ (k ∷ [])))) ++ e ≡ n ∷ p ++ (s ++ (c ++ k ∷ e))
 pieces n k p s c e = simp append-assoc
 
-module _ (t b : List ℕ) (at to : ℕ) (h : Head) (k : ℕ) (inside : at + 36 + headAt (drop at t) .pathlen ≤ length t) (read : h ≡ headAt (drop at t))
+module _ (t b : List ℕ) (at to : ℕ) (h : Head) (k : ℕ) (inside : at + span (headAt (drop at t)) ≤ length t) (read : h ≡ headAt (drop at t))
     (measured : k ≡ length (text (etagOf (h .kind) (digestAt (drop at t)) (h .count)))) where
   abbrev told : Head → List ℕ
   told x = text (etagOf (x .kind) (digestAt (drop at t)) (x .count))
@@ -121,7 +121,7 @@ module _ (t b : List ℕ) (at to : ℕ) (h : Head) (k : ℕ) (inside : at + 36 +
   etagText = told h
 
   abbrev path : List ℕ
-  path = take (h .pathlen) (drop (at + 36) t)
+  path = take (h .pathlen) (drop (at + headLength) t)
 
   abbrev numbers : List ℕ
   numbers = le 4 (h .size) ++ (le 8 (h .stamp) ++ (k ∷ []))
@@ -130,18 +130,18 @@ module _ (t b : List ℕ) (at to : ℕ) (h : Head) (k : ℕ) (inside : at + 36 +
   unfolding recordAt textAt pathAt
   record-is =
       ap (λ (i : ℕ). ((h .pathlen ∷ path) ++ (le 4 (h .size) ++ (le 8 (h .stamp) ++ (i ∷ [])))) ++ etagText) measured
-      ∙ ap (λ (x : Head). ((x .pathlen ∷ take (x .pathlen) (drop (at + 36) t)) ++ (le 4 (x .size) ++ (le 8 (x .stamp) ++ (length (told x) ∷ [])))) ++ told x) read
-      ∙ pieces (headAt (drop at t) .pathlen) (length (textAt (drop at t))) (take (headAt (drop at t) .pathlen) (drop (at + 36) t)) (le 4 (headAt (drop at t) .size)) (le 8 (headAt (drop at t) .stamp)) (textAt (drop at t))
-      ∙ rw (← (drop-drop 36 at t))
+      ∙ ap (λ (x : Head). ((x .pathlen ∷ take (x .pathlen) (drop (at + headLength) t)) ++ (le 4 (x .size) ++ (le 8 (x .stamp) ++ (length (told x) ∷ [])))) ++ told x) read
+      ∙ pieces (headAt (drop at t) .pathlen) (length (textAt (drop at t))) (take (headAt (drop at t) .pathlen) (drop (at + headLength) t)) (le 4 (headAt (drop at t) .size)) (le 8 (headAt (drop at t) .stamp)) (textAt (drop at t))
+      ∙ rw (← (drop-drop headLength at t))
 
   path-length : length path ≡ h .pathlen
-  path-length = length-take-le (h .pathlen) (drop (at + 36) t) (simp length-drop (omega (arith, ap (λ (x : Head). x .pathlen) read)))
+  path-length = length-take-le (h .pathlen) (drop (at + headLength) t) (simp length-drop (omega (arith, ap (λ (x : Head). x .pathlen) read)))
 
   pub record-long : to + 1 + h .pathlen + 13 + k ≡ to + length (recordAt (drop at t))
   unfolding textAt
   record-long = omega (arith, record-length t at inside, measured ∙ ap (λ (x : Head). length (told x)) read, ap (λ (x : Head). x .pathlen) read)
 
-  pub path-inside : at + 36 + h .pathlen ≤ length t
+  pub path-inside : at + headLength + h .pathlen ≤ length t
   path-inside = omega (arith, ap (λ (x : Head). x .pathlen) read)
 
   -- room for the path, the numbers and the text

@@ -14,7 +14,7 @@ use Rattle.number.specs.NumberLaws.{length-le}
 use Rattle.text.specs.Text.{hex, decimal}
 use Rattle.text.specs.TextLaws.{length-hex}
 use Rattle.machine.specs.Etags.{text}
-use Rattle.row.specs.Row.{headAt, digestAt, pathAt}
+use Rattle.row.specs.Row.{headAt, digestAt, pathAt, numbersLength, headLength, span}
 use Rattle.layout.specs.Memory.{etagOf}
 use Rattle.machine.specs.Steps.{isListed}
 use Rattle.lists.specs.Rows.{textAt, recordAt, listedBytes}
@@ -27,18 +27,18 @@ pub text-joined : (kind count n : ℕ) (d : List ℕ) → (kind ≡ 0 → ⊥) �
 unfolding text
 text-joined kind count n d z e l = rw (ne-eqb kind 0 z) (omega (arith, length-hex d, length-append (hex d) (45 ∷ decimal count)))
 
-module _ (t : List ℕ) (at : ℕ) (room : at + 36 + headAt (drop at t) .pathlen ≤ length t) where
+module _ (t : List ℕ) (at : ℕ) (room : at + span (headAt (drop at t)) ≤ length t) where
   pub digest-length : length (digestAt (drop at t)) ≡ 16
   unfolding digestAt
-  digest-length = length-take-le 16 (drop 20 (drop at t)) (simp length-drop (omega arith))
+  digest-length = length-take-le 16 (drop numbersLength (drop at t)) (simp length-drop (omega arith))
 
   path-length : length (pathAt (drop at t)) ≡ headAt (drop at t) .pathlen
   unfolding pathAt
-  path-length = length-take-le (headAt (drop at t) .pathlen) (drop 36 (drop at t)) (simp length-drop (omega arith))
+  path-length = length-take-le (headAt (drop at t) .pathlen) (drop headLength (drop at t)) (simp length-drop (omega arith))
 
-  pub path-read : (n : ℕ) → n ≡ headAt (drop at t) .pathlen → take (at + 36 + n - (at + 36)) (drop (at + 36) t) ≡ pathAt (drop at t)
+  pub path-read : (n : ℕ) → n ≡ headAt (drop at t) .pathlen → take (at + headLength + n - (at + headLength)) (drop (at + headLength) t) ≡ pathAt (drop at t)
   unfolding pathAt
-  path-read n e = ap₂ take (add-sub-cancel-left (at + 36) n ∙ e) (sym (drop-drop 36 at t))
+  path-read n e = ap₂ take (add-sub-cancel-left (at + headLength) n ∙ e) (sym (drop-drop headLength at t))
 
   pub record-length : length (recordAt (drop at t)) ≡ 14 + headAt (drop at t) .pathlen + length (textAt (drop at t))
   unfolding recordAt

@@ -13,7 +13,8 @@ use Rattle.machine.specs.Names.{Bytes}
 use Rattle.machine.specs.State.{Object, State}
 use Rattle.machine.specs.Steps.{isListed, listed, listRecord}
 use Rattle.machine.proofs.MapKeep.{keep-append, records-append}
-use Rattle.row.specs.Row.{encodeRows, headAt, pathAt}
+use Rattle.row.specs.Row.{encodeRows, headAt, pathAt, headLength}
+use Rattle.layout.specs.Header.{headerLength}
 use Rattle.layout.specs.Memory.{objectRows, Stands}
 use Rattle.lists.specs.Rows.{recordAt, listedBytes, listing}
 use Rattle.lists.proofs.ObjectRows.{row-next, bytes-next}
@@ -63,12 +64,12 @@ module _ (prefix suffix : Bytes) where
 -- the first i objects written: the next row begins at `at`, and the next record at `to`
 pub record Written (s : State) (prefix suffix : Bytes) (b₀ b : List ℕ) (i at to : ℕ) : Type 0 where
   pub within : i ≤ length (s .O)
-  pub rows : at ≡ 18 + length (encodeRows (objectRows (take i (s .O))))
+  pub rows : at ≡ headerLength + length (encodeRows (objectRows (take i (s .O))))
   pub place : to ≡ length (bytesOf prefix suffix (take i (s .O)))
   pub front : b ≡ bytesOf prefix suffix (take i (s .O)) ++ drop (length (bytesOf prefix suffix (take i (s .O)))) b₀
   pub same : length b ≡ length b₀
 
-pub written-none : (s : State) (prefix suffix : Bytes) (b : List ℕ) → Written s prefix suffix b b 0 18 0
+pub written-none : (s : State) (prefix suffix : Bytes) (b : List ℕ) → Written s prefix suffix b b 0 headerLength 0
 unfolding encodeRows objectRows listed
 written-none s prefix suffix b = record { within = omega arith; rows = refl; place = refl; front = refl; same = refl }
 
@@ -85,7 +86,7 @@ module _ (t a : List ℕ) (s : State) (h : Stands t a s) (prefix suffix : Bytes)
 
   pub written-next : (n r : ℕ) (b₁ : List ℕ) → n ≡ headAt (drop at t) .pathlen
       → (r ≡ to + length (listedBytes prefix suffix (drop at t))) × (b₁ ≡ over b to (listedBytes prefix suffix (drop at t)) (length (listedBytes prefix suffix (drop at t))))
-      → length b₁ ≡ length b → Written s prefix suffix b₀ b₁ (i + 1) (at + 36 + n) r
+      → length b₁ ≡ length b → Written s prefix suffix b₀ b₁ (i + 1) (at + headLength + n) r
   written-next n r b₁ e told same =
       record {
         within = omega arith;

@@ -7,7 +7,7 @@ ghost use mathlib.Core.List.{List};
 ghost use lib.ListN.{length, drop};
 ghost use Rattle.machine.specs.Etags.{text};
 ghost use Rattle.machine.specs.Steps.{isListed, listed};
-ghost use Rattle.row.specs.Row.{headAt, pathAt};
+ghost use Rattle.row.specs.Row.{headAt, pathAt, span};
 ghost use Rattle.layout.specs.Memory.{whole, stateOf, etagOf};
 ghost use Rattle.lists.specs.Rows.{listedBytes, listing};
 
@@ -23,7 +23,7 @@ pub(crate) fn text_length(kind: u8, count: u16) -> u32
 
 // How many records, 0 or 1, and bytes LIST writes for the row at `at`.
 fn measure_row(tables: &[u8], at: usize, prefix: &[u8], suffix: &[u8]) -> Counts
-    requires { ⌜ at + 36 + headAt (drop at (now tables)) .pathlen ≤ length (now tables) ⌝ }
+    requires { ⌜ at + span (headAt (drop at (now tables))) ≤ length (now tables) ⌝ }
     ensures { λ r. ⌜ (r .records ≡ cond (isListed (now (prefix .entry)) (now (suffix .entry)) (pathAt (drop at (now (tables .entry))))) 1 0)
         × (r .bytes ≡ length (listedBytes (now (prefix .entry)) (now (suffix .entry)) (drop at (now (tables .entry)))))
         × (r .records ≤ 1)
@@ -49,14 +49,14 @@ pub(crate) fn measure_rows(tables: &[u8], arena: &[u8], prefix: &[u8], suffix: &
         × (r .bytes ≡ length (listing (now (prefix .entry)) (now (suffix .entry)) (stateOf (now (tables .entry)) (now (arena .entry))))) ⌝ }
 {
     let objects = find::object_count(tables, arena);
-    let mut at: usize = 18;
+    let mut at: usize = layout::HEADER;
     let mut records: u32 = 0;
     let mut bytes: u32 = 0;
     let mut i: usize = 0;
     while i < objects {
         let h = row::read_head(tables, at);
         let m = measure_row(tables, at, prefix, suffix);
-        at = at + 36 + h.pathlen as usize;
+        at = at + row::HEAD + h.pathlen as usize;
         records += m.records;
         bytes += m.bytes;
         i += 1;

@@ -2,7 +2,7 @@
 ghost use mathlib.Core.Path.{_≡_};
 ghost use Prim.Native.Nat.{_+_, _≤_};
 ghost use lib.ListN.{length, drop};
-ghost use Rattle.row.specs.Row.{headAt, pathAt};
+ghost use Rattle.row.specs.Row.{headAt, pathAt, span};
 ghost use Rattle.machine.specs.Steps.{isListed};
 
 // Whether LIST has the path.
@@ -18,11 +18,11 @@ fn has_path(path: &[u8], prefix: &[u8], suffix: &[u8]) -> bool
 
 // Whether LIST has the path of the row at `at`.
 pub(crate) fn has_row(tables: &[u8], at: usize, prefix: &[u8], suffix: &[u8]) -> bool
-    requires { ⌜ at + 36 + headAt (drop at (now tables)) .pathlen ≤ length (now tables) ⌝ }
+    requires { ⌜ at + span (headAt (drop at (now tables))) ≤ length (now tables) ⌝ }
     ensures { λ r. ⌜ r ≡ isListed (now (prefix .entry)) (now (suffix .entry)) (pathAt (drop at (now (tables .entry)))) ⌝ }
 {
     let h = row::read_head(tables, at);
-    let from = at + 36;
+    let from = at + row::HEAD;
     let to = from + h.pathlen as usize;
     has_path(&tables[from..to], prefix, suffix)
 }

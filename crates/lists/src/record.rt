@@ -6,16 +6,16 @@ ghost use lib.ListN.{length, take, drop};
 ghost use Rattle.number.specs.Number.{le};
 ghost use Rattle.text.specs.Text.{decimal};
 ghost use Rattle.machine.specs.Etags.{text};
-ghost use Rattle.row.specs.Row.{headAt, digestAt};
+ghost use Rattle.row.specs.Row.{headAt, digestAt, headLength, span};
 ghost use Rattle.layout.specs.Memory.{etagOf};
 ghost use Rattle.lists.specs.Rows.{recordAt};
 
 // The length of the path in the row at `at`, and the path.
 fn write_path(tables: &[u8], at: usize, n: u8, answer: &mut [u8], to: usize)
-    requires { ⌜ (at + 36 + n ≤ length (now tables)) × (to + (1 + n) ≤ length (now answer)) ⌝ }
-    ensures { λ _. ⌜ now (answer .exit) ≡ take to (now (answer .entry)) ++ (n ∷ take n (drop (at + 36) (now (tables .entry)))) ++ drop (to + (1 + n)) (now (answer .entry)) ⌝ }
+    requires { ⌜ (at + headLength + n ≤ length (now tables)) × (to + (1 + n) ≤ length (now answer)) ⌝ }
+    ensures { λ _. ⌜ now (answer .exit) ≡ take to (now (answer .entry)) ++ (n ∷ take n (drop (at + headLength) (now (tables .entry)))) ++ drop (to + (1 + n)) (now (answer .entry)) ⌝ }
 {
-    let from = at + 36;
+    let from = at + row::HEAD;
     let end = from + n as usize;
     answer[to] = n;
     buffer::copy_at(answer, to + 1, &tables[from..end]);
@@ -42,10 +42,10 @@ fn write_count(answer: &mut [u8], to: usize, count: u16)
 
 // The text of the etag in the row at `at`.
 fn write_text(tables: &[u8], at: usize, kind: u8, count: u16, answer: &mut [u8], to: usize)
-    requires { ⌜ (at + 36 ≤ length (now tables)) × (to + length (text (etagOf kind (digestAt (drop at (now tables))) count)) ≤ length (now answer)) ⌝ }
+    requires { ⌜ (at + headLength ≤ length (now tables)) × (to + length (text (etagOf kind (digestAt (drop at (now tables))) count)) ≤ length (now answer)) ⌝ }
     ensures { λ _. ⌜ now (answer .exit) ≡ take to (now (answer .entry)) ++ text (etagOf kind (digestAt (drop at (now (tables .entry)))) count) ++ drop (to + length (text (etagOf kind (digestAt (drop at (now (tables .entry)))) count))) (now (answer .entry)) ⌝ }
 {
-    let from = at + 20;
+    let from = at + row::NUMBERS;
     text::put_hex(answer, to, &tables[from..from + 16]);
     if kind != 0 {
         write_count(answer, to + 32, count);
@@ -54,7 +54,7 @@ fn write_text(tables: &[u8], at: usize, kind: u8, count: u16, answer: &mut [u8],
 
 // The record of the row at `at`; the answer is where it ends.
 pub(crate) fn write_record(tables: &[u8], at: usize, answer: &mut [u8], to: usize) -> usize
-    requires { ⌜ (at + 36 + headAt (drop at (now tables)) .pathlen ≤ length (now tables)) × (to + length (recordAt (drop at (now tables))) ≤ length (now answer)) ⌝ }
+    requires { ⌜ (at + span (headAt (drop at (now tables))) ≤ length (now tables)) × (to + length (recordAt (drop at (now tables))) ≤ length (now answer)) ⌝ }
     ensures { λ r. ⌜ (r ≡ to + length (recordAt (drop at (now (tables .entry)))))
         × (now (answer .exit) ≡ take to (now (answer .entry)) ++ recordAt (drop at (now (tables .entry))) ++ drop (to + length (recordAt (drop at (now (tables .entry))))) (now (answer .entry))) ⌝ }
 {

@@ -4,7 +4,7 @@ ghost use mathlib.Core.Bool.{true};
 ghost use Prim.Native.Nat.{_+_, _≤_};
 ghost use mathlib.Core.List.{_++_};
 ghost use lib.ListN.{length, take, drop};
-ghost use Rattle.row.specs.Row.{headAt};
+ghost use Rattle.row.specs.Row.{headAt, span};
 ghost use Rattle.layout.specs.Memory.{whole, stateOf};
 ghost use Rattle.lists.specs.Rows.{listedBytes, listing};
 
@@ -17,7 +17,7 @@ fn write_row(
     answer: &mut [u8],
     to: usize,
 ) -> usize
-    requires { ⌜ (at + 36 + headAt (drop at (now tables)) .pathlen ≤ length (now tables)) × (to + length (listedBytes (now prefix) (now suffix) (drop at (now tables))) ≤ length (now answer)) ⌝ }
+    requires { ⌜ (at + span (headAt (drop at (now tables))) ≤ length (now tables)) × (to + length (listedBytes (now prefix) (now suffix) (drop at (now tables))) ≤ length (now answer)) ⌝ }
     ensures { λ r. ⌜ (r ≡ to + length (listedBytes (now (prefix .entry)) (now (suffix .entry)) (drop at (now (tables .entry)))))
         × (now (answer .exit) ≡ take to (now (answer .entry)) ++ listedBytes (now (prefix .entry)) (now (suffix .entry)) (drop at (now (tables .entry))) ++ drop (to + length (listedBytes (now (prefix .entry)) (now (suffix .entry)) (drop at (now (tables .entry))))) (now (answer .entry))) ⌝ }
 {
@@ -39,13 +39,13 @@ pub(crate) fn write_rows(
     ensures { λ _. ⌜ now (answer .exit) ≡ listing (now (prefix .entry)) (now (suffix .entry)) (stateOf (now (tables .entry)) (now (arena .entry))) ++ drop (length (listing (now (prefix .entry)) (now (suffix .entry)) (stateOf (now (tables .entry)) (now (arena .entry))))) (now (answer .entry)) ⌝ }
 {
     let objects = find::object_count(tables, arena);
-    let mut at: usize = 18;
+    let mut at: usize = layout::HEADER;
     let mut to: usize = 0;
     let mut i: usize = 0;
     while i < objects {
         let h = row::read_head(tables, at);
         to = write_row(tables, at, prefix, suffix, answer, to);
-        at = at + 36 + h.pathlen as usize;
+        at = at + row::HEAD + h.pathlen as usize;
         i += 1;
     }
 }

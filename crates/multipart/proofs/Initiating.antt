@@ -24,7 +24,7 @@ use Rattle.layout.specs.declared.Header.{Header}
 use Rattle.layout.specs.Memory.{whole, stateOf, Stands}
 use Rattle.layout.specs.WholeLaws.{whole-stands}
 use Rattle.layout.specs.StandsLaws.{header-back}
-use Rattle.layout.specs.Header.{headerAt}
+use Rattle.layout.specs.Header.{headerAt, headerLength}
 use Rattle.calls.specs.Made.{memory, outcome, resultOf}
 use Rattle.calls.proofs.Judging.{pass, stop, passed}
 
@@ -52,7 +52,7 @@ module _ (t a p : List ℕ) (b : Bytes t) (w : whole t a ≡ true) (stamp : ℕ)
   pub next-is : (header : Header) → header ≡ headerAt t → header .next ≡ s .N
   next-is header read = ap (λ (h : Header). h .next) (read ∙ header-back t a s stands)
 
-  pub header-inside : 18 ≤ length t
+  pub header-inside : headerLength ≤ length t
   header-inside = let z = stands .size in omega arith
 
   pub bad-stamp : stampOk stamp ≡ false → 2 ≡ resultOf (outcome (INITIATE stamp p) (memory t a))

@@ -24,7 +24,8 @@ use Rattle.machine.specs.Steps.{newPart, act, after}
 use Rattle.machine.proofs.Counts.{part-counted, held-part, parts-part}
 use Rattle.machine.proofs.KeepsValid.{next-valid}
 use Rattle.row.specs.declared.Head.{Head}
-use Rattle.row.specs.Row.{encodeRows, headAt}
+use Rattle.row.specs.Row.{encodeRows, headAt, numbersLength}
+use Rattle.layout.specs.Header.{headerLength}
 use Rattle.layout.specs.Memory.{partRow, whole, stateOf, Stands}
 use Rattle.layout.specs.WholeLaws.{whole-stands}
 use Rattle.find.specs.declared.Place.{Place}
@@ -114,11 +115,11 @@ module _ (t a d : List ℕ) (b : byte.Bytes t) (w : whole t a ≡ true) (u n : �
     here : At t a m h (beforePart m u x₀ n) (partRow n y₀) (afterPart m u x₀ n)
     here = row-at t a m h (beforePart m u x₀ n) (partRow n y₀) (afterPart m u x₀ n) (part-found m u x₀ open₀ n y₀ there)
 
-    at-is : place .at ≡ 18 + length (encodeRows (beforePart m u x₀ n))
+    at-is : place .at ≡ headerLength + length (encodeRows (beforePart m u x₀ n))
     unfolding partPlace
     at-is = ap (λ (p : Place). p .at) place-at
 
-    pub old-inside : place .at + 20 ≤ length t
+    pub old-inside : place .at + numbersLength ≤ length t
     old-inside = omega (arith, at-is, here .inside)
 
     module _ (head : Head) (head-is : head ≡ headAt (drop (place .at) t)) where

@@ -18,7 +18,7 @@ use Rattle.machine.specs.Steps.{objectAt, replyOf, after}
 use Rattle.machine.specs.Valid.{ObjectOk}
 use Rattle.machine.proofs.MapLaws.{every-lookup}
 use Rattle.row.specs.declared.Head.{Head}
-use Rattle.row.specs.Row.{headAt, rowAt}
+use Rattle.row.specs.Row.{headAt, rowAt, headLength}
 use Rattle.row.specs.RowLaws.{row-back}
 use Rattle.layout.specs.Memory.{whole, stateOf, objectRow, objectOf, Stands}
 use Rattle.layout.specs.ObjectLaws.{object-back}
@@ -128,7 +128,7 @@ module _ (t a : List ℕ) (b : number.Bytes t) (w : whole t a ≡ true) (p : Byt
   row-here : At t a s stands (beforeObject s p) (objectRow p x) (afterObject s p)
   row-here = row-at t a s stands (beforeObject s p) (objectRow p x) (afterObject s p) (object-found s p x (k .found))
 
-  pub here-inside : at + 36 ≤ length t
+  pub here-inside : at + headLength ≤ length t
   here-inside = let n = k .at-is in omega (arith, row-here .inside)
 
   pub here-data : base + headAt (drop at t) .size ≤ length a

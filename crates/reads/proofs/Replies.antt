@@ -14,7 +14,7 @@ use Rattle.machine.specs.State.{Object, State}
 use Rattle.machine.specs.Calls.{GET, HEAD, Answer, metadata, Reply, accept}
 use Rattle.machine.specs.Steps.{act, about, write, replyOf}
 use Rattle.machine.proofs.Records.{write-fits}
-use Rattle.row.specs.Row.{headAt}
+use Rattle.row.specs.Row.{headAt, headLength}
 use Rattle.layout.specs.Memory.{whole, stateOf}
 use Rattle.layout.specs.WholeLaws.{whole-stands}
 use Rattle.calls.specs.Answers.{metadataOf, getReply, success}
@@ -56,7 +56,7 @@ module _ (t a : List ℕ) (p : Bytes) (r : Named) (told : r ≡ namedIn (stateOf
     here : Here s p at base
     here = named-object s p at base (sym told ∙ e)
 
-    pub row-inside : at + 36 ≤ length t
+    pub row-inside : at + headLength ≤ length t
     row-inside = here-inside t a bytes w p at base here
 
     pub data-inside : base + headAt (drop at t) .size ≤ length a

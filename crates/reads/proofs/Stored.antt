@@ -20,18 +20,18 @@ use Rattle.machine.specs.Steps.{about, write, replyOf}
 use Rattle.machine.specs.Etags as machine
 use Rattle.machine.proofs.Records.{write-fits, write-short}
 use Rattle.row.specs.declared.Head.{Head}
-use Rattle.row.specs.Row.{headAt, digestAt, rowAt}
+use Rattle.row.specs.Row.{headAt, digestAt, rowAt, numbersLength, headLength}
 use Rattle.layout.specs.Memory.{etagOf}
 use Rattle.calls.specs.Answers.{etagOf as etagIs, metadataOf, getReply, success}
 use Rattle.reads.specs.Named.{metadataAt, storedAt}
 
 -- the digest, read by its words
-pub digest-at : (t : List ℕ) (at : ℕ) (d : Digest) → Bytes t → at + 36 ≤ length t → d ≡ fromBytes (take 16 (drop (at + 20) t)) → bytesOf d ≡ digestAt (drop at t)
+pub digest-at : (t : List ℕ) (at : ℕ) (d : Digest) → Bytes t → at + headLength ≤ length t → d ≡ fromBytes (take 16 (drop (at + numbersLength) t)) → bytesOf d ≡ digestAt (drop at t)
 unfolding digestAt
 digest-at t at d b room e =
     ap bytesOf e
-    ∙ bytesOf-fromBytes (take 16 (drop (at + 20) t)) (bytes-take 16 (drop (at + 20) t) (bytes-drop (at + 20) t b)) (length-take-le 16 (drop (at + 20) t) (simp length-drop (omega arith)))
-    ∙ ap (take 16) (sym (drop-drop 20 at t))
+    ∙ bytesOf-fromBytes (take 16 (drop (at + numbersLength) t)) (bytes-take 16 (drop (at + numbersLength) t) (bytes-drop (at + numbersLength) t b)) (length-take-le 16 (drop (at + numbersLength) t) (simp length-drop (omega arith)))
+    ∙ ap (take 16) (sym (drop-drop numbersLength at t))
 
 -- the etag, by its kind
 pub plain-etag : (kind count : ℕ) (d x : List ℕ) → d ≡ x → kind ≡ 0 → machine.plain d ≡ etagOf kind x count

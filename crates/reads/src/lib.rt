@@ -11,7 +11,7 @@ ghost use mathlib.Core.List.{[]};
 ghost use Rattle.machine.specs.Calls.{metadata, GET, HEAD};
 ghost use Rattle.machine.specs.Etags.{absent};
 ghost use Rattle.machine.specs.Steps.{about, write, replyOf};
-ghost use Rattle.row.specs.Row.{headAt, digestAt};
+ghost use Rattle.row.specs.Row.{headAt, digestAt, headLength};
 ghost use Rattle.layout.specs.Memory.{whole, stateOf, etagOf};
 ghost use Rattle.calls.specs.Answers.{etagOf as etagIs, metadataOf, getReply};
 ghost use Rattle.calls.specs.Made.{memory, outcome, Made};
@@ -59,10 +59,10 @@ fn root() -> Metadata
 
 // The etag of the object whose row stands at `at`.
 fn etag(tables: &[u8], at: usize, kind: u8, count: u16) -> Etag
-    requires { ⌜ at + 36 ≤ length (now tables) ⌝ }
+    requires { ⌜ at + headLength ≤ length (now tables) ⌝ }
     ensures { λ r. ⌜ etagIs r ≡ etagOf kind (digestAt (drop at (now (tables .entry)))) count ⌝ }
 {
-    let digest = md5::get(tables, at + 20);
+    let digest = md5::get(tables, at + row::NUMBERS);
     if kind == 0 {
         Etag::Plain(digest)
     } else {
@@ -72,7 +72,7 @@ fn etag(tables: &[u8], at: usize, kind: u8, count: u16) -> Etag
 
 // The metadata of the object whose row stands at `at`.
 fn metadata(tables: &[u8], at: usize) -> Metadata
-    requires { ⌜ at + 36 ≤ length (now tables) ⌝ }
+    requires { ⌜ at + headLength ≤ length (now tables) ⌝ }
     ensures { λ r. ⌜ metadataOf r ≡ metadataAt (drop at (now (tables .entry))) ⌝ }
 {
     let h = row::read_head(tables, at);
@@ -86,7 +86,7 @@ fn metadata(tables: &[u8], at: usize) -> Metadata
 
 // GET of the object whose row stands at `at`, with its data at `base`.
 fn get_object(tables: &[u8], arena: &[u8], at: usize, base: usize, answer: &mut [u8]) -> GetAnswer
-    requires { ⌜ (at + 36 ≤ length (now tables)) × (base + headAt (drop at (now tables)) .size ≤ length (now arena)) ⌝ }
+    requires { ⌜ (at + headLength ≤ length (now tables)) × (base + headAt (drop at (now tables)) .size ≤ length (now arena)) ⌝ }
     ensures { λ r. ⌜ getReply r (now (answer .exit)) ≡ replyOf (now (answer .entry)) (write (about (storedAt (now (tables .entry)) (now (arena .entry)) at base)) (storedAt (now (tables .entry)) (now (arena .entry)) at base .content) (now (answer .entry)) (stateOf (now (tables .entry)) (now (arena .entry)))) ⌝ }
 {
     let m = metadata(tables, at);

@@ -13,7 +13,8 @@ use Rattle.machine.specs.Map.{isSome, lookup}
 use Rattle.machine.specs.State.{Object, State, objectLength, held}
 use Rattle.machine.specs.Steps.{putAt}
 use Rattle.row.specs.declared.Head.{Head}
-use Rattle.row.specs.Row.{encodeRows, headAt}
+use Rattle.row.specs.Row.{encodeRows, headAt, numbersLength}
+use Rattle.layout.specs.Header.{headerLength}
 use Rattle.layout.specs.Memory.{objectRow, whole, stateOf, Stands}
 use Rattle.layout.specs.WholeLaws.{whole-stands}
 use Rattle.find.specs.declared.Place.{Place}
@@ -48,11 +49,11 @@ module _ (t a : List ℕ) (b : Bytes t) (w : whole t a ≡ true) (p : List ℕ) 
     unfolding x
     found = is-some (lookup byBytes p (s .O)) there .1
 
-    at-is : place .at ≡ 18 + length (encodeRows (beforeObject s p))
+    at-is : place .at ≡ headerLength + length (encodeRows (beforeObject s p))
     unfolding objectPlace
     at-is = ap (λ (y : Place). y .at) place-is
 
-    pub head-inside : place .at + 20 ≤ length t
+    pub head-inside : place .at + numbersLength ≤ length t
     head-inside = let i = row-at t a s stands (beforeObject s p) (objectRow p x) (afterObject s p) (object-found s p x found) .inside in omega (arith, at-is)
 
     module _ (head : Head) (head-is : head ≡ headAt (drop (place .at) t)) where

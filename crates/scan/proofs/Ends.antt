@@ -14,7 +14,7 @@ use Rattle.layout.specs.declared.Header.{Header}
 use Rattle.layout.specs.Rules.{all, objectOk, objectNext, start}
 use Rattle.layout.specs.Memory.{tablesLength, headerOk, uploadTables, uploadArena, uploadRowsAt, objectsGood, uploadsGood, whole}
 use Rattle.layout.specs.declared.Offset.{Offset}
-use Rattle.layout.specs.Header.{headerAt}
+use Rattle.layout.specs.Header.{headerAt, headerLength}
 use Rattle.scan.specs.declared.Scan.{Scan}
 use Rattle.scan.specs.declared.Scan.the-variants.{Bad, Good}
 use Rattle.scan.specs.Scan.{past, pastAll, objectScan, entriesOk, first, rowsOk}
@@ -56,7 +56,7 @@ module _ (S : Type 0) (ok : S → Row → Bool) (next : S → Row → S) where
 -- what the scan of objects says of all rows
 module _ (h : Header) (t a : List ℕ) (r : Scan) (e : r ≡ objectScan (h .objects) [] first t a) where
   abbrev objects : Bool
-  objects = good (List ℕ) objectOk objectNext (h .objects) [] (drop 18 t) a
+  objects = good (List ℕ) objectOk objectNext (h .objects) [] (drop headerLength t) a
 
   pub rows-bad : r ≡ Bad → rowsOk h t a ≡ false
   unfolding objectScan rowsOk
@@ -75,7 +75,7 @@ module _ (h : Header) (t a : List ℕ) (r : Scan) (e : r ≡ objectScan (h .obje
         pick true q = (refl, cc)
         pick false q = (cc, cc)
 
-    pub rows-end : 18 ≤ length t → (p .at ≤ length t) × (p .base ≤ length a)
+    pub rows-end : headerLength ≤ length t → (p .at ≤ length t) × (p .base ≤ length a)
     rows-end l = rw (found .1) (past-inside (List ℕ) objectOk objectNext (h .objects) [] first t a (found .0) l (omega arith))
 
     pub rows-good : (x : Bool) → x ≡ entriesOk (h .next) (h .uploads) 0 (h .uploads + h .parts) start p t a → x ≡ rowsOk h t a
@@ -88,7 +88,7 @@ unfolding whole all rowsOk entriesOk objectsGood uploadsGood uploadRowsAt upload
 whole-is t a =
     rw (and-true, zero-add, past-tables (headerAt t .objects) first t, past-arena (headerAt t .objects) first t a)
 
-pub too-short : (t a : List ℕ) → length t < 18 → whole t a ≡ false
+pub too-short : (t a : List ℕ) → length t < headerLength → whole t a ≡ false
 unfolding whole all headerOk
 too-short t a l = rw (ne-eqb (length t) tablesLength (λ e. omega arith))
 

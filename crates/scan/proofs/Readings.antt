@@ -17,14 +17,14 @@ use Rattle.order.specs.Compared.{orderOf}
 use Rattle.order.specs.declared.Order.{Order}
 use Rattle.order.specs.declared.Order.the-variants.{Less, Equal, Greater}
 use Rattle.row.specs.declared.Head.{Head}
-use Rattle.row.specs.Row.{headAt, spanAt, inside}
+use Rattle.row.specs.Row.{headAt, spanAt, inside, headLength, span}
 use Rattle.scan.specs.declared.Reading.the-variants.{Short, Fits}
 use Rattle.layout.specs.Rules.{isLess, zeros}
 use Rattle.scan.specs.Scan.{readingOf}
 
 -- the tests of `read_row`
 pub reading-is : (t : List ℕ) (at : ℕ) (a : List ℕ) (base : ℕ) (h : Head) → h ≡ headAt (drop at t)
-    → readingOf (drop at t) (drop base a) ≡ cond (leb 36 (length t - at) && (leb (36 + h .pathlen) (length t - at) && leb (h .size) (length a - base))) (Fits h) Short
+    → readingOf (drop at t) (drop base a) ≡ cond (leb headLength (length t - at) && (leb (span h) (length t - at) && leb (h .size) (length a - base))) (Fits h) Short
 unfolding readingOf inside spanAt
 reading-is t at a base h e = rw (length-drop at t, length-drop base a, e)
 

@@ -9,7 +9,7 @@ use lib.ListN.{length, take, drop, length-drop}
 use lib.Seq.{drop-drop, length-take-le}
 use Rattle.number.specs.NumberLaws.{Bytes, bytes-drop}
 use Rattle.row.specs.declared.Head.{Head}
-use Rattle.row.specs.Row.{Row, headAt, digestAt, pathAt, spanAt, rowAt, inside, headOf, good}
+use Rattle.row.specs.Row.{Row, headAt, digestAt, pathAt, spanAt, rowAt, inside, headOf, good, numbersLength, headLength, span}
 use Rattle.row.specs.RowLaws.{Inside, inside-true, head-at}
 use Rattle.layout.specs.declared.Offset.{Offset}
 use Rattle.scan.specs.declared.Reading.the-variants.{Short, Fits}
@@ -33,10 +33,10 @@ reading-fits t a h e = pick (inside t a) e
 
 -- the parts of t that hold the digest and the path of a row at o, as the code takes them
 abbrev pub digestPart : (t : List ℕ) → Offset → List ℕ
-digestPart t o = take (o .at + 36 - (o .at + 20)) (drop (o .at + 20) t)
+digestPart t o = take (o .at + headLength - (o .at + numbersLength)) (drop (o .at + numbersLength) t)
 
 abbrev pub pathPart : (t : List ℕ) → Offset → Head → List ℕ
-pathPart t o h = take (o .at + 36 + h .pathlen - (o .at + 36)) (drop (o .at + 36) t)
+pathPart t o h = take (o .at + headLength + h .pathlen - (o .at + headLength)) (drop (o .at + headLength) t)
 
 -- a row that fits at o
 module _ (t a : List ℕ) (o : Offset) (h : Head) (f : readingOf (drop (o .at) t) (drop (o .base) a) ≡ Fits h) where
@@ -61,7 +61,7 @@ module _ (t a : List ℕ) (o : Offset) (h : Head) (f : readingOf (drop (o .at) t
   same-size : h .size ≡ headAt s .size
   same-size = ap (λ (x : Head). x .size) head-is
 
-  pub row-in : o .at + 36 + h .pathlen ≤ length t
+  pub row-in : o .at + span h ≤ length t
   unfolding spanAt
   row-in = let r = room .row in omega (arith, length-drop (o .at) t, same-length)
 
@@ -70,18 +70,18 @@ module _ (t a : List ℕ) (o : Offset) (h : Head) (f : readingOf (drop (o .at) t
 
   pub digest-part : digestPart t o ≡ digestAt s
   unfolding digestAt
-  digest-part = let n : o .at + 36 - (o .at + 20) ≡ 16 = omega arith in rw (n, drop-drop)
+  digest-part = let n : o .at + headLength - (o .at + numbersLength) ≡ 16 = omega arith in rw (n, drop-drop)
 
   pub digest-length : length (digestPart t o) ≡ 16
   digest-length =
-      let n : o .at + 36 - (o .at + 20) ≡ 16 = omega arith in
-      rw n (length-take-le 16 (drop (o .at + 20) t) (rw length-drop (omega (arith, row-in))))
+      let n : o .at + headLength - (o .at + numbersLength) ≡ 16 = omega arith in
+      rw n (length-take-le 16 (drop (o .at + numbersLength) t) (rw length-drop (omega (arith, row-in))))
 
   pub path-part : pathPart t o h ≡ pathAt s
   unfolding pathAt
   path-part = rw (add-sub-cancel-left, drop-drop, same-length)
 
-  pub rest-tables : drop (o .at + 36 + h .pathlen) t ≡ drop (spanAt s) s
+  pub rest-tables : drop (o .at + headLength + h .pathlen) t ≡ drop (spanAt s) s
   unfolding spanAt
   rest-tables = rw (add-assoc, drop-drop, same-length)
 

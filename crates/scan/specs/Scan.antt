@@ -5,10 +5,11 @@ use mathlib.Core.List.{List, []}
 use lib.Dec.{eqb}
 use lib.ListN.{drop}
 use Rattle.row.specs.declared.Head.{Head}
-use Rattle.row.specs.Row.{headAt, rowsAt, inside, good}
+use Rattle.row.specs.Row.{headAt, rowsAt, inside, good, headLength}
 use Rattle.layout.specs.declared.Mark.{Mark}
 use Rattle.layout.specs.declared.Header.{Header}
 use Rattle.layout.specs.declared.Offset.{Offset}
+use Rattle.layout.specs.Header.{headerLength}
 use Rattle.scan.specs.declared.Reading.{Reading}
 use Rattle.scan.specs.declared.Reading.the-variants.{Short, Fits}
 use Rattle.scan.specs.declared.Scan.{Scan}
@@ -22,7 +23,7 @@ readingOf t a = cond (inside t a) (Fits (headAt t)) Short
 
 -- behind a row with this head
 abbrev pub past : Offset → Head → Offset
-past o h = record { at = o .at + 36 + h .pathlen; base = o .base + h .size }
+past o h = record { at = o .at + headLength + h .pathlen; base = o .base + h .size }
 
 -- behind n rows
 unfoldable pub pastAll : ℕ → Offset → (t : List ℕ) → Offset
@@ -44,10 +45,10 @@ entriesOk N uploads opened n m o t a =
 
 -- the first row stands behind the header
 abbrev pub first : Offset
-first = record { at = 18; base = 0 }
+first = record { at = headerLength; base = 0 }
 
 -- the rows of a store with header h, by what the scans answer
 unfoldable pub rowsOk : Header → (t a : List ℕ) → Bool
 rowsOk h t a =
-    good (List ℕ) objectOk objectNext (h .objects) [] (drop 18 t) a
+    good (List ℕ) objectOk objectNext (h .objects) [] (drop headerLength t) a
     && entriesOk (h .next) (h .uploads) 0 (h .uploads + h .parts) start (pastAll (h .objects) first t) t a

@@ -131,8 +131,8 @@ pub(crate) fn entries_ok(
         let Reading::Fits(h) = rows::read_row(t, at, arena, base) else {
             return false;
         };
-        let digest = at + 20;
-        let path = at + 36;
+        let digest = at + row::NUMBERS;
+        let path = at + row::HEAD;
         let end = path + h.pathlen as usize;
         if !entry_ok(next, m, h, &t[digest..path], &t[path..end]) {
             return false;

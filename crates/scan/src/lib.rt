@@ -11,6 +11,7 @@ ghost use mathlib.Core.Path.{_≡_};
 ghost use Prim.Native.Nat.{_≤_};
 ghost use lib.ListN.{length};
 ghost use Rattle.scan.specs.Scan.{rowsOk};
+ghost use Rattle.layout.specs.Header.{headerLength};
 ghost use Rattle.layout.specs.Memory as memory;
 
 // What stands at an offset: the head of a row that fits there with its data.
@@ -27,10 +28,13 @@ pub enum Scan {
 
 // Whether all rows stand behind a header.
 fn rows_ok(tables: &[u8], arena: &[u8], h: Header) -> bool
-    requires { ⌜ 18 ≤ length (now tables) ⌝ }
+    requires { ⌜ headerLength ≤ length (now tables) ⌝ }
     ensures { λ r. ⌜ r ≡ rowsOk h (now (tables .entry)) (now (arena .entry)) ⌝ }
 {
-    let from = Offset { at: 18, base: 0 };
+    let from = Offset {
+        at: layout::HEADER,
+        base: 0,
+    };
     let Scan::Good(end) = objects::scan_objects(tables, arena, from, h.objects) else {
         return false;
     };
@@ -41,7 +45,7 @@ fn rows_ok(tables: &[u8], arena: &[u8], h: Header) -> bool
 pub fn whole(tables: &[u8], arena: &[u8]) -> bool
     ensures { λ r. ⌜ r ≡ memory.whole (now (tables .entry)) (now (arena .entry)) ⌝ }
 {
-    if tables.len() < 18 {
+    if tables.len() < layout::HEADER {
         return false;
     }
     let h = headers::read_header(tables);

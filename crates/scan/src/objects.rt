@@ -68,7 +68,7 @@ pub(crate) fn scan_objects(t: &[u8], arena: &[u8], from: Offset, rows: u16) -> S
         let Reading::Fits(h) = rows::read_row(t, at, arena, base) else {
             return Scan::Bad;
         };
-        let path = at + 36;
+        let path = at + row::HEAD;
         let end = path + h.pathlen as usize;
         if !object_ok(&t[last..at], h, &t[path..end]) {
             return Scan::Bad;

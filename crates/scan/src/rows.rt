@@ -11,11 +11,11 @@ pub(crate) fn read_row(t: &[u8], at: usize, arena: &[u8], base: usize) -> Readin
     ensures { λ r. ⌜ r ≡ readingOf (drop at (now (t .entry))) (drop base (now (arena .entry))) ⌝ }
 {
     let left = t.len() - at;
-    if left < 36 {
+    if left < row::HEAD {
         return Reading::Short;
     }
     let h = row::read_head(t, at);
-    if left < 36 + h.pathlen as usize {
+    if left < row::HEAD + h.pathlen as usize {
         return Reading::Short;
     }
     if arena.len() - base < h.size as usize {

@@ -17,7 +17,8 @@ use Rattle.machine.proofs.MapLaws.{every-lookup}
 use Rattle.machine.proofs.MapScan.{lookup-key, place-key}
 use Rattle.machine.proofs.MapSums.{total-share}
 use Rattle.row.specs.declared.Head.{Head}
-use Rattle.row.specs.Row.{Row, encodeRows, headAt, headOf}
+use Rattle.row.specs.Row.{Row, encodeRows, headAt, headOf, headLength, span}
+use Rattle.layout.specs.Header.{headerLength}
 use Rattle.layout.specs.Memory.{objectRows, uploadRow, partRows, uploadRows, rowsOf, Stands}
 use Rattle.layout.specs.TestLaws.{stored-path-length}
 use Rattle.find.specs.declared.RowPlace.{RowPlace}
@@ -53,13 +54,13 @@ parts-fit t a s h u e r passed = go (lookup byNumber u (s .U)) refl e
 
 -- what is read of an upload's row, and of its parts'
 pub row-read : (t : List ℕ) (s : State) (here : RowPlace) (x : Upload) (h : Head) (p : PassedParts) → h ≡ headAt (drop (here .at) t) → p ≡ passedParts s (headAt (drop (here .at) t) .number) x
-    → RowRead t s here x (record { number = h .number; from = here .at + 36; to = here .at + 36 + h .pathlen; started = h .stamp; parts = p .count; next = p .next })
+    → RowRead t s here x (record { number = h .number; from = here .at + headLength; to = here .at + headLength + h .pathlen; started = h .stamp; parts = p .count; next = p .next })
 unfolding passedParts
 row-read t s here x h p e q =
     record {
       number = ap (λ (y : Head). y .number) e;
       from = refl;
-      to = ap (λ (y : Head). here .at + 36 + y .pathlen) e;
+      to = ap (λ (y : Head). here .at + headLength + y .pathlen) e;
       started = ap (λ (y : Head). y .stamp) e;
       parts = ap (λ (y : PassedParts). y .count) q;
       next = ap (λ (y : PassedParts). y .next) q;
@@ -109,7 +110,7 @@ module _ (t a : List ℕ) (s : State) (h : Stands t a s) (i : ℕ) (here : RowPl
   unfolding uploadRowPlace
   place-is = e ∙ ap (λ (rs : List Row). rowPlaceAt (rowsOf s) (length rs)) (sym before-is)
 
-  at-is : at ≡ 18 + length (encodeRows (beforeUpload s u))
+  at-is : at ≡ headerLength + length (encodeRows (beforeUpload s u))
   at-is = place-behind (rowsOf s) (beforeUpload s u) (uploadRow u x ∷ (partRows (x .parts) ++ afterUpload s u)) here (upload-found s u x found) place-is .at
 
   row-here : At t a s h (beforeUpload s u) (uploadRow u x) (partRows (x .parts) ++ afterUpload s u)
@@ -124,7 +125,7 @@ module _ (t a : List ℕ) (s : State) (h : Stands t a s) (i : ℕ) (here : RowPl
   length-here : headAt (drop at t) .pathlen ≡ length (x .path)
   length-here = ap (λ (y : Head). y .pathlen) head-here
 
-  row-inside : at + 36 + headAt (drop at t) .pathlen ≤ length t
+  row-inside : at + span (headAt (drop at t)) ≤ length t
   row-inside = omega (arith, length-here, at-is, row-here .inside)
 
   row-found : lookup byNumber (headAt (drop at t) .number) (s .U) ≡ some x
@@ -136,8 +137,8 @@ module _ (t a : List ℕ) (s : State) (h : Stands t a s) (i : ℕ) (here : RowPl
   pub row-place : here ≡ rowPlaceAt (rowsOf s) (length (beforeUpload s (headAt (drop at t) .number)))
   row-place = place-is ∙ ap (λ (n : ℕ). rowPlaceAt (rowsOf s) (length (beforeUpload s n))) (sym number-here)
 
-  path-here : take (length (x .path)) (drop (at + 36) t) ≡ x .path
-  path-here = ap (λ (n : ℕ). take (length (x .path)) (drop (n + 36) t)) at-is ∙ row-here .path
+  path-here : take (length (x .path)) (drop (at + headLength) t) ≡ x .path
+  path-here = ap (λ (n : ℕ). take (length (x .path)) (drop (n + headLength) t)) at-is ∙ row-here .path
 
   path-short : length (x .path) ≤ 128
   path-short =
@@ -148,13 +149,13 @@ module _ (t a : List ℕ) (s : State) (h : Stands t a s) (i : ℕ) (here : RowPl
   unfolding uploadRowPlace passedParts
   entry r is =
       let k = is x row-found in
-      let n : r .to ≡ at + 36 + length (x .path) = k .to ∙ ap (λ (m : ℕ). at + 36 + m) length-here in
+      let n : r .to ≡ at + headLength + length (x .path) = k .to ∙ ap (λ (m : ℕ). at + headLength + m) length-here in
       let f = k .from in
       record {
         number = k .number ∙ number-here;
         ordered = omega arith;
         inside = omega (arith, row-inside, length-here);
-        path = ap₂ (λ (m j : ℕ). take (m - j) (drop j t)) n f ∙ ap (λ (m : ℕ). take m (drop (at + 36) t)) (add-sub-cancel-left (at + 36) (length (x .path))) ∙ path-here;
+        path = ap₂ (λ (m j : ℕ). take (m - j) (drop j t)) n f ∙ ap (λ (m : ℕ). take m (drop (at + headLength) t)) (add-sub-cancel-left (at + headLength) (length (x .path))) ∙ path-here;
         short = path-short;
         started = k .started ∙ ap (λ (y : Head). y .stamp) head-here;
         parts = k .parts;

@@ -4,7 +4,7 @@ use mathlib.Core.Path.{_≡_}
 use mathlib.Core.List.{List, _++_}
 use lib.ListN.{length, take, drop}
 use Rattle.machine.specs.State.{Upload, State}
-use Rattle.row.specs.Row.{headAt}
+use Rattle.row.specs.Row.{headAt, headLength}
 use Rattle.layout.specs.Memory.{objectRows, uploadRows, rowsOf}
 use Rattle.find.specs.declared.RowPlace.{RowPlace}
 use Rattle.find.specs.Places.{passedParts}
@@ -18,8 +18,8 @@ uploadRowPlace s i = rowPlaceAt (rowsOf s) (length (objectRows (s .O) ++ uploadR
 -- what is read of the upload x whose row stands there
 pub record RowRead (t : List ℕ) (s : State) (here : RowPlace) (x : Upload) (r : OpenUpload) : Type 0 where
   pub number : r .number ≡ headAt (drop (here .at) t) .number
-  pub from : r .from ≡ here .at + 36
-  pub to : r .to ≡ here .at + 36 + headAt (drop (here .at) t) .pathlen
+  pub from : r .from ≡ here .at + headLength
+  pub to : r .to ≡ here .at + headLength + headAt (drop (here .at) t) .pathlen
   pub started : r .started ≡ headAt (drop (here .at) t) .stamp
   pub parts : r .parts ≡ length (x .parts)
   pub next : r .next ≡ passedParts s (headAt (drop (here .at) t) .number) x .next

@@ -12,7 +12,7 @@ use Rattle.machine.proofs.KeepsValid.{fresh-valid}
 use Rattle.row.specs.Row.{encodeRows, contentsOf}
 use Rattle.layout.specs.Memory.{objectRows, uploadRows, rowsOf, Stands}
 use Rattle.layout.specs.StandsLaws.{stands-state, stands-whole}
-use Rattle.layout.specs.Header.{headerBytes, headed, encodeHeader}
+use Rattle.layout.specs.Header.{headerBytes, headed, encodeHeader, headerLength}
 use Rattle.calls.specs.Made.{memory, freshResult, MadeFresh}
 
 module _ (t a : List ℕ) where
@@ -52,7 +52,7 @@ module _ (t a : List ℕ) where
           size = keeps ∙ l;
           small = h;
           valid = fresh-valid (length a);
-          tables-free = drop 18 t;
+          tables-free = drop headerLength t;
           tables = e;
           arena-free = a;
           arena = refl;

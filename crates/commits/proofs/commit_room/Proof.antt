@@ -2,6 +2,7 @@
 use Prim.Native.Nat.{_+_, _≤_}
 use lib.ListN.{length}
 use Rattle.number.specs.NumberLaws.{Bytes}
+use Rattle.row.specs.Row.{span}
 use Rattle.commits.proofs.PathRoom.{row-inside, path-ends, path-room}
 use native.Mathlib.Omega.{arith}
 use borrow.Author.Needs.{needs}
@@ -27,7 +28,7 @@ module _ (c : tie.After-read-head) where
   bytes : Bytes (start .args .tables .now)
   bytes = λ j. c .before .before .before .shared-slice-known .given j .fits
 
-  ends : c .before .find-upload .result .at + 36 + c .read-head .result .pathlen ≤ length (start .args .tables .now)
+  ends : c .before .find-upload .result .at + span (c .read-head .result) ≤ length (start .args .tables .now)
   ends = let f = c .before .find-upload in path-ends (start .args .tables .now) (start .args .arena .now) bytes (start .pre .0) (start .args .upload .0) (f .result) (f .ensures) (start .pre .1) (c .read-head .result) (c .read-head .ensures)
 
 add-from : tie.Need-add-from

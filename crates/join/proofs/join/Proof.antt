@@ -8,6 +8,7 @@ use borrow.Author.Needs.{needs}
 use lib.ListN.{length, take, drop, length-take}
 use lib.Seq.{length-take-le}
 use Rattle.machine.specs.State.{State}
+use Rattle.row.specs.Row.{headLength, span}
 use Rattle.layout.specs.Memory.{stateOf, Stands}
 use Rattle.layout.specs.WholeLaws.{whole-stands}
 use Rattle.join.specs.Joined.{Joinable, JoinableAt}
@@ -34,7 +35,7 @@ module _ (c : tie.After-find-upload) where
   stands : Stands t a s
   stands = whole-stands t a (λ j. c .before .before .before .before .before .slice-known .given j .fits) (start .pre .is-whole)
 
-  begins : c .find-upload .result .at + 36 ≤ length t
+  begins : c .find-upload .result .at + headLength ≤ length t
   begins = let k = start .pre .listed in head-inside t a s stands (start .args .upload) (k .upload) (k .found) (c .find-upload .result) (c .find-upload .ensures)
 
 read-head-requires : tie.Need-read-head-requires
@@ -48,7 +49,7 @@ module _ (c : tie.After-read-head) where
   abbrev k : Joinable (t place) (a place) (start place .args .upload) (start place .args .list .now)
   k = start place .pre
 
-  inside : place .find-upload .result .at + 36 + c .read-head .result .pathlen ≤ length (t place)
+  inside : place .find-upload .result .at + span (c .read-head .result) ≤ length (t place)
   inside = path-inside (t place) (a place) (s place) (stands place) (start place .args .upload) (k .listed .upload) (k .listed .found) (place .find-upload .result) (place .find-upload .ensures) (c .read-head .result) (c .read-head .ensures)
 
   small : c .read-head .result .pathlen ≤ 128
@@ -79,7 +80,7 @@ copy-at-requires : tie.Need-copy-at-requires
 copy-at-requires c κs =
     let r = c .before .before .before .before in
     let p = place r in
-    let from = p .find-upload .result .at + 36 in
+    let from = p .find-upload .result .at + headLength in
     omega (arith, small r, length-take (from + r .read-head .result .pathlen - from) (drop from (t p)))
 
 -- once the path is copied
@@ -96,7 +97,7 @@ module _ (c : tie.After-copy-at) where
   at-path : (j : Joinable (t here) (a here) (start here .args .upload) (start here .args .list .now))
       → JoinableAt (t here) (a here) (start here .args .upload) (start here .args .list .now) (take n (c .copy-at .last .0)) (read .read-head .result .stamp)
   at-path j =
-      let from = here .find-upload .result .at + 36 in
+      let from = here .find-upload .result .at + headLength in
       let part : take (from + n - from) (drop from (t here)) ≡ take n (drop from (t here)) = rw add-sub-cancel-left in
       record {
         joinable = j;

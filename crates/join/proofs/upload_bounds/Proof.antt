@@ -7,6 +7,7 @@ use native.Mathlib.Omega.{arith}
 use borrow.Author.Needs.{needs}
 use Rattle.machine.specs.Map.{byNumber, lookup}
 use Rattle.machine.specs.State.{Upload, State}
+use Rattle.row.specs.Row.{headLength}
 use Rattle.layout.specs.Memory.{stateOf, Stands}
 use Rattle.layout.specs.WholeLaws.{whole-stands}
 use Rattle.find.proofs.Found.{is-some}
@@ -46,7 +47,7 @@ module _ (c : tie.After-rows-end) where
   few : c .before .parts-end .result .count ≤ 256
   few = count-small t a s stands (start .args .upload) (found .0) (found .1) _ (c .before .before .find-upload .ensures) _ (c .before .parts-end .ensures (found .0) (found .1)) _ (c .rows-end .ensures)
 
-  rows : 36 * c .before .parts-end .result .count ≤ c .before .parts-end .result .at
+  rows : headLength * c .before .parts-end .result .count ≤ c .before .parts-end .result .at
   rows = rows-behind t a s stands (start .args .upload) (found .0) (found .1) _ (c .before .before .find-upload .ensures) _ (c .before .parts-end .ensures (found .0) (found .1)) _ (c .rows-end .ensures)
 
   bytes : c .before .before .find-upload .result .base ≤ c .before .parts-end .result .base

@@ -6,6 +6,7 @@ use lib.ListN.{length}
 use Rattle.join_order.specs.Region.{PartAt}
 use Rattle.join_order.proofs.Search.{Passed, passed-none, next-inside, arena-inside, found-here, passed-next}
 use Rattle.join_order.proofs.find_row.Statement.{statement}
+use Rattle.row.specs.Row.{headLength}
 use Rattle.join_order.proofs.find_row.Tie as tie
 
 abbrev Inv-loop : tie.InvT-loop
@@ -22,7 +23,7 @@ module _ (c : tie.At-loop Inv-loop μ-loop) where
   passed : Passed (start .args .tables .now) (start .args .arena .now) (start .args .at) (start .args .base) (start .args .number) (start .pre) (c .loop .rows) (c .loop .bytes)
   passed = c .loop .inv (start .pre)
 
-  inside : start .args .at + c .loop .rows + 36 ≤ length (start .args .tables .now)
+  inside : start .args .at + c .loop .rows + headLength ≤ length (start .args .tables .now)
   inside = next-inside _ _ _ _ _ _ _ _ passed
 
 loop-holds : tie.Need-loop-holds Inv-loop μ-loop

@@ -7,6 +7,7 @@ use lib.ListN.{length, drop}
 use Rattle.join_order.specs.Region.{Region, ListedAt}
 use Rattle.join_order.proofs.Ordering.{Turned, turned-none, within, number-inside, turn-part, turn, turned-all}
 use Rattle.join_order.proofs.order_parts.Statement.{statement}
+use Rattle.row.specs.Row.{headLength}
 use Rattle.join_order.proofs.order_parts.Tie as tie
 
 abbrev Inv-loop : tie.InvT-loop
@@ -48,14 +49,14 @@ module _ (c : tie.After-bring Inv-loop μ-loop) where
 
   turned : (k : ListedAt (start .args .tables .now) (start .args .arena .now) (start .args .at) (start .args .base) (start .args .list .now))
       → Turned (start .args .tables .now) (start .args .arena .now) (start .args .at) (start .args .base) (start .args .list .now) k
-      (c .bring .last .0) (c .bring .last .1 .0) (top .loop .row-at + 36) (top .loop .data-at + c .bring .result) (drop (top .loop .i + 2) (start .args .list .now))
+      (c .bring .last .0) (c .bring .last .1 .0) (top .loop .row-at + headLength) (top .loop .data-at + c .bring .result) (drop (top .loop .i + 2) (start .args .list .now))
   turned k =
       let l = top .loop .inv .2 k in
       let more = read .before .loop-test .taken in
       turn _ _ _ _ _ k _ _ _ _ _ l more (read .get-u16 .result) (read .get-u16 .ensures) _ _ (c .bring .result)
       (c .bring .ensures (turn-part _ _ _ _ _ k _ _ _ _ _ l more (read .get-u16 .result) (read .get-u16 .ensures)))
 
-  region : Region (c .bring .last .0) (c .bring .last .1 .0) (top .loop .row-at + 36) (top .loop .data-at + c .bring .result)
+  region : Region (c .bring .last .0) (c .bring .last .1 .0) (top .loop .row-at + headLength) (top .loop .data-at + c .bring .result)
   region = turned (start .pre) .rest .region
 
 add-row-at : tie.Need-add-row-at Inv-loop μ-loop

@@ -8,7 +8,7 @@ use Rattle.md5.specs.Md5.{bytesOf}
 use Rattle.md5.specs.Md5Laws.{length-bytesOf}
 use Rattle.buffer.specs.Buffer.{spliced}
 use Rattle.layout.specs.Header.{headed}
-use Rattle.row.specs.Row.{rowBytes}
+use Rattle.row.specs.Row.{rowBytes, headLength}
 use Rattle.row.proofs.RowFields.{row-front, length-rowBytes}
 use native.Mathlib.Omega.{arith}
 use borrow.Author.Needs.{needs}
@@ -30,14 +30,14 @@ array-share-prefix-row c = search needs
 -- the front of the local array
 front : (k : tie.After-write-row)
     → let a = k .before .before .before .before .args in
-    take (36 + length (a .path .now)) (k .write-row .last .0) ≡ rowBytes (a .h) (bytesOf (a .digest)) (a .path .now)
+    take (headLength + length (a .path .now)) (k .write-row .last .0) ≡ rowBytes (a .h) (bytesOf (a .digest)) (a .path .now)
 front k =
     let a = k .before .before .before .before .args in
-    row-front _ (k .write-row .last .0) (bytesOf (a .digest)) (a .path .now) (a .h) (36 + length (a .path .now)) (length-bytesOf (a .digest)) refl (k .write-row .ensures)
+    row-front _ (k .write-row .last .0) (bytesOf (a .digest)) (a .path .now) (a .h) (headLength + length (a .path .now)) (length-bytesOf (a .digest)) refl (k .write-row .ensures)
 
 front-length : (k : tie.After-write-row)
     → let a = k .before .before .before .before .args in
-    length (take (36 + length (a .path .now)) (k .write-row .last .0)) ≡ 36 + length (a .path .now)
+    length (take (headLength + length (a .path .now)) (k .write-row .last .0)) ≡ headLength + length (a .path .now)
 front-length k =
     let a = k .before .before .before .before .args in
     ap length (front k) ∙ length-rowBytes (a .h) (bytesOf (a .digest)) (a .path .now) (length-bytesOf (a .digest))

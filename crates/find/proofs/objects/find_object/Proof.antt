@@ -11,6 +11,7 @@ use Rattle.order.specs.declared.Order.{Order}
 use Rattle.order.specs.Compared.{orderOf}
 use Rattle.order.proofs.Answers.{answer-less, answer-equal, answer-greater}
 use Rattle.machine.specs.State.{State}
+use Rattle.row.specs.Row.{headLength, span}
 use Rattle.layout.specs.Memory.{stateOf, Stands}
 use Rattle.layout.specs.WholeLaws.{whole-stands}
 use Rattle.find.proofs.ObjectSearch.{Passed, Turn, passed-none, passed-all, object-inside, object-turn}
@@ -61,7 +62,7 @@ module _ (c : tie.In-loop Inv-loop μ-loop) where
   more : l .loop .i < length (s l .O)
   more = let n = c .loop-test .taken in omega (arith, counted l)
 
-  begins : l .loop .at + 36 ≤ length (t l)
+  begins : l .loop .at + headLength ≤ length (t l)
   begins = object-inside (t l) (a l) (s l) (stands l) (start l .args .path .now) (l .loop .i) (l .loop .at) (l .loop .base) (l .loop .inv) more
 
 read-head-requires : tie.Need-read-head-requires Inv-loop μ-loop
@@ -73,7 +74,7 @@ turn c =
     let k = c .before .before in
     object-turn (t k) (a k) (s k) (stands k) (start k .args .path .now) (k .loop .i) (k .loop .at) (k .loop .base) (k .loop .inv) (more (c .before)) (c .read-head .result) (c .read-head .ensures)
 
-inside : (c : tie.After-read-head Inv-loop μ-loop) → c .before .before .loop .at + 36 + c .read-head .result .pathlen ≤ length (t (c .before .before))
+inside : (c : tie.After-read-head Inv-loop μ-loop) → c .before .before .loop .at + span (c .read-head .result) ≤ length (t (c .before .before))
 inside c = turn c .inside
 
 add-from : tie.Need-add-from Inv-loop μ-loop
@@ -100,7 +101,7 @@ compare-requires c κs = search needs
 -- the paths compare as the code was told
 compared : (c : tie.After-compare Inv-loop μ-loop) (o : Order) → c .compare .result ≡ o
     → let r = c .before .before .before in
-    orderOf (byBytes (start (r .before .before) .args .path .now) (take (r .read-head .result .pathlen) (drop (r .before .before .loop .at + 36) (t (r .before .before))))) ≡ o
+    orderOf (byBytes (start (r .before .before) .args .path .now) (take (r .read-head .result .pathlen) (drop (r .before .before .loop .at + headLength) (t (r .before .before))))) ≡ o
 compared c o told =
     let r = c .before .before .before in
     rw add-sub-cancel-left at (sym (c .compare .ensures) ∙ told)

@@ -5,6 +5,7 @@ use native.Mathlib.Omega.{arith}
 use borrow.Author.Needs.{needs}
 use lib.ListN.{length}
 use Rattle.machine.specs.State.{State}
+use Rattle.row.specs.Row.{headLength}
 use Rattle.layout.specs.Memory.{stateOf, rowsOf, Stands}
 use Rattle.layout.specs.WholeLaws.{whole-stands}
 use Rattle.find.proofs.Walk.{Reached, Turn, reached-place, place-reached, rows-few, row-inside, row-turn}
@@ -40,7 +41,7 @@ turn c =
 
 read-head-requires : tie.Need-read-head-requires
 read-head-requires c κs =
-    let z : start c .args .from .at + 36 ≤ length (t c) =
+    let z : start c .args .from .at + headLength ≤ length (t c) =
     row-inside (t c) (a c) (s c) (stands c) (start c .args .from .row) (start c .args .from .at) (start c .args .from .base) (reached c) (more c) in
     omega arith
 

@@ -10,6 +10,7 @@ use lib.Dec.{eqb}
 use lib.ListN.{length, drop}
 use Rattle.machine.specs.State.{State}
 use Rattle.row.specs.declared.Head.{Head}
+use Rattle.row.specs.Row.{headLength}
 use Rattle.layout.specs.Memory.{stateOf, rowsOf, Stands}
 use Rattle.layout.specs.WholeLaws.{whole-stands}
 use Rattle.find.specs.Search.{leads}
@@ -53,7 +54,7 @@ module _ (c : tie.Else1) where
 
 read-head-requires : tie.Need-read-head-requires
 read-head-requires c κs =
-    let z : start c .args .here .at + 36 ≤ length (t c) =
+    let z : start c .args .here .at + headLength ≤ length (t c) =
     row-inside (t c) (a c) (s c) (stands c) (start c .args .here .row) (start c .args .here .at) (start c .args .here .base) (reached c) (more c) in
     omega arith
 

@@ -7,6 +7,7 @@ use Rattle.join_order.specs.Digests.{OrderedAt}
 use Rattle.join_order.proofs.Gathering.{Gathered, gathered-none, gathered-all, row-inside, gathered-next}
 use native.Mathlib.Omega.{arith}
 use Rattle.join_order.proofs.digests.gather.Statement.{statement}
+use Rattle.row.specs.Row.{numbersLength, headLength}
 use Rattle.join_order.proofs.digests.gather.Tie as tie
 
 abbrev Inv-loop : tie.InvT-loop
@@ -19,7 +20,7 @@ loop-holds : tie.Need-loop-holds Inv-loop μ-loop
 loop-holds c = (refl, λ k. gathered-none _ _ _ k _)
 
 -- in the loop
-inside : (c : tie.In-loop Inv-loop μ-loop) → let k = c .before .before .before in k .args .at + 36 * c .before .loop .i + 36 ≤ length (k .args .tables .now)
+inside : (c : tie.In-loop Inv-loop μ-loop) → let k = c .before .before .before in k .args .at + headLength * c .before .loop .i + headLength ≤ length (k .args .tables .now)
 inside c = let p = c .before .before .before .pre .0 in row-inside _ _ _ p _ _ (c .before .loop .inv .1 p) (c .loop-test .taken)
 
 mul-from : tie.Need-mul-from Inv-loop μ-loop
@@ -64,7 +65,7 @@ loop-again c =
     let l = d .before .before .before .before in
     let a = l .before .before .args in
     let n = l .loop .inv .0 in
-    let from = a .at + 36 * l .loop .i + 20 in
+    let from = a .at + headLength * l .loop .i + numbersLength in
     let part : take (from + 16 - from) (drop from (a .tables .now)) ≡ take 16 (drop from (a .tables .now)) = rw add-sub-cancel-left in (
       omega arith,
       λ k. gathered-next _ _ _ k _ _ (l .loop .inv .1 k) (d .before .before .before .loop-test .taken) _ _ (omega arith) part (d .copy-at .ensures),

@@ -7,7 +7,7 @@ use borrow.Author.Needs.{needs}
 use lib.ListN.{length, drop}
 use Rattle.machine.specs.State.{State}
 use Rattle.row.specs.declared.Head.{Head}
-use Rattle.row.specs.Row.{headAt}
+use Rattle.row.specs.Row.{headAt, span}
 use Rattle.layout.specs.Memory.{stateOf, Stands}
 use Rattle.layout.specs.WholeLaws.{whole-stands}
 use Rattle.lists.proofs.ObjectRows.{row-inside}
@@ -55,11 +55,11 @@ module _ (c : tie.In-loop Inv-loop μ-loop) where
   more : l .loop .i < length (s l .O)
   more = let k = c .loop-test .taken in omega (arith, counted l)
 
-  inside : l .loop .at + 36 + headAt (drop (l .loop .at) (t l)) .pathlen ≤ length (t l)
+  inside : l .loop .at + span (headAt (drop (l .loop .at) (t l))) ≤ length (t l)
   inside = row-inside (t l) (a l) (s l) (stands l) (l .loop .i) (l .loop .at) (l .loop .inv .rows) more
 
 -- its path, by the head that was read
-path-inside : (c : tie.After-read-head Inv-loop μ-loop) → c .before .before .loop .at + 36 + c .read-head .result .pathlen ≤ length (t (c .before .before))
+path-inside : (c : tie.After-read-head Inv-loop μ-loop) → c .before .before .loop .at + span (c .read-head .result) ≤ length (t (c .before .before))
 path-inside c = omega (arith, inside (c .before), ap (λ (x : Head). x .pathlen) (c .read-head .ensures))
 
 read-head-requires : tie.Need-read-head-requires Inv-loop μ-loop

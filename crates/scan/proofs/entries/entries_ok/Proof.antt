@@ -6,6 +6,7 @@ use native.Mathlib.Nat.{sub-zero}
 use borrow.Author.Needs.{needs}
 use lib.ListN.{length, drop}
 use Rattle.layout.specs.declared.Offset.{Offset}
+use Rattle.row.specs.Row.{span}
 use Rattle.scan.specs.declared.Reading.the-variants.{Fits}
 use Rattle.scan.specs.Scan.{readingOf, entriesOk}
 use Rattle.scan.proofs.Turns.{row-in, data-in, digest-length}
@@ -39,7 +40,7 @@ here c = record { at = c .loop .at; base = c .loop .base }
 fits : (c : tie.After-h Inv-loop μ-loop) → readingOf (drop (here (c .before .before .before .before) .at) (tables (c .before .before .before .before))) (drop (here (c .before .before .before .before) .base) (content (c .before .before .before .before))) ≡ Fits (c .h .given .0 .0)
 fits c = sym (c .before .before .read-row .ensures) ∙ c .h .given .1
 
-ends : (c : tie.After-h Inv-loop μ-loop) → c .before .before .before .before .loop .at + 36 + c .h .given .0 .0 .pathlen ≤ length (tables (c .before .before .before .before))
+ends : (c : tie.After-h Inv-loop μ-loop) → c .before .before .before .before .loop .at + span (c .h .given .0 .0) ≤ length (tables (c .before .before .before .before))
 ends c = row-in (tables (c .before .before .before .before)) (content (c .before .before .before .before)) (here (c .before .before .before .before)) (c .h .given .0 .0) (fits c)
 
 data-ends : (c : tie.After-h Inv-loop μ-loop) → c .before .before .before .before .loop .base + c .h .given .0 .0 .size ≤ length (content (c .before .before .before .before))
@@ -133,7 +134,7 @@ loop-again c =
       k .loop .inv .0
           ∙ entries-next (tables k) (content k) (a .next) (a .uploads) (k .loop .opened) (a .uploads + a .parts) (k .loop .i) (k .loop .m) (here k) (c .before .before .before .before .before .before .before .before .before .before .before .before .loop-test .taken) (λ j. k .before .before .shared-slice-known .given j .fits) _ (fits (c .before .before .before .before .before .before .before .before .before)) _ (c .before .before .before .before .entry-ok .ensures) (c .before .before .before .if1 .left)
           ∙ rw (c .before .opening .ensures, c .before .before .mark-after .ensures),
-      ends (c .before .before .before .before .before .before .before .before .before),
+      omega (arith, ends (c .before .before .before .before .before .before .before .before .before)),
       data-ends (c .before .before .before .before .before .before .before .before .before),
       omega arith,
       omega (arith, c .before .opening .ensures, opens-small (c .before .before .before .before .before .before .before .before .before .h .given .0 .0)),

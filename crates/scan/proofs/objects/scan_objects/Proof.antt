@@ -6,6 +6,7 @@ use native.Mathlib.Nat.{sub-zero, sub-self}
 use borrow.Author.Needs.{needs}
 use lib.ListN.{length, take, drop}
 use Rattle.layout.specs.declared.Offset.{Offset}
+use Rattle.row.specs.Row.{span}
 use Rattle.scan.specs.declared.Reading.the-variants.{Fits}
 use Rattle.scan.specs.Scan.{readingOf, objectScan}
 use Rattle.scan.proofs.Turns.{row-in, data-in}
@@ -39,7 +40,7 @@ here c = record { at = c .loop .at; base = c .loop .base }
 fits : (c : tie.After-h Inv-loop μ-loop) → readingOf (drop (here (c .before .before .before .before) .at) (tables (c .before .before .before .before))) (drop (here (c .before .before .before .before) .base) (content (c .before .before .before .before))) ≡ Fits (c .h .given .0 .0)
 fits c = sym (c .before .before .read-row .ensures) ∙ c .h .given .1
 
-ends : (c : tie.After-h Inv-loop μ-loop) → c .before .before .before .before .loop .at + 36 + c .h .given .0 .0 .pathlen ≤ length (tables (c .before .before .before .before))
+ends : (c : tie.After-h Inv-loop μ-loop) → c .before .before .before .before .loop .at + span (c .h .given .0 .0) ≤ length (tables (c .before .before .before .before))
 ends c = row-in (tables (c .before .before .before .before)) (content (c .before .before .before .before)) (here (c .before .before .before .before)) (c .h .given .0 .0) (fits c)
 
 data-ends : (c : tie.After-h Inv-loop μ-loop) → c .before .before .before .before .loop .base + c .h .given .0 .0 .size ≤ length (content (c .before .before .before .before))
@@ -117,7 +118,7 @@ loop-again c =
     let a = k .before .before .before .args in (
       k .loop .inv .0 ∙ objects-next (tables k) (content k) (a .rows) (k .loop .i) _ (here k) (c .before .before .before .before .before .before .before .before .before .before .loop-test .taken) (λ j. k .before .before .shared-slice-known .given j .fits) _ (fits (c .before .before .before .before .before .before .before)) _ (c .before .before .object-ok .ensures) (c .before .if1 .left),
       omega arith,
-      ends (c .before .before .before .before .before .before .before),
+      omega (arith, ends (c .before .before .before .before .before .before .before)),
       data-ends (c .before .before .before .before .before .before .before),
       omega arith,
     )

@@ -6,7 +6,7 @@ use native.Mathlib.Omega.{arith}
 use borrow.Author.Needs.{needs}
 use lib.ListN.{length, drop}
 use Rattle.machine.specs.State.{State}
-use Rattle.row.specs.Row.{headAt}
+use Rattle.row.specs.Row.{headAt, headLength, span}
 use Rattle.layout.specs.Memory.{stateOf, rowsOf, Stands}
 use Rattle.layout.specs.WholeLaws.{whole-stands}
 use Rattle.find.specs.declared.RowPlace.{RowPlace}
@@ -46,10 +46,10 @@ module _ (c : tie.After-shared-slice-known2) where
   reached : Reached s (here .row) (here .at) (here .base)
   reached = place-reached s here (a-row .0) (let l = a-row .1 in omega arith)
 
-  head-inside : here .at + 36 ≤ length t
+  head-inside : here .at + headLength ≤ length t
   head-inside = row-inside t a s stands (here .row) (here .at) (here .base) reached (a-row .1)
 
-path-inside : (c : tie.After-read-head) → let k = c .before in here k .at + 36 + c .read-head .result .pathlen ≤ length (t k)
+path-inside : (c : tie.After-read-head) → let k = c .before in here k .at + span (c .read-head .result) ≤ length (t k)
 path-inside c =
     let k = c .before in
     row-turn (t k) (a k) (s k) (stands k) (here k .row) (here k .at) (here k .base) (reached k) (a-row k .1) (c .read-head .result) (c .read-head .ensures) .inside

@@ -94,16 +94,16 @@ module _ (t a : List ℕ) (b : Bytes t) (w : whole t a ≡ true) where
         pub remove-data : (place .base + head .size ≤ end .base) × (end .base ≤ length a)
         remove-data = row.data-inside t a s stands (beforeObject s p) (objectRow p x) (afterObject s p) (place .at) (place .base) (end .at) (end .base) at-is base-is used-is held-is (object-found s p x found) head head-is
 
-        pub remove-stands : (width : ℕ) (header : Header) (t′ a′ : List ℕ) → width ≡ head .pathlen → header ≡ headerAt t
-            → t′ ≡ headed (spliced t (place .at) (headLength + width) (end .at) []) (withObjects header (header .objects - 1))
+        pub remove-stands : (n : ℕ) (header : Header) (t′ a′ : List ℕ) → n ≡ span head → header ≡ headerAt t
+            → t′ ≡ headed (spliced t (place .at) n (end .at) []) (withObjects header (header .objects - 1))
             → a′ ≡ spliced a (place .base) (head .size) (end .base) [] → length t′ ≡ length t → length a′ ≡ length a → Stands t′ a′ (withoutObject s p)
-        remove-stands width header t′ a′ width-is read e e′ l l′ =
+        remove-stands n header t′ a′ n-is read e e′ l l′ =
             let one : length (s .O) - 1 ≡ length (withoutObject s p .O) = omega (arith, rw found at (length-remove bytes p (s .O))) in
             let was : header ≡ headerOf (length a) s = read ∙ header-is in
             let after-is : withObjects header (header .objects - 1) ≡ headerOf (length a) (withoutObject s p) = rw (was, one) in
             row.removed-stands t a s stands (beforeObject s p) (objectRow p x) (afterObject s p) (place .at) (place .base) (end .at) (end .base) at-is base-is used-is held-is (object-found s p x found) head head-is
             (withoutObject s p) (without-object-valid (length a) s p (stands .valid)) (without-object-rows s p x found) t′ a′ _ after-is
-            (e ∙ ap (λ (n : ℕ). headed (spliced t (place .at) (headLength + n) (end .at) []) (withObjects header (header .objects - 1))) width-is) e′ l l′
+            (e ∙ ap (λ (k : ℕ). headed (spliced t (place .at) k (end .at) []) (withObjects header (header .objects - 1))) n-is) e′ l l′
 
     -- put in
     module _ (stamp kind count : ℕ) (digest : Digest) (size : ℕ) (pre : Addable t a stamp kind count digest p size) where

@@ -23,7 +23,7 @@ pub fn remove_object(tables: &mut [u8], arena: &mut [u8], path: &[u8])
     let at = place.at;
     let base = place.base;
     let h = row::read_head(tables, at);
-    let n = row::HEAD + number::wide(h.pathlen) as usize;
+    let n = row::span(h);
     let m = h.size as usize;
     let after = Header {
         arena: header.arena,

@@ -91,7 +91,7 @@ module _ (t a : List ℕ) (s : State) (h : Stands t a s) (p : Bytes) (i at base 
           greater = λ e.
               record {
                 within = omega arith;
-                rows = r .next ∙ ap (λ (rs : List Row). headerLength + length (encodeRows rs)) (sym (next-front s i l));
+                rows = omega (arith, r .next, ap (λ (rs : List Row). headerLength + length (encodeRows rs)) (sym (next-front s i l)));
                 contents = r .arena-next ∙ ap (λ (rs : List Row). length (contentsOf rs)) (sym (next-front s i l));
                 places = rw add-one (let m = k .places in omega (arith, answer _ e .1));
                 found = rw add-one (k .found ∙ answer _ e .0);

@@ -119,7 +119,7 @@ pub record Read (t a : List ℕ) (xs : List Row) (r : Row) (at base : ℕ) (head
   pub same : head ≡ headOf r
   pub path : take (head .pathlen) (drop (at + headLength) t) ≡ r .path
   pub inside : at + span head ≤ length t
-  pub next : at + headLength + head .pathlen ≡ headerLength + length (encodeRows (xs ++ (r ∷ [])))
+  pub next : at + span head ≡ headerLength + length (encodeRows (xs ++ (r ∷ [])))
   pub arena-inside : base + head .size ≤ length a
   pub arena-next : base + head .size ≡ length (contentsOf (xs ++ (r ∷ [])))
 

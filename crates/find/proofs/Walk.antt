@@ -52,7 +52,7 @@ pub record Turn (t a : List ℕ) (s : State) (i at base : ℕ) (head : Head) : T
   pub same : head ≡ headOf row
   pub inside : at + span head ≤ length t
   pub arena-inside : base + head .size ≤ length a
-  pub next : Reached s (i + 1) (at + headLength + head .pathlen) (base + head .size)
+  pub next : Reached s (i + 1) (at + span head) (base + head .size)
 
 abbrev blank : Row
 blank = record { number = 0; stamp = 0; kind = 0; count = 0; digest = []; path = []; content = [] }

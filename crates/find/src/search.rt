@@ -39,7 +39,7 @@ pub(crate) fn row_behind(tables: &[u8], arena: &[u8], from: RowPlace) -> RowPlac
     let h = row::read_head(tables, at);
     RowPlace {
         row: from.row + 1,
-        at: at + row::HEAD + h.pathlen as usize,
+        at: at + row::span(h),
         base: from.base + h.size as usize,
     }
 }
@@ -58,7 +58,7 @@ pub(crate) fn seek(tables: &[u8], arena: &[u8], from: RowPlace, goal: Goal) -> R
         if stops(h, goal) {
             return RowPlace { row, at, base };
         }
-        at = at + row::HEAD + h.pathlen as usize;
+        at += row::span(h);
         base += h.size as usize;
         row += 1;
     }

@@ -19,7 +19,7 @@ use Rattle.machine.proofs.MapKeep.{keep-suc, records-append}
 use Rattle.machine.proofs.MapScan.{lookup-key}
 use Rattle.machine.proofs.MapLaws.{every-lookup}
 use Rattle.row.specs.declared.Head.{Head}
-use Rattle.row.specs.Row.{Row, encodeRows, headAt, digestAt, pathAt, headOf, headLength, span}
+use Rattle.row.specs.Row.{Row, encodeRows, headAt, digestAt, pathAt, headOf, span}
 use Rattle.row.specs.RowLaws.{path-back, digest-back}
 use Rattle.layout.specs.Header.{headerLength}
 use Rattle.layout.specs.Memory.{objectRows, Stands}
@@ -40,10 +40,10 @@ module _ (t a : List ℕ) (s : State) (h : Stands t a s) (i at : ℕ) (here : at
   unfolding front
   row-inside = omega (arith, ap (λ (x : Head). x .pathlen) head-here, row-here .inside)
 
-  pub row-next : at + headLength + headAt (drop at t) .pathlen ≡ headerLength + length (encodeRows (objectRows (take (i + 1) (s .O))))
+  pub row-next : at + span (headAt (drop at t)) ≡ headerLength + length (encodeRows (objectRows (take (i + 1) (s .O))))
   unfolding front
   row-next =
-      let q : headerLength + length (encodeRows (front s i ++ (row s i ∷ []))) ≡ at + headLength + headAt (drop at t) .pathlen = omega (arith, row-here .next, ap (λ (x : Head). x .pathlen) head-here) in
+      let q : headerLength + length (encodeRows (front s i ++ (row s i ∷ []))) ≡ at + span (headAt (drop at t)) = omega (arith, row-here .next, ap (λ (x : Head). x .pathlen) head-here) in
       sym (ap (λ (rs : List Row). headerLength + length (encodeRows rs)) (next-front s i l) ∙ q)
 
   path-here : pathAt (drop at t) ≡ entry s i .0
@@ -106,8 +106,8 @@ unfolding encodeRows objectRows listed
 walked-none s prefix suffix = record { within = omega arith; rows = refl; counted = refl; sized = refl; few = omega arith; small = omega arith }
 
 pub walked-next : (t a : List ℕ) (s : State) (h : Stands t a s) (prefix suffix : Bytes) (i at count size n c k : ℕ) → Walked s prefix suffix i at count size → i < length (s .O)
-    → n ≡ headAt (drop at t) .pathlen → c ≡ cond (isListed prefix suffix (pathAt (drop at t))) 1 0 → k ≡ length (listedBytes prefix suffix (drop at t)) → c ≤ 1 → k ≤ 307
-    → Walked s prefix suffix (i + 1) (at + headLength + n) (count + c) (size + k)
+    → n ≡ span (headAt (drop at t)) → c ≡ cond (isListed prefix suffix (pathAt (drop at t))) 1 0 → k ≡ length (listedBytes prefix suffix (drop at t)) → c ≤ 1 → k ≤ 307
+    → Walked s prefix suffix (i + 1) (at + n) (count + c) (size + k)
 walked-next t a s h prefix suffix i at count size n c k w l e f g few small =
     let x = w .counted in
     let y = w .sized in

@@ -13,7 +13,7 @@ use Rattle.machine.specs.Names.{Bytes}
 use Rattle.machine.specs.State.{Object, State}
 use Rattle.machine.specs.Steps.{isListed, listed, listRecord}
 use Rattle.machine.proofs.MapKeep.{keep-append, records-append}
-use Rattle.row.specs.Row.{encodeRows, headAt, pathAt, headLength}
+use Rattle.row.specs.Row.{encodeRows, headAt, pathAt, span}
 use Rattle.layout.specs.Header.{headerLength}
 use Rattle.layout.specs.Memory.{objectRows, Stands}
 use Rattle.lists.specs.Rows.{recordAt, listedBytes, listing}
@@ -84,9 +84,9 @@ module _ (t a : List ℕ) (s : State) (h : Stands t a s) (prefix suffix : Bytes)
   pub written-room : length (listing prefix suffix s) ≤ length b₀ → to + length (listedBytes prefix suffix (drop at t)) ≤ length b
   written-room room = let p = w .same in omega (arith, next-length, bytes-fewer prefix suffix (i + 1) (s .O))
 
-  pub written-next : (n r : ℕ) (b₁ : List ℕ) → n ≡ headAt (drop at t) .pathlen
+  pub written-next : (n r : ℕ) (b₁ : List ℕ) → n ≡ span (headAt (drop at t))
       → (r ≡ to + length (listedBytes prefix suffix (drop at t))) × (b₁ ≡ over b to (listedBytes prefix suffix (drop at t)) (length (listedBytes prefix suffix (drop at t))))
-      → length b₁ ≡ length b → Written s prefix suffix b₀ b₁ (i + 1) (at + headLength + n) r
+      → length b₁ ≡ length b → Written s prefix suffix b₀ b₁ (i + 1) (at + n) r
   written-next n r b₁ e told same =
       record {
         within = omega arith;

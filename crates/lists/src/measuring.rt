@@ -56,7 +56,7 @@ pub(crate) fn measure_rows(tables: &[u8], arena: &[u8], prefix: &[u8], suffix: &
     while i < objects {
         let h = row::read_head(tables, at);
         let m = measure_row(tables, at, prefix, suffix);
-        at = at + row::HEAD + h.pathlen as usize;
+        at += row::span(h);
         records += m.records;
         bytes += m.bytes;
         i += 1;

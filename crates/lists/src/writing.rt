@@ -45,7 +45,7 @@ pub(crate) fn write_rows(
     while i < objects {
         let h = row::read_head(tables, at);
         to = write_row(tables, at, prefix, suffix, answer, to);
-        at = at + row::HEAD + h.pathlen as usize;
+        at += row::span(h);
         i += 1;
     }
 }

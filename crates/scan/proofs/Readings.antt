@@ -23,10 +23,10 @@ use Rattle.layout.specs.Rules.{isLess, zeros}
 use Rattle.scan.specs.Scan.{readingOf}
 
 -- the tests of `read_row`
-pub reading-is : (t : List ℕ) (at : ℕ) (a : List ℕ) (base : ℕ) (h : Head) → h ≡ headAt (drop at t)
-    → readingOf (drop at t) (drop base a) ≡ cond (leb headLength (length t - at) && (leb (span h) (length t - at) && leb (h .size) (length a - base))) (Fits h) Short
+pub reading-is : (t : List ℕ) (at : ℕ) (a : List ℕ) (base : ℕ) (h : Head) (n : ℕ) → h ≡ headAt (drop at t) → n ≡ span h
+    → readingOf (drop at t) (drop base a) ≡ cond (leb headLength (length t - at) && (leb n (length t - at) && leb (h .size) (length a - base))) (Fits h) Short
 unfolding readingOf inside spanAt
-reading-is t at a base h e = rw (length-drop at t, length-drop base a, e)
+reading-is t at a base h n e f = rw (length-drop at t, length-drop base a, f, e)
 
 -- what `compare` answers, as a test
 abbrev answered : Order → Bool

@@ -15,7 +15,7 @@ pub(crate) fn read_row(t: &[u8], at: usize, arena: &[u8], base: usize) -> Readin
         return Reading::Short;
     }
     let h = row::read_head(t, at);
-    if left < row::HEAD + h.pathlen as usize {
+    if left < row::span(h) {
         return Reading::Short;
     }
     if arena.len() - base < h.size as usize {

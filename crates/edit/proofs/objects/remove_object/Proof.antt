@@ -29,14 +29,8 @@ read-head-requires c κs =
     let e = c .before .before .before .rows-end in
     let z = remove-head (a .tables .now) (a .arena .now) b (p .0) (a .path .now) (f .result) (f .ensures) (e .result) (e .ensures) (p .1) in omega arith
 
-wide-requires : tie.Need-wide-requires
-wide-requires c κs = search needs
-
-cast-n : tie.Need-cast-n
-cast-n c = search needs
-
-add-n : tie.Need-add-n
-add-n c = search needs
+span-requires : tie.Need-span-requires
+span-requires c κs = search needs
 
 cast-m : tie.Need-cast-m
 cast-m c = search needs
@@ -61,7 +55,7 @@ remove-rows-requires c κs =
     let e = c .before .before .before .before .before .before .before .before .rows-end in
     let h = c .before .before .before .before .read-head in
     let r = remove-rows (a .tables .now) (a .arena .now) b (p .0) (a .path .now) (f .result) (f .ensures) (e .result) (e .ensures) (p .1) (h .result) (h .ensures) in
-    let w = c .before .before .before .wide .ensures .0 in
+    let w = c .before .before .before .span .ensures in
     (r .0, omega (arith, r .1), r .2)
 
 remove-requires : tie.Need-remove-requires
@@ -88,8 +82,8 @@ returns c =
     let f = c .before .before .before .before .before .before .before .before .before .before .before .before .before .before .before .before .before .before .find-object in
     let e = c .before .before .before .before .before .before .before .before .before .before .before .before .before .before .before .rows-end in
     let h = c .before .before .before .before .before .before .before .before .before .before .before .read-head in
-    remove-stands (a .tables .now) (a .arena .now) b (p .0) (a .path .now) (f .result) (f .ensures) (e .result) (e .ensures) (p .1) (h .result) (h .ensures) (c .before .before .before .before .before .before .before .before .before .before .wide .result) (c .before .before .before .before .before .before .before .before .before .before .before .before .before .read-header .result) (c .before .before .before .before .before .before .remove-rows .last .0) (c .before .before .remove .last .0)
-    (c .before .before .before .before .before .before .before .before .before .before .wide .ensures .0) (c .before .before .before .before .before .before .before .before .before .before .before .before .before .read-header .ensures) (c .before .before .before .before .before .before .remove-rows .ensures) (c .before .before .remove .ensures) (c .before .before .before .before .before .before .remove-rows .kept .0) (c .before .before .remove .kept .0)
+    remove-stands (a .tables .now) (a .arena .now) b (p .0) (a .path .now) (f .result) (f .ensures) (e .result) (e .ensures) (p .1) (h .result) (h .ensures) (c .before .before .before .before .before .before .before .before .before .before .span .result) (c .before .before .before .before .before .before .before .before .before .before .before .before .before .read-header .result) (c .before .before .before .before .before .before .remove-rows .last .0) (c .before .before .remove .last .0)
+    (c .before .before .before .before .before .before .before .before .before .before .span .ensures) (c .before .before .before .before .before .before .before .before .before .before .before .before .before .read-header .ensures) (c .before .before .before .before .before .before .remove-rows .ensures) (c .before .before .remove .ensures) (c .before .before .before .before .before .before .remove-rows .kept .0) (c .before .before .remove .kept .0)
 
 pub remove-object-spec : {M : Type 1} → statement M
 remove-object-spec =
@@ -99,9 +93,7 @@ remove-object-spec =
     rows-end-requires
     read-header-requires
     read-head-requires
-    wide-requires
-    cast-n
-    add-n
+    span-requires
     cast-m
     sub-t25
     remove-rows-requires

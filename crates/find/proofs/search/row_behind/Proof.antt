@@ -48,26 +48,24 @@ read-head-requires c κs =
 add-t6 : tie.Need-add-t6
 add-t6 c = let k = c .before .before in let n = more k in omega (arith, rows-few (t k) (a k) (s k) (stands k))
 
-add-t7 : tie.Need-add-t7
-add-t7 c = let z = turn (c .before) .inside in omega arith
+span-requires : tie.Need-span-requires
+span-requires c κs = search needs
 
-cast-t8 : tie.Need-cast-t8
-cast-t8 c = search needs
+add-t8 : tie.Need-add-t8
+add-t8 c = let z = turn (c .before .before) .inside in omega (arith, c .span .ensures)
 
-add-t9 : tie.Need-add-t9
-add-t9 c = let z = turn (c .before .before) .inside in omega arith
+cast-t9 : tie.Need-cast-t9
+cast-t9 c = search needs
 
-cast-t10 : tie.Need-cast-t10
-cast-t10 c = search needs
-
-add-t11 : tie.Need-add-t11
-add-t11 c = let z = turn (c .before .before .before .before) .arena-inside in omega arith
+add-t10 : tie.Need-add-t10
+add-t10 c = let z = turn (c .before .before .before .before) .arena-inside in omega arith
 
 returns : tie.Need-returns
 returns c =
-    let r = c .before .before .before .before in
-    reached-place (s (r .before)) _ _ _ (turn r .next)
+    let n = c .before .before in
+    let r = n .before .before in
+    reached-place (s (r .before)) _ _ _ (rw (n .span .ensures) (turn r .next))
 
 pub row-behind-spec : {M : Type 1} → statement M
 row-behind-spec =
-    tie.close (tie.spec read-head-requires add-t6 add-t7 cast-t8 add-t9 cast-t10 add-t11 returns)
+    tie.close (tie.spec read-head-requires add-t6 span-requires add-t8 cast-t9 add-t10 returns)

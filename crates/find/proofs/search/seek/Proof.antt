@@ -75,14 +75,11 @@ returns c =
     reached-place (s k) _ _ _ (k .loop .inv .0)
     ∙ sym (k .loop .inv .1 ∙ sought-here _ _ _ (turn r .row) (turn r .here) (sym (told (c .before)) ∙ c .if1 .taken))
 
+span-requires : tie.Need-span-requires Inv-loop μ-loop
+span-requires c κs = search needs
+
 add-at : tie.Need-add-at Inv-loop μ-loop
-add-at c = let z = turn (c .before .before) .inside in omega arith
-
-cast-at : tie.Need-cast-at Inv-loop μ-loop
-cast-at c = search needs
-
-add-at-2 : tie.Need-add-at-2 Inv-loop μ-loop
-add-at-2 c = let z = turn (c .before .before .before) .inside in omega arith
+add-at c = let z = turn (c .before .before .before) .inside in omega (arith, c .span .ensures)
 
 cast-base : tie.Need-cast-base Inv-loop μ-loop
 cast-base c = search needs
@@ -101,7 +98,7 @@ loop-again c =
     let e = c .before .before in
     let r = e .before .before in
     let k = r .before .before in
-    (turn r .next, k .loop .inv .1 ∙ sought-on _ _ _ (turn r .row) (turn r .here) (sym (told (e .before)) ∙ e .if1 .left))
+    (rw (c .before .span .ensures) (turn r .next), k .loop .inv .1 ∙ sought-on _ _ _ (turn r .row) (turn r .here) (sym (told (e .before)) ∙ e .if1 .left))
 
 returns-2 : tie.Need-returns-2 Inv-loop μ-loop
 returns-2 c =
@@ -120,9 +117,8 @@ seek-spec =
     read-head-requires
     stops-requires
     returns
+    span-requires
     add-at
-    cast-at
-    add-at-2
     cast-base
     add-base
     add-row

@@ -1,6 +1,6 @@
 -- `lists::measuring::measure_rows` meets its contract. The invariant: the records and bytes of the objects passed. Assumes nothing.
 use Prim.Native.Nat.{ℕ, _+_, _-_, _≤_, _<_}
-use mathlib.Core.Path.{_≡_, ap}
+use mathlib.Core.Path.{_≡_, ap, _∙_}
 use mathlib.Core.List.{List}
 use native.Mathlib.Omega.{arith}
 use borrow.Author.Needs.{needs}
@@ -70,14 +70,11 @@ read-head-requires c κs = let z = inside c in omega arith
 measure-row-requires : tie.Need-measure-row-requires Inv-loop μ-loop
 measure-row-requires c κs = inside (c .before)
 
+span-requires : tie.Need-span-requires Inv-loop μ-loop
+span-requires c κs = search needs
+
 add-at : tie.Need-add-at Inv-loop μ-loop
-add-at c = omega (arith, path-inside (c .before))
-
-cast-at : tie.Need-cast-at Inv-loop μ-loop
-cast-at c = search needs
-
-add-at-2 : tie.Need-add-at-2 Inv-loop μ-loop
-add-at-2 c = omega (arith, path-inside (c .before .before))
+add-at c = omega (arith, path-inside (c .before .before), c .span .ensures)
 
 add-records : tie.Need-add-records Inv-loop μ-loop
 add-records c = let i = c .before .before .before .before in let w = i .before .loop .inv .few in let m = c .before .before .measure-row .ensures .2 in omega (arith, few i)
@@ -98,7 +95,7 @@ loop-again c =
     let h = c .before .before .before .before .read-head in
     let m = c .before .before .before .measure-row in
     walked-next (t g) (a g) (s g) (stands g) (start g .args .prefix .now) (start g .args .suffix .now) (g .loop .i) (g .loop .at) (g .loop .records) (g .loop .bytes) _ _ _ (g .loop .inv) (more k)
-    (ap (λ (x : Head). x .pathlen) (h .ensures)) (m .ensures .0) (m .ensures .1) (m .ensures .2) (m .ensures .3)
+    (c .before .before .span .ensures ∙ ap (λ (x : Head). span x) (h .ensures)) (m .ensures .0) (m .ensures .1) (m .ensures .2) (m .ensures .3)
 
 returns : tie.Need-returns Inv-loop μ-loop
 returns c = let k = c .before in let n = c .loop-test .left in walked-all (s k) (start k .args .prefix .now) (start k .args .suffix .now) (k .loop .i) (k .loop .at) (k .loop .records) (k .loop .bytes) (k .loop .inv) (omega (arith, counted k))
@@ -113,9 +110,8 @@ measure-rows-spec =
     loop-holds
     read-head-requires
     measure-row-requires
+    span-requires
     add-at
-    cast-at
-    add-at-2
     add-records
     add-bytes
     add-i

@@ -1,6 +1,6 @@
 -- `lists::writing::write_rows` meets its contract. The invariant: the records of the objects passed stand at the front. Assumes nothing.
 use Prim.Native.Nat.{ℕ, _+_, _-_, _≤_, _<_}
-use mathlib.Core.Path.{_≡_, ap}
+use mathlib.Core.Path.{_≡_, ap, _∙_}
 use mathlib.Core.List.{List}
 use native.Mathlib.Omega.{arith}
 use borrow.Author.Needs.{needs}
@@ -68,14 +68,11 @@ read-head-requires c κs = let z = inside c in omega arith
 write-row-requires : tie.Need-write-row-requires Inv-loop μ-loop
 write-row-requires c κs = let k = c .before .before in let g = k .before in (inside k, written-room (t g) (a g) (s g) (stands g) (start g .args .prefix .now) (start g .args .suffix .now) (start g .args .answer .now) (g .loop .answer) (g .loop .i) (g .loop .at) (g .loop .to) (g .loop .inv) (more k) (start g .pre .1))
 
+span-requires : tie.Need-span-requires Inv-loop μ-loop
+span-requires c κs = search needs
+
 add-at : tie.Need-add-at Inv-loop μ-loop
-add-at c = omega (arith, path-inside (c .before .before .before .before))
-
-cast-at : tie.Need-cast-at Inv-loop μ-loop
-cast-at c = search needs
-
-add-at-2 : tie.Need-add-at-2 Inv-loop μ-loop
-add-at-2 c = omega (arith, path-inside (c .before .before .before .before .before))
+add-at c = omega (arith, path-inside (c .before .before .before .before .before), c .span .ensures)
 
 add-i : tie.Need-add-i Inv-loop μ-loop
 add-i c = omega arith
@@ -88,7 +85,7 @@ loop-again c =
     let k = c .before .before .before .before .before .before in
     let g = k .before in
     let w = c .before .before .before .write-row in
-    written-next (t g) (a g) (s g) (stands g) (start g .args .prefix .now) (start g .args .suffix .now) (start g .args .answer .now) (g .loop .answer) (g .loop .i) (g .loop .at) (g .loop .to) (g .loop .inv) (more k) _ _ _ (ap (λ (x : Head). x .pathlen) (c .before .before .before .before .before .read-head .ensures)) (w .ensures) (w .kept .1 .1 .1 .1 .0)
+    written-next (t g) (a g) (s g) (stands g) (start g .args .prefix .now) (start g .args .suffix .now) (start g .args .answer .now) (g .loop .answer) (g .loop .i) (g .loop .at) (g .loop .to) (g .loop .inv) (more k) _ _ _ (c .span .ensures ∙ ap (λ (x : Head). span x) (c .before .before .before .before .before .read-head .ensures)) (w .ensures) (w .kept .1 .1 .1 .1 .0)
 
 same-length : tie.Need-same-length Inv-loop μ-loop
 same-length c = c .before .loop .inv .same
@@ -106,9 +103,8 @@ write-rows-spec =
     loop-holds
     read-head-requires
     write-row-requires
+    span-requires
     add-at
-    cast-at
-    add-at-2
     add-i
     loop-less
     loop-again

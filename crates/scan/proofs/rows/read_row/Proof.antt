@@ -1,6 +1,13 @@
 -- `scan::rows::read_row` meets its contract: the tests are those of `inside`. Assumes nothing.
-use mathlib.Core.Path.{refl}
+use Prim.Native.Nat.{_-_}
+use mathlib.Core.Path.{_≡_, refl}
+use mathlib.Core.Bool.{_&&_, cond}
+use lib.Dec.{leb}
+use lib.ListN.{length, drop}
 use Rattle.names.proofs.Tests.{tests}
+use Rattle.row.specs.Row.{headLength}
+use Rattle.scan.specs.declared.Reading.the-variants.{Short, Fits}
+use Rattle.scan.specs.Scan.{readingOf}
 use Rattle.scan.proofs.Readings.{reading-is}
 use borrow.Author.Needs.{needs}
 use Rattle.scan.proofs.rows.read_row.Statement.{statement}
@@ -10,19 +17,24 @@ sub-left : tie.Need-sub-left
 sub-left c = search needs
 
 returns : tie.Need-returns
-returns c = let a = c .before .before .before .args in rw (reading-is (a .t .now) (a .at) (a .arena .now) (a .base) _ refl) (search tests)
+returns c = let a = c .before .before .before .args in rw (reading-is (a .t .now) (a .at) (a .arena .now) (a .base) _ _ refl refl) (search tests)
 
 read-head-requires : tie.Need-read-head-requires
 read-head-requires c κs = search needs
 
-cast-if2 : tie.Need-cast-if2
-cast-if2 c = search needs
+span-requires : tie.Need-span-requires
+span-requires c κs = search needs
 
-add-if2 : tie.Need-add-if2
-add-if2 c = search needs
+-- the tests, once the row's span is known
+reading : (c : tie.After-span)
+    → let a = c .before .before .before .before .before .args in
+    let h = c .before .read-head .result in
+    readingOf (drop (a .at) (a .t .now)) (drop (a .base) (a .arena .now))
+    ≡ cond (leb headLength (length (a .t .now) - a .at) && (leb (c .span .result) (length (a .t .now) - a .at) && leb (h .size) (length (a .arena .now) - a .base))) (Fits h) Short
+reading c = let a = c .before .before .before .before .before .args in reading-is (a .t .now) (a .at) (a .arena .now) (a .base) (c .before .read-head .result) (c .span .result) (c .before .read-head .ensures) (c .span .ensures)
 
 returns-2 : tie.Need-returns-2
-returns-2 c = let a = c .before .before .before .before .before .before .args in rw (reading-is (a .t .now) (a .at) (a .arena .now) (a .base) _ (c .before .before .read-head .ensures)) (search tests)
+returns-2 c = rw (reading (c .before)) (search tests)
 
 sub-if3 : tie.Need-sub-if3
 sub-if3 c = search needs
@@ -31,10 +43,10 @@ cast-if3 : tie.Need-cast-if3
 cast-if3 c = search needs
 
 returns-3 : tie.Need-returns-3
-returns-3 c = let a = c .before .before .before .before .before .before .before .before .args in rw (reading-is (a .t .now) (a .at) (a .arena .now) (a .base) _ (c .before .before .before .before .read-head .ensures)) (search tests)
+returns-3 c = rw (reading (c .before .before .before)) (search tests)
 
 returns-4 : tie.Need-returns-4
-returns-4 c = let a = c .before .before .before .before .before .before .before .before .args in rw (reading-is (a .t .now) (a .at) (a .arena .now) (a .base) _ (c .before .before .before .before .read-head .ensures)) (search tests)
+returns-4 c = rw (reading (c .before .before .before)) (search tests)
 
 pub read-row-spec : {M : Type 1} → statement M
 read-row-spec =
@@ -43,8 +55,7 @@ read-row-spec =
     sub-left
     returns
     read-head-requires
-    cast-if2
-    add-if2
+    span-requires
     returns-2
     sub-if3
     cast-if3

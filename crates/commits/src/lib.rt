@@ -79,7 +79,7 @@ fn commit_room(tables: &[u8], arena: &[u8], upload: UploadNumber) -> u8
     let place = find::find_upload(tables, arena, upload.0);
     let at = place.at;
     let h = row::read_head(tables, at);
-    let from = at + row::HEAD;
+    let from = at + row::HEAD_LENGTH;
     let to = from + h.pathlen as usize;
     room::object_judge(tables, arena, &tables[from..to], 0)
 }

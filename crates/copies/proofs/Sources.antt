@@ -20,7 +20,7 @@ use Rattle.machine.proofs.KeepsValid.{next-valid}
 use Rattle.row.specs.declared.Head.{Head}
 use Rattle.row.specs.Row.{encodeRows, contentsOf, headAt, numbersLength}
 use Rattle.layout.specs.Header.{headerLength}
-use Rattle.layout.specs.Memory.{objectRow, whole, stateOf, Stands}
+use Rattle.layout.specs.Memory.{objectRow, whole, stateOf, Stands, arenaMost}
 use Rattle.layout.specs.WholeLaws.{whole-stands}
 use Rattle.find.specs.declared.Place.{Place}
 use Rattle.find.specs.Places.{beforeObject, afterObject, objectPlace}
@@ -69,7 +69,7 @@ module _ (t a p : List ℕ) (b : byte.Bytes t) (w : whole t a ≡ true) (place :
     pub data-inside : place .base + head .size ≤ length a
     data-inside = omega (arith, base-is, size-is, here .arena-inside)
 
-    pub data-small : place .base + head .size ≤ 1048576
+    pub data-small : place .base + head .size ≤ arenaMost
     data-small = let l = h .small in omega (arith, data-inside)
 
     pub data-read : (to : ℕ) → to ≡ place .base + head .size → take (to - place .base) (drop (place .base) a) ≡ contentAt s p

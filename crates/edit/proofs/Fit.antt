@@ -8,14 +8,14 @@ use Rattle.machine.specs.Map.{Map, Every, total}
 use Rattle.machine.specs.Names.{Bytes}
 use Rattle.machine.specs.State.{Object, Part, Upload, State, partsIn}
 use Rattle.machine.specs.Valid.{ObjectOk, UploadOk, Valid}
-use Rattle.row.specs.Row.{encodeRow, encodeRows, headLength}
+use Rattle.row.specs.Row.{encodeRow, encodeRows, headLength, longestRow}
 use Rattle.row.specs.RowLaws.{EncodableAll, length-row, encode-append, encodable-left, encodable-right}
 use Rattle.layout.specs.Header.{headerLength}
 use Rattle.layout.specs.Memory.{objectRow, objectRows, uploadRow, partRow, partRows, uploadRows, rowsOf, arenaMost, tablesLength}
 use Rattle.layout.specs.TestLaws.{stored-path-length}
 use Rattle.layout.specs.StandsLaws.{rows-encodable}
 
-objects-most : (m : Map Bytes Object) → EncodableAll (objectRows m) → Every ObjectOk m → length (encodeRows (objectRows m)) ≤ 164 * length m
+objects-most : (m : Map Bytes Object) → EncodableAll (objectRows m) → Every ObjectOk m → length (encodeRows (objectRows m)) ≤ longestRow * length m
 unfolding objectRows encodeRows
 objects-most [] f v = omega arith
 objects-most (e ∷ m) f v =
@@ -29,7 +29,7 @@ parts-most (e ∷ ps) f =
     omega (arith, length-append (encodeRow (partRow (e .0) (e .1))) (encodeRows (partRows ps)), length-row _ (f .0), parts-most ps (f .1))
 
 uploads-most : (N : ℕ) (us : Map ℕ Upload) → EncodableAll (uploadRows us) → Every (UploadOk N) us
-    → length (encodeRows (uploadRows us)) ≤ 164 * length us + headLength * total partsIn us
+    → length (encodeRows (uploadRows us)) ≤ longestRow * length us + headLength * total partsIn us
 unfolding uploadRows encodeRows
 uploads-most N [] f v = omega arith
 uploads-most N (e ∷ us) f v =

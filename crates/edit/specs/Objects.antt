@@ -14,6 +14,7 @@ use Rattle.machine.specs.Names.{Bytes}
 use Rattle.machine.specs.Etags.{plain}
 use Rattle.machine.specs.State.{Object, held, withObject}
 use Rattle.machine.specs.Valid.{Valid}
+use Rattle.layout.specs.Rules.{plainKind, joinedKind, partsMost}
 use Rattle.layout.specs.Memory.{whole, stateOf, etagOf}
 
 unfoldable pub objectBehind : (t a : List ℕ) (stamp kind count : ℕ) (digest : Digest) (size : ℕ) → Object
@@ -29,6 +30,6 @@ pub record Addable (t a : List ℕ) (stamp kind count : ℕ) (digest : Digest) (
   pub is-whole : whole t a ≡ true
   pub absent : lookup byBytes path (stateOf t a .O) ≡ none
   pub room : held (stateOf t a) + size ≤ length a
-  pub kind-most : kind ≤ 1
-  pub count-most : count ≤ cond (eqb kind 0) 0 256
+  pub kind-most : kind ≤ joinedKind
+  pub count-most : count ≤ cond (eqb kind plainKind) 0 partsMost
   pub valid : Valid (length a) (withObject (stateOf t a) path (objectBehind t a stamp kind count digest size))

@@ -90,7 +90,16 @@ pub fn put_object(
     let end = find::rows_end(tables, arena);
     let held = end.base;
     buffer::copy_at(arena, held, content);
-    add_object(tables, arena, stamp, 0, 0, digest, path, content.len());
+    add_object(
+        tables,
+        arena,
+        stamp,
+        layout::PLAIN_KIND,
+        0,
+        digest,
+        path,
+        content.len(),
+    );
 }
 
 // The object at path taken out, if there is one.

@@ -24,9 +24,9 @@ pub fn insert_row(
     requires { ⌜ (headerLength ≤ at) × (at ≤ used) × (length (now path) ≤ 128) × (used + (headLength + length (now path)) ≤ length (now tables)) ⌝ }
     ensures { λ _. ⌜ now (tables .exit) ≡ headed (spliced (now (tables .entry)) at 0 used (rowBytes h (bytesOf digest) (now (path .entry)))) header ⌝ }
 {
-    let mut row = [0u8; 164];
+    let mut row = [0u8; row::LONGEST_ROW];
     row::write_row(&mut row, h, digest, path);
-    let n = row::HEAD + path.len();
+    let n = row::HEAD_LENGTH + path.len();
     buffer::splice(tables, at, 0, used, &row[..n]);
     layout::headers::write_header(tables, header);
 }

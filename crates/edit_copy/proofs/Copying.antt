@@ -17,6 +17,7 @@ use Rattle.machine.specs.Valid.{Valid}
 use Rattle.machine.proofs.MapLaws.{lookup-remove-other}
 use Rattle.row.specs.declared.Head.{Head}
 use Rattle.row.specs.Row.{encodeRows, contentsOf, headAt, headLength}
+use Rattle.layout.specs.Rules.{plainKind}
 use Rattle.layout.specs.Memory.{rowsOf, objectRow, stateOf, Stands}
 use Rattle.layout.specs.WholeLaws.{whole-stands}
 use Rattle.layout.specs.StandsLaws.{stands-state}
@@ -95,14 +96,14 @@ module _ (t a p q : List ℕ) (b : Bytes t) (stamp : ℕ) (digest : Digest) (pre
       written : a₂ ≡ over a₁ (end .base) (x .content) (length (x .content))
       written = e ∙ ap₂ (λ (d : List ℕ) (n : ℕ). take (end .base) a₁ ++ d ++ drop (end .base + n) a₁) read size-is
 
-      pub copy-addable : Addable t₁ a₂ stamp 0 0 digest q (head .size)
-      copy-addable = subst (Addable t₁ a₂ stamp 0 0 digest q) (sym size-is) (put-addable s q (x .content) stamp digest (length a) v valid-content t₁ a₁ h keeps end end-is a₂ written keeps₂)
+      pub copy-addable : Addable t₁ a₂ stamp plainKind 0 digest q (head .size)
+      copy-addable = subst (Addable t₁ a₂ stamp plainKind 0 digest q) (sym size-is) (put-addable s q (x .content) stamp digest (length a) v valid-content t₁ a₁ h keeps end end-is a₂ written keeps₂)
 
-      pub copy-stands : (t′ a′ : List ℕ) → Stands t′ a′ (withObject (stateOf t₁ a₂) q (objectBehind t₁ a₂ stamp 0 0 digest (head .size))) → Stands t′ a′ (withObject s q (plainWith stamp digest (contentAt s p)))
+      pub copy-stands : (t′ a′ : List ℕ) → Stands t′ a′ (withObject (stateOf t₁ a₂) q (objectBehind t₁ a₂ stamp plainKind 0 digest (head .size))) → Stands t′ a′ (withObject s q (plainWith stamp digest (contentAt s p)))
       copy-stands t′ a′ g =
           subst (λ (d : List ℕ). Stands t′ a′ (withObject s q (plainWith stamp digest d))) (sym content-is)
           (put-stands s q (x .content) stamp digest (length a) v valid-content t₁ a₁ h keeps end end-is a₂ written keeps₂ t′ a′
-          (subst (λ (n : ℕ). Stands t′ a′ (withObject (stateOf t₁ a₂) q (objectBehind t₁ a₂ stamp 0 0 digest n))) size-is g))
+          (subst (λ (n : ℕ). Stands t′ a′ (withObject (stateOf t₁ a₂) q (objectBehind t₁ a₂ stamp plainKind 0 digest n))) size-is g))
 
 -- a copy to the same path
 pub same-path : (t a p q : List ℕ) (stamp : ℕ) (digest : Digest) → p ≡ q → Copiable t a stamp digest p q → Copiable t a stamp digest p p

@@ -20,6 +20,7 @@ use Rattle.row.specs.declared.Head.{Head}
 use Rattle.row.specs.Row.{Row, encodeRow, encodeRows, contentsOf, headAt, headOf, rowBytes, headLength}
 use Rattle.row.specs.RowLaws.{length-row, encode-append, contents-append}
 use Rattle.layout.specs.declared.Header.{Header}
+use Rattle.layout.specs.Rules.{plainKind}
 use Rattle.layout.specs.Memory.{rowsOf, objectRow, stateOf, Stands}
 use Rattle.layout.specs.TestLaws.{stored-path-length}
 use Rattle.layout.specs.WholeLaws.{whole-stands}
@@ -143,15 +144,15 @@ module _ (t a p : List ℕ) (b : Bytes t) (stamp : ℕ) (digest : Digest) (pre :
         (r .0, omega (arith, r .1), path-most, omega (arith, r .1, r .2))
 
     pub restamped : (old : Head) (t′ : List ℕ) → old ≡ headAt (drop (place .at) t)
-        → t′ ≡ headed (spliced t₁ (place .at) 0 (end .at - (headLength + length p)) (rowBytes (record { size = old .size; number = 0; stamp = stamp; kind = 0; pathlen = length p; count = 0 }) (bytesOf digest) p)) header
+        → t′ ≡ headed (spliced t₁ (place .at) 0 (end .at - (headLength + length p)) (rowBytes (record { size = old .size; number = 0; stamp = stamp; kind = plainKind; pathlen = length p; count = 0 }) (bytesOf digest) p)) header
         → length t′ ≡ length t → Stands t′ a s′
     unfolding encodeRows
     restamped old t′ old-is e l =
         let size-is : old .size ≡ length (x .content) = ap (λ (q : Head). q .size) (old-is ∙ ap (λ (i : ℕ). headAt (drop i t)) at-is ∙ here .head) in
-        let head-is : record { size = old .size; number = 0; stamp = stamp; kind = 0; pathlen = length p; count = 0 } ≡ headOf (objectRow p y) = rw (size-is, content-is) in
-        let bytes-is : rowBytes (record { size = old .size; number = 0; stamp = stamp; kind = 0; pathlen = length p; count = 0 }) (bytesOf digest) p ≡ encodeRow (objectRow p y) ++ [] =
+        let head-is : record { size = old .size; number = 0; stamp = stamp; kind = plainKind; pathlen = length p; count = 0 } ≡ headOf (objectRow p y) = rw (size-is, content-is) in
+        let bytes-is : rowBytes (record { size = old .size; number = 0; stamp = stamp; kind = plainKind; pathlen = length p; count = 0 }) (bytesOf digest) p ≡ encodeRow (objectRow p y) ++ [] =
         ap (λ (q : Head). rowBytes q (bytesOf digest) p) head-is ∙ sym (append-nil (encodeRow (objectRow p y))) in
-        let src = rowBytes (record { size = old .size; number = 0; stamp = stamp; kind = 0; pathlen = length p; count = 0 }) (bytesOf digest) p in
+        let src = rowBytes (record { size = old .size; number = 0; stamp = stamp; kind = plainKind; pathlen = length p; count = 0 }) (bytesOf digest) p in
         let t₂ = spliced t₁ (place .at) 0 (end .at - (headLength + length p)) src in
         let is : t₂ ≡ spliced t₁ (headerLength + length (encodeRows xs)) 0 (headerLength + length (encodeRows (xs ++ ([] ++ ys)))) src = ap₂ (λ (i j : ℕ). spliced t₁ i 0 j src) at-is (sym between-length) in
         let rows = rows-spliced xs [] (objectRow p y ∷ []) ys t₁ t₂ (encodeHeader (length a) s) _ src cut-told header-length bytes-is is in

@@ -20,13 +20,13 @@ fn restamp(tables: &mut [u8], arena: &[u8], stamp: u64, digest: Digest, path: &[
     let header = layout::headers::read_header(tables);
     let at = place.at;
     let old = row::read_head(tables, at);
-    let n = row::HEAD + path.len();
+    let n = row::HEAD_LENGTH + path.len();
     let used = end.at;
     let h = Head {
         size: old.size,
         number: 0,
         stamp,
-        kind: 0,
+        kind: layout::PLAIN_KIND,
         pathlen: path.len() as u8,
         count: 0,
     };
@@ -54,7 +54,16 @@ fn copy_across(
     let h = row::read_head(tables, place.at);
     let size = h.size as usize;
     buffer::copy_within(arena, from, held, size);
-    edit::objects::add_object(tables, arena, stamp, 0, 0, digest, destination, size);
+    edit::objects::add_object(
+        tables,
+        arena,
+        stamp,
+        layout::PLAIN_KIND,
+        0,
+        digest,
+        destination,
+        size,
+    );
 }
 
 // The object at source copied: destination then has its data, with this stamp and a plain etag.

@@ -21,6 +21,7 @@ use Rattle.row.specs.declared.Head.{Head}
 use Rattle.row.specs.Row.{encodeRows, contentsOf, headAt, headOf, rowBytes, headLength, span}
 use Rattle.row.specs.RowLaws.{Encodable}
 use Rattle.layout.specs.declared.Header.{Header}
+use Rattle.layout.specs.Rules.{partKind}
 use Rattle.layout.specs.Memory.{rowsOf, partRow, whole, stateOf, Stands}
 use Rattle.layout.specs.UploadLaws.{part-encodable}
 use Rattle.layout.specs.WholeLaws.{whole-stands}
@@ -171,7 +172,7 @@ module _ (t a : List ℕ) (b : Bytes t) (w : whole t a ≡ true) (u n : ℕ) (x 
     more-is = rw (header-is, one-more, same-uploads s u x is-open (withPart x n q))
 
     abbrev new-head : Head
-    new-head = record { size = size; number = n; stamp = 0; kind = 3; pathlen = 0; count = 0 }
+    new-head = record { size = size; number = n; stamp = 0; kind = partKind; pathlen = 0; count = 0 }
 
     new-head-is : new-head ≡ headOf (partRow n q)
     new-head-is = rw content-length

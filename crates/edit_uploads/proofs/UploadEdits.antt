@@ -23,7 +23,7 @@ use Rattle.row.specs.declared.Head.{Head}
 use Rattle.row.specs.Row.{Row, encodeRows, contentsOf, headOf, rowBytes, headLength}
 use Rattle.row.specs.RowLaws.{Encodable, encode-append, contents-append}
 use Rattle.layout.specs.declared.Header.{Header}
-use Rattle.layout.specs.Rules.{zeros}
+use Rattle.layout.specs.Rules.{zeros, uploadKind, partsMost}
 use Rattle.layout.specs.Memory.{rowsOf, uploadRow, partRows, whole, stateOf, Stands}
 use Rattle.layout.specs.TestLaws.{stored-path-length}
 use Rattle.layout.specs.UploadLaws.{upload-encodable}
@@ -127,7 +127,7 @@ module _ (t a : List ℕ) (b : Bytes t) (w : whole t a ≡ true) (end : Offset) 
     opened-is = rw (header-is, one-more, same-parts)
 
     abbrev head : Head
-    head = record { size = 0; number = header .next; stamp = stamp; kind = 2; pathlen = length p; count = 0 }
+    head = record { size = 0; number = header .next; stamp = stamp; kind = uploadKind; pathlen = length p; count = 0 }
 
     head-is : head ≡ headOf (uploadRow (s .N) x)
     head-is = rw header-is
@@ -245,7 +245,7 @@ module _ (t a : List ℕ) (b : Bytes t) (w : whole t a ≡ true) (end : Offset) 
       pub size : place .base ≤ parts .base
       pub uploads : 1 ≤ header .uploads
       pub count : parts .count ≤ header .parts
-      pub few : header .parts ≤ 256
+      pub few : header .parts ≤ partsMost
       pub rows : (headerLength ≤ place .at) × (place .at + (parts .at - place .at) ≤ end .at) × (end .at ≤ length t)
       pub content : (place .base + (parts .base - place .base) ≤ end .base) × (end .base ≤ length a)
       pub stands : (t′ a′ : List ℕ) → t′ ≡ headed (spliced t (place .at) (parts .at - place .at) (end .at) []) closed

@@ -29,7 +29,7 @@ fn remove_part(tables: &mut [u8], arena: &mut [u8], upload: u32, number: u16)
         uploads: header.uploads,
         parts: header.parts - 1,
     };
-    edit::rows::remove_rows(tables, at, row::HEAD, end.at, after);
+    edit::rows::remove_rows(tables, at, row::HEAD_LENGTH, end.at, after);
     buffer::remove(arena, base, m, end.base);
 }
 
@@ -54,7 +54,7 @@ fn add_part(
         size: size as u32,
         number: number as u32,
         stamp: 0,
-        kind: 3,
+        kind: layout::PART_KIND,
         pathlen: 0,
         count: 0,
     };

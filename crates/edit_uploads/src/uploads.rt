@@ -23,7 +23,7 @@ pub fn open_upload(tables: &mut [u8], arena: &[u8], stamp: u64, path: &[u8])
         size: 0,
         number: header.next as u32,
         stamp,
-        kind: 2,
+        kind: layout::UPLOAD_KIND,
         pathlen: path.len() as u8,
         count: 0,
     };

@@ -10,6 +10,7 @@ use lib.Seq.{take-at, drop-at}
 use Rattle.machine.specs.Map.{isSome, byNumber, lookup, place}
 use Rattle.machine.specs.State.{Upload, State}
 use Rattle.row.specs.Row.{Row, encodeRows, contentsOf}
+use Rattle.layout.specs.Rules.{uploadKind, partKind}
 use Rattle.layout.specs.Header.{headerLength}
 use Rattle.layout.specs.Memory.{uploadRow, partRows, rowsOf}
 use Rattle.layout.specs.UploadLaws.{length-part-rows}
@@ -93,12 +94,12 @@ upload-answer s u p e = e ∙ sought-behind (goal.Upload u) (rowsOf s) [] (rowsO
 pub upload-within : (s : State) (u : ℕ) → length (beforeUpload s u) ≤ length (rowsOf s)
 upload-within s u = omega (arith, ap length (upload-place s u), length-append (beforeUpload s u) (fromUpload s u))
 
-pub found-upload : (s : State) (u : ℕ) (p : RowPlace) (found : Bool) → p ≡ rowPlaceAt (rowsOf s) (length (beforeUpload s u)) → found ≡ leads 2 u (drop (p .row) (rowsOf s))
+pub found-upload : (s : State) (u : ℕ) (p : RowPlace) (found : Bool) → p ≡ rowPlaceAt (rowsOf s) (length (beforeUpload s u)) → found ≡ leads uploadKind u (drop (p .row) (rowsOf s))
     → record { found = found; row = p .row; at = p .at; base = p .base } ≡ uploadPlace s u
 unfolding uploadPlace fromUpload
 found-upload s u p found e f =
     let k = place-behind (rowsOf s) (beforeUpload s u) (fromUpload s u) p (upload-place s u) e in
-    let g : found ≡ isSome (lookup byNumber u (s .U)) = f ∙ ap (leads 2 u) (k .rest) ∙ upload-leads u (s .U) in
+    let g : found ≡ isSome (lookup byNumber u (s .U)) = f ∙ ap (leads uploadKind u) (k .rest) ∙ upload-leads u (s .U) in
     λ i. record { found = g i; row = k .row i; at = k .at i; base = k .base i }
 
 pub open-within : (s : State) (u : ℕ) → isSome (lookup byNumber u (s .U)) ≡ true → length (beforeUpload s u) < length (rowsOf s)
@@ -127,7 +128,7 @@ module _ (s : State) (u : ℕ) (x : Upload) (f : lookup byNumber u (s .U) ≡ so
   unfolding beforeParts
   first-row = place-row (rowsOf s) first _ e ∙ sym (length-append (beforeUpload s u) (uploadRow u x ∷ []))
 
-  pub found-part : (n : ℕ) (p : RowPlace) (found : Bool) → p ≡ sought (goal.Part n) (rowsOf s) (first .row) → found ≡ leads 3 n (drop (p .row) (rowsOf s))
+  pub found-part : (n : ℕ) (p : RowPlace) (found : Bool) → p ≡ sought (goal.Part n) (rowsOf s) (first .row) → found ≡ leads partKind n (drop (p .row) (rowsOf s))
       → record { found = found; row = p .row; at = p .at; base = p .base } ≡ partPlace s u x n
   unfolding partPlace beforePart fromPart afterUpload
   found-part n p found q r =
@@ -135,7 +136,7 @@ module _ (s : State) (u : ℕ) (x : Upload) (f : lookup byNumber u (s .U) ≡ so
       let z = partRows (take (place byNumber n ps) ps) in
       let m = sought-behind (goal.Part n) (rowsOf s) (beforeParts s u x) (partRows ps ++ afterUpload s u) z (first .row) (parts-place s u x f) first-row (reach-part n ps _) in
       let k = place-behind (rowsOf s) (beforePart s u x n) (fromPart s u x n) p (part-place s u x f n) (q ∙ m) in
-      let g : found ≡ isSome (lookup byNumber n ps) = r ∙ ap (leads 3 n) (k .rest) ∙ part-leads n ps _ in
+      let g : found ≡ isSome (lookup byNumber n ps) = r ∙ ap (leads partKind n) (k .rest) ∙ part-leads n ps _ in
       λ i. record { found = g i; row = k .row i; at = k .at i; base = k .base i }
 
   pub all-parts : (p : RowPlace) → p ≡ sought goal.NextUpload (rowsOf s) (first .row) → record { count = p .row - first .row; next = p } ≡ passedParts s u x

@@ -12,6 +12,7 @@ use Rattle.machine.specs.Names.{Bytes}
 use Rattle.machine.specs.Etags.{Etag, absent, plain, joined}
 use Rattle.machine.specs.State.{Object, Part, Upload, State}
 use Rattle.row.specs.Row.{Row}
+use Rattle.layout.specs.Rules.{uploadKind, partKind}
 use Rattle.layout.specs.Memory.{objectRow, objectRows, partRows, uploadRows, rowsOf}
 use Rattle.find.specs.declared.search.Goal.the-variants as goal
 use Rattle.find.specs.Search.{reach, stopsAt, stopsOf, leads}
@@ -55,7 +56,7 @@ pub reach-upload : (s : State) (u : ℕ) → reach (stopsOf (goal.Upload u)) (ro
 unfolding rowsOf
 reach-upload s u = reach-objects u (s .O) (uploadRows (s .U)) ∙ rw (length-append, reach-uploads u (s .U))
 
-pub upload-leads : (u : ℕ) (m : Map ℕ Upload) → leads 2 u (uploadRows (drop (place byNumber u m) m)) ≡ isSome (lookup byNumber u m)
+pub upload-leads : (u : ℕ) (m : Map ℕ Upload) → leads uploadKind u (uploadRows (drop (place byNumber u m) m)) ≡ isSome (lookup byNumber u m)
 unfolding leads uploadRows
 upload-leads u [] = refl
 upload-leads u (e ∷ m) =
@@ -75,12 +76,12 @@ unfolding reach partRows stopsAt
 reach-part n [] m = reach-no-part n m
 reach-part n (e ∷ ps) m = cases (compare n (e .0)) (λ q. rw q) (λ q. rw q) (λ q. rw q (ap suc (reach-part n ps m)))
 
-no-part-leads : (n : ℕ) (m : Map ℕ Upload) → leads 3 n (uploadRows m) ≡ false
+no-part-leads : (n : ℕ) (m : Map ℕ Upload) → leads partKind n (uploadRows m) ≡ false
 unfolding leads uploadRows
 no-part-leads n [] = refl
 no-part-leads n (e ∷ m) = refl
 
-pub part-leads : (n : ℕ) (ps : Map ℕ Part) (m : Map ℕ Upload) → leads 3 n (partRows (drop (place byNumber n ps) ps) ++ uploadRows m) ≡ isSome (lookup byNumber n ps)
+pub part-leads : (n : ℕ) (ps : Map ℕ Part) (m : Map ℕ Upload) → leads partKind n (partRows (drop (place byNumber n ps) ps) ++ uploadRows m) ≡ isSome (lookup byNumber n ps)
 unfolding leads partRows
 part-leads n [] m = no-part-leads n m
 part-leads n (e ∷ ps) m =

@@ -14,12 +14,12 @@ pub fn find_object(tables: &[u8], arena: &[u8], path: &[u8]) -> Place
     ensures { λ r. ⌜ r ≡ objectPlace (stateOf (now (tables .entry)) (now (arena .entry))) (now (path .entry)) ⌝ }
 {
     let objects = object_count(tables, arena);
-    let mut at: usize = layout::HEADER;
+    let mut at: usize = layout::HEADER_LENGTH;
     let mut base: usize = 0;
     let mut i: usize = 0;
     while i < objects {
         let h = row::read_head(tables, at);
-        let from = at + row::HEAD;
+        let from = at + row::HEAD_LENGTH;
         let to = from + h.pathlen as usize;
         let o = order::compare(path, &tables[from..to]);
         match o {

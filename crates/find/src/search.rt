@@ -24,9 +24,9 @@ fn stops(h: Head, goal: Goal) -> bool
 {
     match goal {
         Goal::End => false,
-        Goal::Upload(u) => h.kind == 2 && u <= h.number,
-        Goal::NextUpload => h.kind == 2,
-        Goal::Part(n) => h.kind == 2 || n as u32 <= h.number,
+        Goal::Upload(u) => h.kind == layout::UPLOAD_KIND && u <= h.number,
+        Goal::NextUpload => h.kind == layout::UPLOAD_KIND,
+        Goal::Part(n) => h.kind == layout::UPLOAD_KIND || n as u32 <= h.number,
     }
 }
 

@@ -26,7 +26,7 @@ pub fn upload_row(tables: &[u8], arena: &[u8], upload: u32) -> RowPlace
 {
     let first = RowPlace {
         row: 0,
-        at: layout::HEADER,
+        at: layout::HEADER_LENGTH,
         base: 0,
     };
     seek(tables, arena, first, Goal::Upload(upload))
@@ -48,7 +48,7 @@ pub fn rows_end(tables: &[u8], arena: &[u8]) -> Offset
 {
     let first = RowPlace {
         row: 0,
-        at: layout::HEADER,
+        at: layout::HEADER_LENGTH,
         base: 0,
     };
     let end = seek(tables, arena, first, Goal::End);
@@ -73,7 +73,7 @@ pub fn find_upload(tables: &[u8], arena: &[u8], upload: u32) -> Place
     ensures { λ r. ⌜ r ≡ uploadPlace (stateOf (now (tables .entry)) (now (arena .entry))) upload ⌝ }
 {
     let here = upload_row(tables, arena, upload);
-    let found = stands(tables, arena, here, 2, upload);
+    let found = stands(tables, arena, here, layout::UPLOAD_KIND, upload);
     Place {
         found,
         row: here.row,
@@ -88,7 +88,7 @@ pub fn find_part_from(tables: &[u8], arena: &[u8], first: RowPlace, number: u16)
     ensures { λ r. ⌜ ((u : ℕ) (x : Upload) → first ≡ rowPlaceAt (rowsOf (stateOf (now (tables .entry)) (now (arena .entry)))) (length (beforeUpload (stateOf (now (tables .entry)) (now (arena .entry))) u) + 1) → lookup byNumber u (stateOf (now (tables .entry)) (now (arena .entry)) .U) ≡ some x → r ≡ partPlace (stateOf (now (tables .entry)) (now (arena .entry))) u x number) ⌝ }
 {
     let here = seek(tables, arena, first, Goal::Part(number));
-    let found = stands(tables, arena, here, 3, number as u32);
+    let found = stands(tables, arena, here, layout::PART_KIND, number as u32);
     Place {
         found,
         row: here.row,

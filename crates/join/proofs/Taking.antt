@@ -26,6 +26,7 @@ use Rattle.machine.proofs.KeepsValid.{without-upload-valid}
 use Rattle.row.specs.Row.{Row, encodeRows, contentsOf}
 use Rattle.row.specs.RowLaws.{encode-append, contents-append}
 use Rattle.layout.specs.declared.Header.{Header}
+use Rattle.layout.specs.Rules.{partsMost}
 use Rattle.layout.specs.Memory.{uploadRow, partRows, rowsOf, Stands}
 use Rattle.layout.specs.RowCounts.{length-contents, length-part-contents}
 use Rattle.layout.specs.StandsLaws.{length-header}
@@ -190,7 +191,7 @@ module _ (t a : List ℕ) (s : State) (h : Stands t a s) (u : ℕ) (x : Upload) 
       let less : total partsIn (s .U) - b .count ≡ total partsIn (s′ .U) = omega (arith, count-is, rw f at (total-remove numbers partsIn u (s .U))) in
       rw (is, one, less)
 
-  pub some-upload : (head : Header) → head ≡ headerOf (length a) s → (1 ≤ head .uploads) × (b .count ≤ head .parts) × (b .count ≤ 256)
+  pub some-upload : (head : Header) → head ≡ headerOf (length a) s → (1 ≤ head .uploads) × (b .count ≤ head .parts) × (b .count ≤ partsMost)
   some-upload head is =
       let n : head .uploads ≡ length (s .U) = ap (λ (k : Header). k .uploads) is in
       let m : head .parts ≡ total partsIn (s .U) = ap (λ (k : Header). k .parts) is in (

@@ -11,6 +11,7 @@ use Rattle.machine.specs.State.{Part, Upload, State, partsIn}
 use Rattle.machine.proofs.MapSums.{total-share}
 use Rattle.row.specs.Row.{encodeRow, encodeRows, contentsOf, headLength}
 use Rattle.row.specs.RowLaws.{EncodableAll, encode-append, contents-append, encodable-left, encodable-right, length-row}
+use Rattle.layout.specs.Rules.{partsMost}
 use Rattle.layout.specs.Memory.{uploadRow, partRow, partRows, rowsOf, Stands}
 use Rattle.layout.specs.StandsLaws.{rows-encodable}
 use Rattle.layout.specs.declared.Offset.{Offset}
@@ -37,7 +38,7 @@ module _ (t a : List ℕ) (s : State) (h : Stands t a s) (u : ℕ) (x : Upload) 
       encodable-left (partRows (x .parts)) (afterUpload s u)
       (encodable-right (beforeParts s u x) (partRows (x .parts) ++ afterUpload s u) (subst EncodableAll (parts-place s u x f) (rows-encodable (length a) s (h .small) (h .valid))))
 
-  pub few-parts : length (x .parts) ≤ 256
+  pub few-parts : length (x .parts) ≤ partsMost
   few-parts = let l = h .valid .parts in omega (arith, total-share numbers partsIn u x (s .U) f)
 
   pub rows-through : length (encodeRows (throughParts s u x)) ≡ length (encodeRows (beforeParts s u x)) + headLength * length (x .parts)
@@ -81,7 +82,7 @@ module _ (t a : List ℕ) (s : State) (h : Stands t a s) (u : ℕ) (x : Upload) 
     unfolding partsOf
     data-behind = ap (λ (k : Parts). k .base) parts-are
 
-    pub count-small : parts .count ≤ 256
+    pub count-small : parts .count ≤ partsMost
     count-small = omega (arith, count-is, few-parts)
 
     pub rows-behind : headLength * parts .count ≤ parts .at

@@ -46,7 +46,7 @@ fn upload_bounds(tables: &[u8], arena: &[u8], upload: u32) -> Bounds
     let end = find::rows_end(tables, arena);
     Bounds {
         at: place.at,
-        first: parts.at - row::HEAD * parts.count,
+        first: parts.at - row::HEAD_LENGTH * parts.count,
         behind: parts.at,
         used: end.at,
         base: place.base,
@@ -104,7 +104,7 @@ fn join_at(tables: &mut [u8], arena: &mut [u8], upload: u32, list: &[u8], path: 
         tables,
         arena,
         stamp,
-        1,
+        layout::JOINED_KIND,
         taken.count,
         taken.digest,
         path,
@@ -122,7 +122,7 @@ pub fn join(tables: &mut [u8], arena: &mut [u8], upload: u32, list: &[u8])
     let at = place.at;
     let h = row::read_head(tables, at);
     let n = h.pathlen as usize;
-    let from = at + row::HEAD;
+    let from = at + row::HEAD_LENGTH;
     let to = from + n;
     let mut path = [0u8; 128];
     buffer::copy_at(&mut path, 0, &tables[from..to]);

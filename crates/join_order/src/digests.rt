@@ -5,17 +5,18 @@ ghost use Prim.Native.Nat.{_*_, _≤_};
 ghost use lib.ListN.{take};
 ghost use Rattle.md5.specs.Md5.{md5};
 ghost use Rattle.machine.specs.Steps.{digests};
+ghost use Rattle.layout.specs.Rules.{partsMost};
 ghost use Rattle.join_order.specs.Digests.{OrderedAt};
 
 // The digests in the rows of `count` parts at `at`, set end to end.
 fn gather(tables: &[u8], at: usize, count: usize) -> [u8; 4096]
-    requires { ⌜ OrderedAt (now tables) at count × (count ≤ 256) ⌝ }
+    requires { ⌜ OrderedAt (now tables) at count × (count ≤ partsMost) ⌝ }
     ensures { λ r. ⌜ ((k : OrderedAt (now (tables .entry)) at count) → take (16 * count) r ≡ digests (k .listed)) ⌝ }
 {
     let mut all = [0u8; 4096];
     let mut i: usize = 0;
     while i < count {
-        let from = at + row::HEAD * i + row::NUMBERS;
+        let from = at + row::HEAD_LENGTH * i + row::NUMBERS_LENGTH;
         let to = from + 16;
         buffer::copy_at(&mut all, 16 * i, &tables[from..to]);
         i += 1;
@@ -25,7 +26,7 @@ fn gather(tables: &[u8], at: usize, count: usize) -> [u8; 4096]
 
 // The digest of the digests in the rows of `count` parts at `at`.
 pub fn joined_digest(tables: &[u8], at: usize, count: usize) -> Digest
-    requires { ⌜ OrderedAt (now tables) at count × (count ≤ 256) ⌝ }
+    requires { ⌜ OrderedAt (now tables) at count × (count ≤ partsMost) ⌝ }
     ensures { λ r. ⌜ ((k : OrderedAt (now (tables .entry)) at count) → r ≡ md5 (digests (k .listed))) ⌝ }
 {
     let all = gather(tables, at, count);

@@ -30,7 +30,7 @@ fn find_row(tables: &[u8], arena: &[u8], at: usize, base: usize, number: u32) ->
                 size: h.size as usize,
             };
         }
-        rows += row::HEAD;
+        rows += row::HEAD_LENGTH;
         bytes += h.size as usize;
     }
 }
@@ -41,7 +41,7 @@ fn bring(tables: &mut [u8], arena: &mut [u8], at: usize, base: usize, number: u3
     ensures { λ r. ⌜ ((k : PartAt (now (tables .entry)) (now (arena .entry)) at base number) → Brought (now (tables .entry)) (now (arena .entry)) at base number k (now (tables .exit)) (now (arena .exit)) r) ⌝ }
 {
     let f = find_row(tables, arena, at, base, number);
-    buffer::rotate(tables, at, f.rows, row::HEAD);
+    buffer::rotate(tables, at, f.rows, row::HEAD_LENGTH);
     buffer::rotate(arena, base, f.bytes, f.size);
     f.size
 }
@@ -60,7 +60,7 @@ fn order_parts(tables: &mut [u8], arena: &mut [u8], at: usize, base: usize, list
     while i < list.len() {
         let number = number::get_u16(list, i);
         let size = bring(tables, arena, row_at, data_at, number as u32);
-        row_at += row::HEAD;
+        row_at += row::HEAD_LENGTH;
         data_at += size;
         i += 2;
     }

@@ -13,7 +13,7 @@ use Rattle.machine.specs.Valid.{Valid}
 use Rattle.row.specs.Row.{Row, encodeRows, contentsOf, rowsAt, pastRows, pastData, good}
 use Rattle.layout.specs.declared.Mark.{Mark}
 use Rattle.layout.specs.declared.Header.{Header}
-use Rattle.layout.specs.Rules.{plainKind, joinedKind, uploadKind, partKind, all, zeros, objectOk, objectNext, entryOk, entryNext, start}
+use Rattle.layout.specs.Rules.{plainKind, joinedKind, uploadKind, partKind, objectsMost, uploadsMost, partsMost, all, zeros, objectOk, objectNext, entryOk, entryNext, start}
 use Rattle.layout.specs.Header.{headerLength, encodeHeader, headerAt}
 
 -- The rows of a state ------------------------------------------------------------------------------------------------------
@@ -115,18 +115,18 @@ module _ (t a : List ℕ) where
   unfoldable pub stateOf : State
   stateOf = record { O = objectsOf objectRowsAt; U = nest uploadRowsAt .uploads; N = headerAt t .next }
 
--- the header of a store with an arena of A bytes
-unfoldable pub headerOk : (T A : ℕ) → Header → Bool
-headerOk T A h =
+-- the header of a store in `tables` and `arena` bytes, by a layout whose tables have T bytes
+unfoldable pub headerOk : (T tables arena : ℕ) → Header → Bool
+headerOk T tables arena h =
     all
-    (eqb T tablesLength
-    ∷ leb A arenaMost
-    ∷ eqb (h .arena) A
+    (eqb tables T
+    ∷ leb arena arenaMost
+    ∷ eqb (h .arena) arena
     ∷ leb 1 (h .next)
     ∷ leb (h .next) 4294967296
-    ∷ leb (h .objects) 256
-    ∷ leb (h .uploads) 16
-    ∷ leb (h .parts) 256
+    ∷ leb (h .objects) objectsMost
+    ∷ leb (h .uploads) uploadsMost
+    ∷ leb (h .parts) partsMost
     ∷ [])
 
 unfoldable pub objectsGood : (t a : List ℕ) → Bool
@@ -136,22 +136,29 @@ unfoldable pub uploadsGood : (t a : List ℕ) → Bool
 uploadsGood t a =
     good Mark (entryOk (headerAt t .next)) entryNext (headerAt t .uploads + headerAt t .parts) start (uploadTables t a) (uploadArena t a)
 
--- the test "whole"
-unfoldable pub whole : (t a : List ℕ) → Bool
-whole t a =
+-- the test "whole" of a layout whose tables have T bytes
+unfoldable pub wholeOf : (T : ℕ) (t a : List ℕ) → Bool
+wholeOf T t a =
     all
-    (headerOk (length t) (length a) (headerAt t)
+    (headerOk T (length t) (length a) (headerAt t)
     ∷ objectsGood t a
     ∷ uploadsGood t a
     ∷ eqb (opens (uploadRowsAt t a)) (headerAt t .uploads)
     ∷ [])
 
--- Tables t and arena a stand for s: they are the encoding of s, each followed by free bytes.
-pub record Stands (t a : List ℕ) (s : State) : Type 0 where
-  pub size : length t ≡ tablesLength
+-- the test "whole"
+abbrev pub whole : (t a : List ℕ) → Bool
+whole = wholeOf tablesLength
+
+-- Tables t of T bytes and arena a stand for s: they are the encoding of s, each followed by free bytes.
+pub record StandsOf (T : ℕ) (t a : List ℕ) (s : State) : Type 0 where
+  pub size : length t ≡ T
   pub small : length a ≤ arenaMost
   pub valid : Valid (length a) s
   pub tables-free : List ℕ
   pub tables : t ≡ encodeHeader (length a) s ++ (encodeRows (rowsOf s) ++ tables-free)
   pub arena-free : List ℕ
   pub arena : a ≡ contentsOf (rowsOf s) ++ arena-free
+
+abbrev pub Stands : (t a : List ℕ) → State → Type 0
+Stands = StandsOf tablesLength

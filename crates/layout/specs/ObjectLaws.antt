@@ -15,7 +15,7 @@ use Rattle.machine.specs.State.{Object}
 use Rattle.machine.specs.Valid.{EtagOk, ObjectOk}
 use Rattle.row.specs.Row.{Row, contentsOf}
 use Rattle.row.specs.RowLaws.{Encodable, EncodableAll, Follows}
-use Rattle.layout.specs.Rules.{isLess, objectRule, objectOk, objectNext}
+use Rattle.layout.specs.Rules.{plainKind, joinedKind, partsMost, isLess, objectRule, objectOk, objectNext}
 use Rattle.layout.specs.Memory.{objectRow, objectRows, objectOf, objectsOf, etagOf, kindOf}
 use Rattle.layout.specs.TestLaws.{all-true, true-all, stored-path-length, stamp-range, stamp-ok}
 
@@ -33,10 +33,10 @@ pub record Etagged (kind count : ℕ) (digest : Bytes) : Type 0 where
   pub same-count : countOf (etagOf kind digest count) ≡ count
   pub ok : length digest ≡ 16 → EtagOk (etagOf kind digest count)
 
-pub etagged : (kind count : ℕ) (digest : Bytes) → kind ≤ 1 → count ≤ cond (eqb kind 0) 0 256 → Etagged kind count digest
-etagged kind count digest k c = go (eqb kind 0) refl c
+pub etagged : (kind count : ℕ) (digest : Bytes) → kind ≤ joinedKind → count ≤ cond (eqb kind plainKind) 0 partsMost → Etagged kind count digest
+etagged kind count digest k c = go (eqb kind plainKind) refl c
   where
-    go : (b : Bool) → eqb kind 0 ≡ b → count ≤ cond b 0 256 → Etagged kind count digest
+    go : (b : Bool) → eqb kind plainKind ≡ b → count ≤ cond b 0 partsMost → Etagged kind count digest
     go true e l =
         let z = eqb-true _ _ e in
         let n : 0 ≡ count = omega arith in
@@ -116,9 +116,9 @@ length-objects (r ∷ rs) = rw (length-objects rs)
 -- Complete ---------------------------------------------------------------------------------------------------------------
 
 record EtagIs (e : Etag) : Type 0 where
-  kind : kindOf e ≤ 1
-  count : countOf e ≤ cond (eqb (kindOf e) 0) 0 256
-  most : countOf e ≤ 256
+  kind : kindOf e ≤ joinedKind
+  count : countOf e ≤ cond (eqb (kindOf e) plainKind) 0 partsMost
+  most : countOf e ≤ partsMost
   digest : length (digestOf e) ≡ 16
   same : etagOf (kindOf e) (digestOf e) (countOf e) ≡ e
 

@@ -24,6 +24,16 @@ uploadKind = 2
 abbrev pub partKind : ℕ
 partKind = 3
 
+-- the most objects, open uploads, and parts over all uploads
+abbrev pub objectsMost : ℕ
+objectsMost = 256
+
+abbrev pub uploadsMost : ℕ
+uploadsMost = 16
+
+abbrev pub partsMost : ℕ
+partsMost = 256
+
 -- every test of a list passes
 unfoldable pub all : List Bool → Bool
 all [] = true
@@ -38,14 +48,14 @@ isLess Ordering·gt = false
 abbrev pub zeros : List ℕ
 zeros = replicate 16 0
 
--- an object's row, behind one whose path is `last` ([] for none): a plain etag has no count, a joined one at most 256
+-- an object's row, behind one whose path is `last` ([] for none): a plain etag has no count, a joined one at most that of all parts
 unfoldable pub objectRule : (last : List ℕ) → Head → (path : List ℕ) → Bool
 objectRule last h path =
     all
     (eqb (h .number) 0
     ∷ leb 1 (h .stamp)
     ∷ leb (h .kind) joinedKind
-    ∷ leb (h .count) (cond (eqb (h .kind) plainKind) 0 256)
+    ∷ leb (h .count) (cond (eqb (h .kind) plainKind) 0 partsMost)
     ∷ storedPathOk path
     ∷ isLess (byBytes last path)
     ∷ [])

@@ -17,7 +17,7 @@ use Rattle.layout.specs.declared.Mark.{Mark}
 use Rattle.layout.specs.declared.Header.{Header}
 use Rattle.layout.specs.Rules.{objectOk, objectNext, entryOk, entryNext, start}
 use Rattle.layout.specs.Header.{headerWidths, headerLength, headerNumbers, headerBytes, headerOf, encodeHeader, headerFrom, headerAt}
-use Rattle.layout.specs.Memory.{objectRows, uploadRows, rowsOf, arenaMost, objectsOf, nest, Nest, opens, objectRowsAt, uploadTables, uploadArena, uploadRowsAt, stateOf, headerOk, objectsGood, uploadsGood, whole, Stands}
+use Rattle.layout.specs.Memory.{objectRows, uploadRows, rowsOf, arenaMost, objectsOf, nest, Nest, opens, objectRowsAt, uploadTables, uploadArena, uploadRowsAt, stateOf, headerOk, objectsGood, uploadsGood, wholeOf, StandsOf}
 use Rattle.layout.specs.TestLaws.{true-all}
 use Rattle.layout.specs.ObjectLaws.{objects-back, length-object-rows, object-rows-encodable, object-rows-follow, objects-first}
 use Rattle.layout.specs.UploadLaws.{length-upload-rows, opens-uploads, nest-back, upload-rows-encodable, upload-rows-follow, uploads-first}
@@ -43,7 +43,7 @@ pub length-header : (A : ℕ) (s : State) → A ≤ arenaMost → Valid A s → 
 unfolding headerBytes
 length-header A s l v = length-fields headerWidths _ (header-fits A s l v)
 
-module _ (t a : List ℕ) (s : State) (h : Stands t a s) where
+module _ {T : ℕ} (t a : List ℕ) (s : State) (h : StandsOf T t a s) where
   abbrev behind : List ℕ
   behind = encodeRows (rowsOf s) ++ h .tables-free
 
@@ -128,10 +128,10 @@ module _ (t a : List ℕ) (s : State) (h : Stands t a s) where
       let n : headerAt t .next ≡ s .N = ap (λ (x : Header). x .next) header-back in
       λ i. record { O = o i; U = u i; N = n i }
 
-  header-ok : headerOk (length t) (length a) (headerAt t) ≡ true
+  header-ok : headerOk T (length t) (length a) (headerAt t) ≡ true
   unfolding headerOk
   header-ok =
-      ap (λ (x : Header). headerOk (length t) (length a) x) header-back
+      ap (λ (x : Header). headerOk T (length t) (length a) x) header-back
       ∙ true-all _ (
         eq-eqb _ _ (h .size),
         (
@@ -172,12 +172,12 @@ module _ (t a : List ℕ) (s : State) (h : Stands t a s) where
       ∙ rows-complete Mark (entryOk (s .N)) entryNext start (uploadRows (s .U)) (h .tables-free) (h .arena-free) encodable-uploads
       (upload-rows-follow (s .N) start (s .U) (uploads-first (s .N) (s .U) (h .valid .upload)) (h .valid .uploads) (h .valid .upload))
 
-  pub stands-whole : whole t a ≡ true
-  unfolding whole
+  pub stands-whole : wholeOf T t a ≡ true
+  unfolding wholeOf
   stands-whole =
       let c : opens (uploadRowsAt t a) ≡ headerAt t .uploads = ap opens uploads-are ∙ opens-uploads (s .U) ∙ sym (ap (λ (x : Header). x .uploads) header-back) in
       true-all _ (header-ok, (objects-ok-back, (uploads-ok-back, (eq-eqb _ _ c, tt))))
 
 -- memory stands for one state only
-pub stands-once : (t a : List ℕ) (s s′ : State) → Stands t a s → Stands t a s′ → s ≡ s′
+pub stands-once : {T : ℕ} (t a : List ℕ) (s s′ : State) → StandsOf T t a s → StandsOf T t a s′ → s ≡ s′
 stands-once t a s s′ h h′ = sym (stands-state t a s h) ∙ stands-state t a s′ h′

@@ -17,27 +17,27 @@ use Rattle.row.specs.Row.{Row, encodeRows, contentsOf, pastRows, pastData, good
 use Rattle.row.specs.RowLaws.{EncodableAll, Follows, encode-append, contents-append, rows-sound, contents-sound, follows-sound, encodable-sound, length-rowsAt}
 use Rattle.layout.specs.declared.Mark.{Mark}
 use Rattle.layout.specs.declared.Header.{Header}
-use Rattle.layout.specs.Rules.{objectOk, objectNext, entryOk, entryNext, start}
+use Rattle.layout.specs.Rules.{objectsMost, uploadsMost, partsMost, objectOk, objectNext, entryOk, entryNext, start}
 use Rattle.layout.specs.Header.{headerWidths, headerLength, headerNumbers, headerBytes, encodeHeader, headerAt}
-use Rattle.layout.specs.Memory.{partRows, uploadRows, rowsOf, tablesLength, arenaMost, nest, opens, objectRowsAt, uploadTables, uploadArena, uploadRowsAt, stateOf, headerOk, objectsGood, uploadsGood, whole, Stands}
+use Rattle.layout.specs.Memory.{partRows, uploadRows, rowsOf, tablesLength, arenaMost, nest, opens, objectRowsAt, uploadTables, uploadArena, uploadRowsAt, stateOf, headerOk, objectsGood, uploadsGood, wholeOf, whole, StandsOf, Stands}
 use Rattle.layout.specs.TestLaws.{all-true}
 use Rattle.layout.specs.ObjectLaws.{object-rows-same, objects-ascending, objects-ok, length-objects}
 use Rattle.layout.specs.UploadLaws.{Nested, nested, length-uploads, length-upload-rows}
 use Rattle.layout.specs.RowCounts.{length-contents}
 
-pub record HeaderIs (T A : ℕ) (h : Header) : Type 0 where
-  pub size : T ≡ tablesLength
+pub record HeaderIs (T tables A : ℕ) (h : Header) : Type 0 where
+  pub size : tables ≡ T
   pub small : A ≤ arenaMost
   pub arena : h .arena ≡ A
   pub first : 1 ≤ h .next
   pub last : h .next ≤ 4294967296
-  pub objects : h .objects ≤ 256
-  pub uploads : h .uploads ≤ 16
-  pub parts : h .parts ≤ 256
+  pub objects : h .objects ≤ objectsMost
+  pub uploads : h .uploads ≤ uploadsMost
+  pub parts : h .parts ≤ partsMost
 
-pub header-is : (T A : ℕ) (h : Header) → headerOk T A h ≡ true → HeaderIs T A h
+pub header-is : (T tables A : ℕ) (h : Header) → headerOk T tables A h ≡ true → HeaderIs T tables A h
 unfolding headerOk
-header-is T A h e =
+header-is T tables A h e =
     let g = all-true _ e in
     record {
       size = eqb-true _ _ (g .0);
@@ -54,24 +54,24 @@ header-numbers : (t : List ℕ) → numbersAt headerWidths t ≡ headerNumbers (
 unfolding headerAt numbersAt
 header-numbers t = refl
 
-module _ (t a : List ℕ) (b : Bytes t) (w : whole t a ≡ true) where
-  header : HeaderIs (length t) (length a) (headerAt t)
-  unfolding whole
-  header = header-is _ _ _ (all-true _ w .0)
+module _ (T : ℕ) (room : headerLength ≤ T) (t a : List ℕ) (b : Bytes t) (w : wholeOf T t a ≡ true) where
+  header : HeaderIs T (length t) (length a) (headerAt t)
+  unfolding wholeOf
+  header = header-is _ _ _ _ (all-true _ w .0)
 
   abbrev t₁ : List ℕ
   t₁ = drop headerLength t
 
   objects-good : good (List ℕ) objectOk objectNext (headerAt t .objects) [] t₁ a ≡ true
-  unfolding whole objectsGood
+  unfolding wholeOf objectsGood
   objects-good = all-true _ w .1 .0
 
   uploads-good : good Mark (entryOk (headerAt t .next)) entryNext (headerAt t .uploads + headerAt t .parts) start (uploadTables t a) (uploadArena t a) ≡ true
-  unfolding whole uploadsGood
+  unfolding wholeOf uploadsGood
   uploads-good = all-true _ w .1 .1 .0
 
   counted-opens : opens (uploadRowsAt t a) ≡ headerAt t .uploads
-  unfolding whole
+  unfolding wholeOf
   counted-opens = eqb-true _ _ (all-true _ w .1 .1 .1 .0)
 
   b₁ : Bytes t₁
@@ -169,8 +169,8 @@ module _ (t a : List ℕ) (b : Bytes t) (w : whole t a ≡ true) where
         room = omega (arith, length-contents (stateOf t a), ap length arena-same, length-append (contentsOf (rowsOf (stateOf t a))) arena-free);
       }
 
-  pub whole-stands : Stands t a (stateOf t a)
-  whole-stands =
+  pub wholeOf-stands : StandsOf T t a (stateOf t a)
+  wholeOf-stands =
       record {
         size = header .size;
         small = header .small;
@@ -180,3 +180,6 @@ module _ (t a : List ℕ) (b : Bytes t) (w : whole t a ≡ true) where
         arena-free = arena-free;
         arena = arena-same;
       }
+
+pub whole-stands : (t a : List ℕ) → Bytes t → whole t a ≡ true → Stands t a (stateOf t a)
+whole-stands = wholeOf-stands tablesLength (omega arith)

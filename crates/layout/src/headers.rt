@@ -3,7 +3,7 @@ ghost use mathlib.Core.Path.{_≡_};
 ghost use Prim.Native.Nat.{_≤_};
 ghost use lib.ListN.{length};
 ghost use Rattle.layout.specs.Header.{headerLength, headerAt, headed};
-ghost use Rattle.layout.specs.Memory.{headerOk};
+ghost use Rattle.layout.specs.Memory.{tablesLength, headerOk};
 use crate::Header;
 
 // The header, as it stands in the first bytes.
@@ -34,12 +34,12 @@ pub fn write_header(tables: &mut [u8], h: Header)
 
 // The header of a store whose tables and arena have these lengths.
 pub fn header_ok(h: Header, tables: usize, arena: usize) -> bool
-    ensures { λ r. ⌜ r ≡ headerOk tables arena h ⌝ }
+    ensures { λ r. ⌜ r ≡ headerOk tablesLength tables arena h ⌝ }
 {
-    if tables != 53842 {
+    if tables != crate::TABLES_LENGTH {
         return false;
     }
-    if 1048576 < arena {
+    if crate::ARENA_MOST < arena {
         return false;
     }
     if h.arena as usize != arena {
@@ -51,11 +51,11 @@ pub fn header_ok(h: Header, tables: usize, arena: usize) -> bool
     if 4294967296 < h.next {
         return false;
     }
-    if 256 < h.objects {
+    if crate::OBJECTS_MOST < h.objects as usize {
         return false;
     }
-    if 16 < h.uploads {
+    if crate::UPLOADS_MOST < h.uploads as usize {
         return false;
     }
-    h.parts <= 256
+    h.parts as usize <= crate::PARTS_MOST
 }

@@ -2,7 +2,34 @@
 pub mod headers;
 
 // The header's length: the first row stands here.
-pub const HEADER: usize = 18;
+pub const HEADER_LENGTH: usize = 18;
+
+// The length of the tables: the header, rows of 256 objects and 16 uploads with paths of 128 bytes, rows of 256 parts.
+pub const TABLES_LENGTH: usize = 53842;
+
+// The most bytes of an arena.
+pub const ARENA_MOST: usize = 1048576;
+
+// The most objects.
+pub const OBJECTS_MOST: usize = 256;
+
+// The most open uploads.
+pub const UPLOADS_MOST: usize = 16;
+
+// The most parts over all uploads, and of a joined etag.
+pub const PARTS_MOST: usize = 256;
+
+// The kind of an object's row with a plain etag.
+pub const PLAIN_KIND: u8 = 0;
+
+// The kind of an object's row with a joined etag.
+pub const JOINED_KIND: u8 = 1;
+
+// The kind of an upload's row.
+pub const UPLOAD_KIND: u8 = 2;
+
+// The kind of a part's row.
+pub const PART_KIND: u8 = 3;
 
 // Where a row stands in the tables, and its data in the arena.
 pub struct Offset {

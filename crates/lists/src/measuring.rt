@@ -15,7 +15,7 @@ ghost use Rattle.lists.specs.Rows.{listedBytes, listing};
 pub(crate) fn text_length(kind: u8, count: u16) -> u32
     ensures { λ r. ⌜ (r ≤ 38) × ((d : List ℕ) → length d ≡ 16 → r ≡ length (text (etagOf kind d count))) ⌝ }
 {
-    if kind == 0 {
+    if kind == layout::PLAIN_KIND {
         return 32;
     }
     33 + text::decimal_length(count) as u32
@@ -49,7 +49,7 @@ pub(crate) fn measure_rows(tables: &[u8], arena: &[u8], prefix: &[u8], suffix: &
         × (r .bytes ≡ length (listing (now (prefix .entry)) (now (suffix .entry)) (stateOf (now (tables .entry)) (now (arena .entry))))) ⌝ }
 {
     let objects = find::object_count(tables, arena);
-    let mut at: usize = layout::HEADER;
+    let mut at: usize = layout::HEADER_LENGTH;
     let mut records: u32 = 0;
     let mut bytes: u32 = 0;
     let mut i: usize = 0;

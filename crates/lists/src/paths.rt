@@ -22,7 +22,7 @@ pub(crate) fn has_row(tables: &[u8], at: usize, prefix: &[u8], suffix: &[u8]) ->
     ensures { λ r. ⌜ r ≡ isListed (now (prefix .entry)) (now (suffix .entry)) (pathAt (drop at (now (tables .entry)))) ⌝ }
 {
     let h = row::read_head(tables, at);
-    let from = at + row::HEAD;
+    let from = at + row::HEAD_LENGTH;
     let to = from + h.pathlen as usize;
     has_path(&tables[from..to], prefix, suffix)
 }

@@ -15,7 +15,7 @@ fn write_path(tables: &[u8], at: usize, n: u8, answer: &mut [u8], to: usize)
     requires { ⌜ (at + headLength + n ≤ length (now tables)) × (to + (1 + n) ≤ length (now answer)) ⌝ }
     ensures { λ _. ⌜ now (answer .exit) ≡ take to (now (answer .entry)) ++ (n ∷ take n (drop (at + headLength) (now (tables .entry)))) ++ drop (to + (1 + n)) (now (answer .entry)) ⌝ }
 {
-    let from = at + row::HEAD;
+    let from = at + row::HEAD_LENGTH;
     let end = from + n as usize;
     answer[to] = n;
     buffer::copy_at(answer, to + 1, &tables[from..end]);
@@ -45,9 +45,9 @@ fn write_text(tables: &[u8], at: usize, kind: u8, count: u16, answer: &mut [u8],
     requires { ⌜ (at + headLength ≤ length (now tables)) × (to + length (text (etagOf kind (digestAt (drop at (now tables))) count)) ≤ length (now answer)) ⌝ }
     ensures { λ _. ⌜ now (answer .exit) ≡ take to (now (answer .entry)) ++ text (etagOf kind (digestAt (drop at (now (tables .entry)))) count) ++ drop (to + length (text (etagOf kind (digestAt (drop at (now (tables .entry)))) count))) (now (answer .entry)) ⌝ }
 {
-    let from = at + row::NUMBERS;
+    let from = at + row::NUMBERS_LENGTH;
     text::put_hex(answer, to, &tables[from..from + 16]);
-    if kind != 0 {
+    if kind != layout::PLAIN_KIND {
         write_count(answer, to + 32, count);
     }
 }

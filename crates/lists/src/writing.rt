@@ -39,7 +39,7 @@ pub(crate) fn write_rows(
     ensures { λ _. ⌜ now (answer .exit) ≡ listing (now (prefix .entry)) (now (suffix .entry)) (stateOf (now (tables .entry)) (now (arena .entry))) ++ drop (length (listing (now (prefix .entry)) (now (suffix .entry)) (stateOf (now (tables .entry)) (now (arena .entry))))) (now (answer .entry)) ⌝ }
 {
     let objects = find::object_count(tables, arena);
-    let mut at: usize = layout::HEADER;
+    let mut at: usize = layout::HEADER_LENGTH;
     let mut to: usize = 0;
     let mut i: usize = 0;
     while i < objects {

@@ -26,7 +26,7 @@ use Rattle.machine.proofs.KeepsValid.{next-valid}
 use Rattle.row.specs.declared.Head.{Head}
 use Rattle.row.specs.Row.{encodeRows, headAt, numbersLength}
 use Rattle.layout.specs.Header.{headerLength}
-use Rattle.layout.specs.Memory.{partRow, whole, stateOf, Stands}
+use Rattle.layout.specs.Memory.{partRow, whole, stateOf, Stands, arenaMost}
 use Rattle.layout.specs.WholeLaws.{whole-stands}
 use Rattle.find.specs.declared.Place.{Place}
 use Rattle.find.specs.Places.{beforePart, afterPart, partPlace, uploadPlace}

@@ -21,7 +21,7 @@ fn initiate_judge(tables: &[u8], arena: &[u8], stamp: Stamp, path: &[u8]) -> u8
         return types::BAD_REQUEST;
     }
     let uploads = find::upload_count(tables, arena);
-    if 16 <= uploads {
+    if layout::UPLOADS_MOST <= uploads {
         return types::TABLE_FULL;
     }
     let header = layout::headers::read_header(tables);

@@ -31,7 +31,7 @@ fn part_room(
         return room::arena_judge(held - h.size as usize, content.len(), arena.len());
     }
     let parts = find::part_count(tables, arena);
-    if 256 <= parts {
+    if layout::PARTS_MOST <= parts {
         return types::TABLE_FULL;
     }
     room::arena_judge(held, content.len(), arena.len())

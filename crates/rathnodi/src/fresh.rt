@@ -8,7 +8,7 @@ ghost use Rattle.calls.specs.Made.{memory, MadeFresh};
 pub extern "C" fn rathnodi_tables_len() -> usize
     ensures { λ r. ⌜ r ≡ tablesLength ⌝ }
 {
-    53842
+    layout::TABLES_LENGTH
 }
 
 // FRESH: an empty store, whatever the slices hold.

@@ -62,8 +62,8 @@ fn etag(tables: &[u8], at: usize, kind: u8, count: u16) -> Etag
     requires { ⌜ at + headLength ≤ length (now tables) ⌝ }
     ensures { λ r. ⌜ etagIs r ≡ etagOf kind (digestAt (drop at (now (tables .entry)))) count ⌝ }
 {
-    let digest = md5::get(tables, at + row::NUMBERS);
-    if kind == 0 {
+    let digest = md5::get(tables, at + row::NUMBERS_LENGTH);
+    if kind == layout::PLAIN_KIND {
         Etag::Plain(digest)
     } else {
         Etag::Joined(digest, count)

@@ -33,7 +33,7 @@ pub fn object_judge(tables: &[u8], arena: &[u8], path: &[u8], n: usize) -> u8
         return arena_judge(held - h.size as usize, n, arena.len());
     }
     let objects = find::object_count(tables, arena);
-    if 256 <= objects {
+    if layout::OBJECTS_MOST <= objects {
         return types::TABLE_FULL;
     }
     arena_judge(held, n, arena.len())

@@ -31,6 +31,10 @@ numbersLength = 20
 abbrev pub headLength : ℕ
 headLength = 36
 
+-- how many bytes a row takes whose path has 128 bytes, the most
+abbrev pub longestRow : ℕ
+longestRow = 164
+
 -- how many bytes the row with a head takes
 abbrev pub span : Head → ℕ
 span h = headLength + h .pathlen

@@ -8,10 +8,13 @@ ghost use Rattle.md5.specs.Md5.{bytesOf};
 ghost use Rattle.row.specs.Row.{numbersLength, headLength, span, rowBytes, headAt};
 
 // Where the digest stands in a row, after the numbers.
-pub const NUMBERS: usize = 20;
+pub const NUMBERS_LENGTH: usize = 20;
 
 // Where the path stands in a row, after the digest; the length of a row without a path.
-pub const HEAD: usize = 36;
+pub const HEAD_LENGTH: usize = 36;
+
+// The length of a row whose path has 128 bytes, the most.
+pub const LONGEST_ROW: usize = 164;
 
 // The numbers of a row.
 pub struct Head {
@@ -42,7 +45,7 @@ pub fn read_head(t: &[u8], at: usize) -> Head
 pub fn span(h: Head) -> usize
     ensures { λ r. ⌜ r ≡ span h ⌝ }
 {
-    HEAD + number::wide(h.pathlen) as usize
+    HEAD_LENGTH + number::wide(h.pathlen) as usize
 }
 
 // The numbers of a head, over the first bytes.
@@ -64,6 +67,6 @@ pub fn write_row(out: &mut [u8], h: Head, digest: Digest, path: &[u8])
     ensures { λ _. ⌜ now (out .exit) ≡ rowBytes h (bytesOf digest) (now (path .entry)) ++ drop (headLength + length (now (path .entry))) (now (out .entry)) ⌝ }
 {
     write_numbers(out, h);
-    md5::put(out, NUMBERS, digest);
-    buffer::copy_at(out, HEAD, path);
+    md5::put(out, NUMBERS_LENGTH, digest);
+    buffer::copy_at(out, HEAD_LENGTH, path);
 }

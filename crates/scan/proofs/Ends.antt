@@ -12,7 +12,7 @@ use Rattle.row.specs.Row.{Row, headAt, spanAt, rowAt, pastRows, pastData, good}
 use Rattle.row.specs.RowLaws.{here-inside, rest-good}
 use Rattle.layout.specs.declared.Header.{Header}
 use Rattle.layout.specs.Rules.{all, objectOk, objectNext, start}
-use Rattle.layout.specs.Memory.{tablesLength, headerOk, uploadTables, uploadArena, uploadRowsAt, objectsGood, uploadsGood, whole}
+use Rattle.layout.specs.Memory.{tablesLength, headerOk, uploadTables, uploadArena, uploadRowsAt, objectsGood, uploadsGood, wholeOf, whole}
 use Rattle.layout.specs.declared.Offset.{Offset}
 use Rattle.layout.specs.Header.{headerAt, headerLength}
 use Rattle.scan.specs.declared.Scan.{Scan}
@@ -83,18 +83,18 @@ module _ (h : Header) (t a : List ℕ) (r : Scan) (e : r ≡ objectScan (h .obje
     rows-good x y = rw (found .0) (rw (found .1) at y)
 
 -- the test "whole", by the header and the scans
-whole-is : (t a : List ℕ) → whole t a ≡ (headerOk (length t) (length a) (headerAt t) && rowsOk (headerAt t) t a)
-unfolding whole all rowsOk entriesOk objectsGood uploadsGood uploadRowsAt uploadTables uploadArena
+whole-is : (t a : List ℕ) → whole t a ≡ (headerOk tablesLength (length t) (length a) (headerAt t) && rowsOk (headerAt t) t a)
+unfolding wholeOf all rowsOk entriesOk objectsGood uploadsGood uploadRowsAt uploadTables uploadArena
 whole-is t a =
     rw (and-true, zero-add, past-tables (headerAt t .objects) first t, past-arena (headerAt t .objects) first t a)
 
 pub too-short : (t a : List ℕ) → length t < headerLength → whole t a ≡ false
-unfolding whole all headerOk
+unfolding wholeOf all headerOk
 too-short t a l = rw (ne-eqb (length t) tablesLength (λ e. omega arith))
 
-module _ (t a : List ℕ) (h : Header) (e : h ≡ headerAt t) (b : Bool) (q : b ≡ headerOk (length t) (length a) h) where
-  judged : headerOk (length t) (length a) (headerAt t) ≡ b
-  judged = ap (headerOk (length t) (length a)) (sym e) ∙ sym q
+module _ (t a : List ℕ) (h : Header) (e : h ≡ headerAt t) (b : Bool) (q : b ≡ headerOk tablesLength (length t) (length a) h) where
+  judged : headerOk tablesLength (length t) (length a) (headerAt t) ≡ b
+  judged = ap (headerOk tablesLength (length t) (length a)) (sym e) ∙ sym q
 
   pub header-bad : not b ≡ true → whole t a ≡ false
   header-bad n = whole-is t a ∙ rw (judged, not-true b n)

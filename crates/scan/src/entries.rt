@@ -52,7 +52,7 @@ fn upload_ok(next: u64, m: Mark, h: Head, digest: &[u8], path: &[u8]) -> bool
 fn part_ok(m: Mark, h: Head) -> bool
     ensures { λ r. ⌜ r ≡ partRule m h ⌝ }
 {
-    if h.kind != 3 {
+    if h.kind != layout::PART_KIND {
         return false;
     }
     if h.stamp != 0 {
@@ -78,7 +78,7 @@ fn entry_ok(next: u64, m: Mark, h: Head, digest: &[u8], path: &[u8]) -> bool
     requires { ⌜ length (now digest) ≡ 16 ⌝ }
     ensures { λ r. ⌜ r ≡ entryRule next m h (now (digest .entry)) (now (path .entry)) ⌝ }
 {
-    if h.kind == 2 {
+    if h.kind == layout::UPLOAD_KIND {
         upload_ok(next, m, h, digest, path)
     } else {
         part_ok(m, h)
@@ -89,14 +89,14 @@ fn entry_ok(next: u64, m: Mark, h: Head, digest: &[u8], path: &[u8]) -> bool
 fn opening(h: Head) -> usize
     ensures { λ r. ⌜ r ≡ opensOne h ⌝ }
 {
-    if h.kind == 2 { 1 } else { 0 }
+    if h.kind == layout::UPLOAD_KIND { 1 } else { 0 }
 }
 
 // The mark behind a row with head h.
 fn mark_after(m: Mark, h: Head) -> Mark
     ensures { λ r. ⌜ r ≡ markAfter m h ⌝ }
 {
-    if h.kind == 2 {
+    if h.kind == layout::UPLOAD_KIND {
         Mark {
             upload: h.number,
             part: 0,
@@ -131,8 +131,8 @@ pub(crate) fn entries_ok(
         let Reading::Fits(h) = rows::read_row(t, at, arena, base) else {
             return false;
         };
-        let digest = at + row::NUMBERS;
-        let path = at + row::HEAD;
+        let digest = at + row::NUMBERS_LENGTH;
+        let path = at + row::HEAD_LENGTH;
         let end = path + h.pathlen as usize;
         if !entry_ok(next, m, h, &t[digest..path], &t[path..end]) {
             return false;

@@ -32,7 +32,7 @@ fn rows_ok(tables: &[u8], arena: &[u8], h: Header) -> bool
     ensures { λ r. ⌜ r ≡ rowsOk h (now (tables .entry)) (now (arena .entry)) ⌝ }
 {
     let from = Offset {
-        at: layout::HEADER,
+        at: layout::HEADER_LENGTH,
         base: 0,
     };
     let Scan::Good(end) = objects::scan_objects(tables, arena, from, h.objects) else {
@@ -45,7 +45,7 @@ fn rows_ok(tables: &[u8], arena: &[u8], h: Header) -> bool
 pub fn whole(tables: &[u8], arena: &[u8]) -> bool
     ensures { λ r. ⌜ r ≡ memory.whole (now (tables .entry)) (now (arena .entry)) ⌝ }
 {
-    if tables.len() < layout::HEADER {
+    if tables.len() < layout::HEADER_LENGTH {
         return false;
     }
     let h = headers::read_header(tables);

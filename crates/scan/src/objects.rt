@@ -6,7 +6,7 @@ ghost use Prim.Native.Nat.{_≤_};
 ghost use lib.Dec.{eqb};
 ghost use lib.ListN.{length};
 ghost use Rattle.order.specs.Order.{byBytes};
-ghost use Rattle.layout.specs.Rules.{isLess, objectRule};
+ghost use Rattle.layout.specs.Rules.{plainKind, partsMost, isLess, objectRule};
 ghost use Rattle.scan.specs.Scan.{objectScan};
 use crate::Reading;
 use crate::Scan;
@@ -17,9 +17,13 @@ use row::Head;
 
 // The most parts that an etag of this kind can count.
 fn most_parts(kind: u8) -> u16
-    ensures { λ r. ⌜ r ≡ cond (eqb kind 0) 0 256 ⌝ }
+    ensures { λ r. ⌜ r ≡ cond (eqb kind plainKind) 0 partsMost ⌝ }
 {
-    if kind == 0 { 0 } else { 256 }
+    if kind == layout::PLAIN_KIND {
+        0
+    } else {
+        layout::PARTS_MOST as u16
+    }
 }
 
 // Whether a stands before b.
@@ -43,7 +47,7 @@ fn object_ok(last: &[u8], h: Head, path: &[u8]) -> bool
     if h.stamp < 1 {
         return false;
     }
-    if 1 < h.kind {
+    if layout::JOINED_KIND < h.kind {
         return false;
     }
     if most_parts(h.kind) < h.count {
@@ -68,7 +72,7 @@ pub(crate) fn scan_objects(t: &[u8], arena: &[u8], from: Offset, rows: u16) -> S
         let Reading::Fits(h) = rows::read_row(t, at, arena, base) else {
             return Scan::Bad;
         };
-        let path = at + row::HEAD;
+        let path = at + row::HEAD_LENGTH;
         let end = path + h.pathlen as usize;
         if !object_ok(&t[last..at], h, &t[path..end]) {
             return Scan::Bad;

@@ -11,7 +11,7 @@ pub(crate) fn read_row(t: &[u8], at: usize, arena: &[u8], base: usize) -> Readin
     ensures { λ r. ⌜ r ≡ readingOf (drop at (now (t .entry))) (drop base (now (arena .entry))) ⌝ }
 {
     let left = t.len() - at;
-    if left < row::HEAD {
+    if left < row::HEAD_LENGTH {
         return Reading::Short;
     }
     let h = row::read_head(t, at);

@@ -38,7 +38,7 @@ pub(crate) fn read_upload(tables: &[u8], arena: &[u8], here: RowPlace) -> OpenUp
     let h = row::read_head(tables, here.at);
     let parts = find::pass_parts(tables, arena, here);
     let next = parts.next;
-    let from = here.at + row::HEAD;
+    let from = here.at + row::HEAD_LENGTH;
     OpenUpload {
         number: h.number,
         from,

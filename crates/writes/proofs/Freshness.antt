@@ -10,13 +10,13 @@ use Rattle.machine.specs.Calls.{_else_then_}
 use Rattle.machine.specs.Steps.{FRESH}
 use Rattle.machine.proofs.KeepsValid.{fresh-valid}
 use Rattle.row.specs.Row.{encodeRows, contentsOf}
-use Rattle.layout.specs.Memory.{objectRows, uploadRows, rowsOf, Stands}
+use Rattle.layout.specs.Memory.{objectRows, uploadRows, rowsOf, Stands, tablesLength, arenaMost}
 use Rattle.layout.specs.StandsLaws.{stands-state, stands-whole}
 use Rattle.layout.specs.Header.{headerBytes, headed, encodeHeader, headerLength}
 use Rattle.calls.specs.Made.{memory, freshResult, MadeFresh}
 
 module _ (t a : List ℕ) where
-  pub other-tables : (length t ≡ 53842 → ⊥) → MadeFresh (memory t a) 1 (memory t a)
+  pub other-tables : (length t ≡ tablesLength → ⊥) → MadeFresh (memory t a) 1 (memory t a)
   unfolding freshResult
   other-tables n =
       record {
@@ -29,11 +29,11 @@ module _ (t a : List ℕ) where
         refusal = λ _. refl;
       }
 
-  pub large-arena : length t ≡ 53842 → 1048576 < length a → MadeFresh (memory t a) 2 (memory t a)
+  pub large-arena : length t ≡ tablesLength → arenaMost < length a → MadeFresh (memory t a) 2 (memory t a)
   unfolding freshResult FRESH _else_then_
   large-arena l h =
       record {
-        answers = rw (eq-eqb _ _ l, lt-leb (length a) 1048576 h);
+        answers = rw (eq-eqb _ _ l, lt-leb (length a) arenaMost h);
         state = λ z. absurd (omega arith);
         is-whole = λ z. absurd (omega arith);
         bytes = λ z. absurd (omega arith);
@@ -43,7 +43,7 @@ module _ (t a : List ℕ) where
       }
 
   -- the header of the empty store
-  module _ (l : length t ≡ 53842) (h : length a ≤ 1048576) (t′ : List ℕ) (keeps : length t′ ≡ length t)
+  module _ (l : length t ≡ tablesLength) (h : length a ≤ arenaMost) (t′ : List ℕ) (keeps : length t′ ≡ length t)
       (e : t′ ≡ headed t (record { arena = length a; next = 1; objects = 0; uploads = 0; parts = 0 })) where
     stands : Stands t′ a fresh
     unfolding headerBytes headed rowsOf objectRows uploadRows encodeRows contentsOf
@@ -62,7 +62,7 @@ module _ (t a : List ℕ) where
     unfolding freshResult FRESH _else_then_
     made-fresh =
         record {
-          answers = rw (eq-eqb _ _ l, le-leb (length a) 1048576 h);
+          answers = rw (eq-eqb _ _ l, le-leb (length a) arenaMost h);
           state = λ _. stands-state t′ a fresh stands;
           is-whole = λ _. stands-whole t′ a fresh stands;
           bytes = λ _. stands;

@@ -15,10 +15,10 @@ ghost use Rattle.calls.specs.Made.{memory, Made, MadeWhole, MadeFresh};
 pub fn fresh(tables: &mut [u8], arena: &mut [u8]) -> u8
     ensures { λ r. ⌜ MadeFresh (memory (now (tables .entry)) (now (arena .entry))) r (memory (now (tables .exit)) (now (arena .exit))) ⌝ }
 {
-    if tables.len() != 53842 {
+    if tables.len() != layout::TABLES_LENGTH {
         return types::NOT_A_STORE;
     }
-    if 1048576 < arena.len() {
+    if layout::ARENA_MOST < arena.len() {
         return types::BAD_REQUEST;
     }
     let header = Header {

@@ -8,6 +8,7 @@ use lib.ListN.{length}
 use Rattle.machine.specs.Map.{isSome}
 use Rattle.machine.specs.State.{State}
 use Rattle.layout.specs.declared.Header.{Header}
+use Rattle.layout.specs.Rules.{partsMost}
 use Rattle.layout.specs.Memory.{stateOf, Stands}
 use Rattle.layout.specs.StandsLaws.{header-back}
 use Rattle.layout.specs.WholeLaws.{whole-stands}
@@ -56,7 +57,7 @@ module _ (c : tie.After-upload-bounds) where
   header-is : (h : Header) → h ≡ headerAt t → h ≡ headerOf (length a) s
   header-is h e = e ∙ header-back t a s stands
 
-  some : (h : Header) → h ≡ headerAt t → (1 ≤ h .uploads) × (b .count ≤ h .parts) × (b .count ≤ 256)
+  some : (h : Header) → h ≡ headerAt t → (1 ≤ h .uploads) × (b .count ≤ h .parts) × (b .count ≤ partsMost)
   some h e = some-upload t a s stands u (k .upload) (k .found) list (k .listed) (k .fits) b (c .upload-bounds .ensures (k .upload) (k .found)) h (header-is h e)
 
 cast-count : tie.Need-cast-count

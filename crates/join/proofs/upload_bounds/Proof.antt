@@ -8,6 +8,7 @@ use borrow.Author.Needs.{needs}
 use Rattle.machine.specs.Map.{byNumber, lookup}
 use Rattle.machine.specs.State.{Upload, State}
 use Rattle.row.specs.Row.{headLength}
+use Rattle.layout.specs.Rules.{partsMost}
 use Rattle.layout.specs.Memory.{stateOf, Stands}
 use Rattle.layout.specs.WholeLaws.{whole-stands}
 use Rattle.find.proofs.Found.{is-some}
@@ -44,7 +45,7 @@ module _ (c : tie.After-rows-end) where
   found : (x : Upload) × (lookup byNumber (start .args .upload) (s .U) ≡ some x)
   found = is-some (lookup byNumber (start .args .upload) (s .U)) (start .pre .1)
 
-  few : c .before .parts-end .result .count ≤ 256
+  few : c .before .parts-end .result .count ≤ partsMost
   few = count-small t a s stands (start .args .upload) (found .0) (found .1) _ (c .before .before .find-upload .ensures) _ (c .before .parts-end .ensures (found .0) (found .1)) _ (c .rows-end .ensures)
 
   rows : headLength * c .before .parts-end .result .count ≤ c .before .parts-end .result .at

@@ -29,13 +29,22 @@ returns-5 : tie.Need-returns-5
 unfolding all headerOk
 returns-5 c = search tests
 
+cast-if6 : tie.Need-cast-if6
+cast-if6 c = search needs
+
 returns-6 : tie.Need-returns-6
 unfolding all headerOk
 returns-6 c = search tests
 
+cast-if7 : tie.Need-cast-if7
+cast-if7 c = search needs
+
 returns-7 : tie.Need-returns-7
 unfolding all headerOk
 returns-7 c = search tests
+
+cast-result : tie.Need-cast-result
+cast-result c = search needs
 
 returns-8 : tie.Need-returns-8
 unfolding all headerOk
@@ -51,6 +60,9 @@ header-ok-spec =
     returns-3
     returns-4
     returns-5
+    cast-if6
     returns-6
+    cast-if7
     returns-7
+    cast-result
     returns-8)

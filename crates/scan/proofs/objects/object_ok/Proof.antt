@@ -3,7 +3,7 @@ use Prim.Native.Nat.{_≤_, _<_}
 use mathlib.Core.Bool.{cond}
 use lib.Dec.{eqb}
 use Rattle.names.proofs.Tests.{tests, said-no, said-yes}
-use Rattle.layout.specs.Rules.{all, objectRule}
+use Rattle.layout.specs.Rules.{all, objectRule, plainKind, partsMost}
 use borrow.Author.Needs.{needs}
 use Rattle.scan.proofs.objects.object_ok.Statement.{statement}
 use Rattle.scan.proofs.objects.object_ok.Tie as tie
@@ -26,7 +26,7 @@ most-parts-requires c κs = search needs
 returns-4 : tie.Need-returns-4
 unfolding all objectRule
 returns-4 c = let h = c .before .before .before .before .before .before .before .before .before .before .before .args .h in
-    let m : cond (eqb (h .kind) 0) 0 256 < h .count = rw (c .before .before .most-parts .ensures) at (c .if4 .taken) in
+    let m : cond (eqb (h .kind) plainKind) 0 partsMost < h .count = rw (c .before .before .most-parts .ensures) at (c .if4 .taken) in
     search tests
 
 stored-path-ok-requires : tie.Need-stored-path-ok-requires
@@ -35,7 +35,7 @@ stored-path-ok-requires c κs = search needs
 returns-5 : tie.Need-returns-5
 unfolding all objectRule
 returns-5 c = let h = c .before .before .before .before .before .before .before .before .before .before .before .before .before .args .h in
-    let m : h .count ≤ cond (eqb (h .kind) 0) 0 256 = rw (c .before .before .before .before .most-parts .ensures) at (c .before .before .if4 .left) in
+    let m : h .count ≤ cond (eqb (h .kind) plainKind) 0 partsMost = rw (c .before .before .before .before .most-parts .ensures) at (c .before .before .if4 .left) in
     search (tests, said-no (c .before .stored-path-ok .ensures) (c .if5 .taken))
 
 ascend-requires : tie.Need-ascend-requires
@@ -44,7 +44,7 @@ ascend-requires c κs = search needs
 returns-6 : tie.Need-returns-6
 unfolding all objectRule
 returns-6 c = let h = c .before .before .before .before .before .before .before .before .before .before .before .before .before .before .args .h in
-    let m : h .count ≤ cond (eqb (h .kind) 0) 0 256 = rw (c .before .before .before .before .before .most-parts .ensures) at (c .before .before .before .if4 .left) in
+    let m : h .count ≤ cond (eqb (h .kind) plainKind) 0 partsMost = rw (c .before .before .before .before .before .most-parts .ensures) at (c .before .before .before .if4 .left) in
     search (tests, said-yes (c .before .before .stored-path-ok .ensures) (c .before .if5 .left))
 
 pub object-ok-spec : {M : Type 1} → statement M

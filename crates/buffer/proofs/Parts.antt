@@ -8,7 +8,7 @@ use lib.ListN.{length, take, drop, length-append}
 use Rattle.number.proofs.Fields.{field-take, field-drop, field-read}
 use Rattle.buffer.specs.Buffer.{spliced, rotated}
 
--- two neighbouring parts, y of n bytes and z of m bytes, behind x
+-- two neighbouring parts, y of n bytes and z of m bytes, after x
 module _ (b x y z w : List ℕ) (at n m : ℕ) (told : b ≡ x ++ (y ++ (z ++ w))) (place : length x ≡ at) (first : length y ≡ n) (second : length z ≡ m) where
   before : take at b ≡ x
   before = field-take b x y (z ++ w) at n told place first
@@ -35,7 +35,7 @@ module _ (b x y z w : List ℕ) (at n m : ℕ) (told : b ≡ x ++ (y ++ (z ++ w)
       ∙ ap₂ (λ (u v : List ℕ). u ++ (v ++ (take n (drop at b) ++ drop (at + n + m) b))) before two
       ∙ ap₂ (λ (u v : List ℕ). x ++ (z ++ (u ++ v))) one after
 
-  -- `splice` puts src where y was, and z behind it
+  -- `splice` puts src where y was, and z after it
   pub spliced-parts : (b′ src : List ℕ) (used : ℕ) → at + n + m ≡ used → b′ ≡ spliced b at n used src → b′ ≡ x ++ (src ++ (z ++ drop (used - n + length src) b))
   spliced-parts b′ src used end e =
       let q : used - (at + n) ≡ m = omega arith in

@@ -26,7 +26,7 @@ empty : (l : List ℕ) → length l ≤ 0 → l ≡ []
 empty [] h = refl
 empty (x ∷ l) h = let z : _≡_ {A = ℕ} 0 1 = omega arith in absurd (omega arith)
 
--- b in four: what stands before, the blocks x and y, and what stands behind
+-- b in four: what stands before, the blocks x and y, and what stands after
 module _ (b : List ℕ) (at l r : ℕ) (room : at + l + r ≤ length b) where
   abbrev pre : List ℕ
   pre = take at b
@@ -79,7 +79,7 @@ module _ (b : List ℕ) (at l r : ℕ) (room : at + l + r ≤ length b) where
   behind s e = omega (arith, length-append pre s, length-pre)
 
   module _ (b₁ b₂ h : List ℕ) where
-    -- x is held, y moved to its place, and x written behind it
+    -- x is held, y moved to its place, and x written after it
     pub small-left : h ≡ x → b₁ ≡ paste b at (drop (at + l) b) r → b₂ ≡ take (at + r) b₁ ++ h ++ drop (at + r + length h) b₁ → b₂ ≡ rotated b at l r
     small-left eh one two =
         let e₁ : b₁ ≡ pre ++ (y ++ (v ++ z)) = field-written b pre u (v ++ z) at r places length-pre length-u b₁ y one in

@@ -7,7 +7,7 @@ use lib.ListN.{length, take, drop}
 use lib.Seq.{paste, drop-at, take-append-le, take-take, length-take-le}
 use Rattle.buffer.specs.Buffer.{spliced}
 
--- the bytes behind are moved, and src is copied in
+-- the bytes after are moved, and src is copied in
 pub move-copy : (b b₁ b₂ src : List ℕ) (at n used : ℕ) → at + n ≤ used → used ≤ length b → used + length src ≤ length b + n
     → b₁ ≡ paste b (at + length src) (drop (at + n) b) (used - (at + n)) → b₂ ≡ take at b₁ ++ src ++ drop (at + length src) b₁ → b₂ ≡ spliced b at n used src
 move-copy b b₁ b₂ src at n used an ub room one two =

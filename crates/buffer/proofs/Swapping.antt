@@ -10,7 +10,7 @@ use Rattle.number.proofs.Fields.{field-read, field-written}
 use Rattle.buffer.proofs.Moving.{left-read}
 
 module _ (p s : List ℕ) (j k : ℕ) (hj : j ≤ length p) (hk : k ≤ length s) where
-  -- what stands behind what was pasted is as it was
+  -- what stands after what was pasted is as it was
   paste-read : getD (paste p j s k) (j + k) 0 ≡ getD p (j + k) 0
   paste-read =
       let head : List ℕ = take j p ++ take k s in

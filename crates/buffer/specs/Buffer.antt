@@ -3,7 +3,7 @@ use Prim.Native.Nat.{ℕ, _+_, _-_}
 use mathlib.Core.List.{List, _++_}
 use lib.ListN.{length, take, drop}
 
--- the n bytes at `at` give way to src, and those behind them up to `used` follow it
+-- the n bytes at `at` give way to src, and those after them up to `used` follow it
 abbrev pub spliced : (b : List ℕ) (at n used : ℕ) (src : List ℕ) → List ℕ
 spliced b at n used src =
     take at b ++ (src ++ (take (used - (at + n)) (drop (at + n) b) ++ drop (used - n + length src) b))

@@ -55,7 +55,7 @@ pub fn copy_within(b: &mut [u8], from: usize, to: usize, n: usize)
     }
 }
 
-// The n bytes at `at` give way to src, and those behind them up to `used` move to follow it. With n = 0 it inserts, with an
+// The n bytes at `at` give way to src, and those after them up to `used` move to follow it. With n = 0 it inserts, with an
 // empty src it removes.
 pub fn splice(b: &mut [u8], at: usize, n: usize, used: usize, src: &[u8])
     requires { ⌜ (at + n ≤ used) × ((used ≤ length (now b)) × (used + length (now src) ≤ length (now b) + n)) ⌝ }

@@ -3,7 +3,7 @@ use Prim.Native.Nat.{ℕ}
 use mathlib.Core.Path.{_≡_, refl, subst}
 use mathlib.Core.List.{List}
 use lib.ListN.{length}
-use Rattle.number.specs.NumberLaws as number
+use Rattle.number.specs.Number.{AreBytes}
 use Rattle.calls.specs.Made.{Memory, MadeFresh}
 use Rattle.history.specs.Runs.{Run, FromFresh}
 use Rattle.history.specs.Demand3.{Demand3}
@@ -14,7 +14,7 @@ use Rattle.c_history.proofs.Sound.{bytes-sound, fresh-sound}
 use Rattle.c_history.proofs.Hearing.{sound-run}
 
 -- over any memory of bytes, damaged or not
-pub is-run : {es : List Event} {m m′ : Memory} → number.Bytes (m .tables) → CRun es m m′ → Run (heard es) m m′
+pub is-run : {es : List Event} {m m′ : Memory} → AreBytes (m .tables) → CRun es m m′ → Run (heard es) m m′
 is-run {m} b run = sound-run (bytes-sound m b) run
 
 pub from-fresh : (A : ℕ) (es : List Event) (m : Memory) → CFromFresh A es m → FromFresh A (heard es) m

@@ -7,9 +7,9 @@ use mathlib.Core.List.{List, _∷_}
 use borrow.Author.Tests.{eq-eqb, ne-eqb}
 use lib.ListN.{length}
 use Rattle.machine.specs.Names.{Bytes}
-use Rattle.machine.specs.Calls.{Call, Answer, Reply, badRequest, notFound, tableFull, arenaFull, numbersUsedUp, bufferShort, Outcome, refuse, accept, lent}
+use Rattle.machine.specs.Calls.{Call, Answer, Reply, Outcome, refuse, accept, lent}
 use Rattle.machine.specs.Steps.{act, replyOf}
-use Rattle.machine.proofs.Outcome.{Then}
+use Rattle.machine.proofs.Outcome.{refused-not-accepted, Then}
 use Rattle.calls.specs.Made.{Memory, wholeMemory, stateIn, meantReply, Made}
 use Rattle.history.specs.Runs.{Run}
 use Rattle.history.specs.Runs as runs
@@ -24,12 +24,7 @@ use Rattle.c_history.proofs.Sound.{Promised, promised, Sound, promised-
 outcome-told : (k : Call) (b o : Bytes) (x : Outcome) → Then (ReadBack k) x
     → told k (replyOf b x .result) (replyOf b x .buffer) (replyAfter (replyOf b x) o) ≡ replyOf b x
 unfolding replyAfter Then
-outcome-told k b o (refuse badRequest) h = refl
-outcome-told k b o (refuse notFound) h = refl
-outcome-told k b o (refuse tableFull) h = refl
-outcome-told k b o (refuse arenaFull) h = refl
-outcome-told k b o (refuse numbersUsedUp) h = refl
-outcome-told k b o (refuse bufferShort) h = refl
+outcome-told k b o (refuse n) h = rw (refused-not-accepted b n)
 outcome-told k b o (accept a out s) h = ap (λ (y : Answer). record { result = 0; answer = y; buffer = replyOf b (accept a out s) .buffer }) h
 
 meant-told : (k : Call) (m : Memory) (o : Bytes) → Sound m

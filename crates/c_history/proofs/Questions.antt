@@ -6,7 +6,7 @@ use mathlib.Core.Bool.{true}
 use mathlib.Core.List.{List, _∷_, _++_}
 use borrow.Author.Tests.{eq-eqb, ne-eqb}
 use lib.ListN.{length}
-use Rattle.number.specs.NumberLaws as number
+use Rattle.number.specs.Number.{AreBytes}
 use Rattle.machine.specs.Names.{Bytes}
 use Rattle.machine.specs.Calls.{ABORT, Reply}
 use Rattle.machine.specs.Lists.{Trace}
@@ -29,7 +29,7 @@ pub consistent : (A : ℕ) (es : List Event) (m : Memory) → CFromFresh A es m 
 consistent A es m f = history.consistent A (heard es) m (from-fresh A es m f)
 
 -- over any memory of bytes, damaged or not: calls that set and remove no object change nothing that is read
-pub unread : {es : List Event} {m m′ : Memory} → number.Bytes (m .tables) → CRun es m m′ → ChangesNone (heard es) → SameReads m m′
+pub unread : {es : List Event} {m m′ : Memory} → AreBytes (m .tables) → CRun es m m′ → ChangesNone (heard es) → SameReads m m′
 unread b run h = reading.unread (is-run b run) h
 
 -- the same calls from C: with a reply of 48 bytes they are made, with another length both answer 1
@@ -46,7 +46,7 @@ c-reads-same m m′ same k o n n′ b b′ r r′ x x′ look e e′ =
     go (yes l) = rw (eq-eqb _ _ l) (same k _ _ _ _ look (e .made l) (e′ .made l))
     go (no l) = rw (ne-eqb _ _ l)
 
-pub c-unread : {es : List Event} {m m′ : Memory} → number.Bytes (m .tables) → CRun es m m′ → ChangesNone (heard es) → CReadsSame m m′
+pub c-unread : {es : List Event} {m m′ : Memory} → AreBytes (m .tables) → CRun es m m′ → ChangesNone (heard es) → CReadsSame m m′
 c-unread {m} {m′} b run h = c-reads-same m m′ (unread b run h)
 
 -- "Can weighings of an aborted upload turn up in a later record?"

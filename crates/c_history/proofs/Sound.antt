@@ -3,10 +3,10 @@ use native.Mathlib.Decide.{ℕ-discrete}
 use mathlib.Core.Path.{_≡_, refl, sym, subst}
 use mathlib.Core.Bool.{true}
 use lib.ListN.{length}
-use Rattle.number.specs.NumberLaws as number
+use Rattle.number.specs.Number.{AreBytes}
 use Rattle.machine.specs.Calls.{Call, Reply}
 use Rattle.layout.specs.Memory.{Stands}
-use Rattle.layout.specs.WholeLaws.{whole-stands}
+use Rattle.layout.proofs.WholeLaws.{whole-stands}
 use Rattle.calls.specs.Made.{Memory, wholeMemory, stateIn, meantReply, Made, MadeFresh}
 use Rattle.reply.specs.Reply.{replyLength}
 use Rattle.rathnodi.specs.Exported.{numbered, Exported}
@@ -37,7 +37,7 @@ unfoldable pub Sound : Memory → Type 0
 Sound m = wholeMemory m ≡ true → Stands (m .tables) (m .arena) (stateIn m)
 
 -- memory of bytes is so
-pub bytes-sound : (m : Memory) → number.Bytes (m .tables) → Sound m
+pub bytes-sound : (m : Memory) → AreBytes (m .tables) → Sound m
 unfolding Sound
 bytes-sound m b w = whole-stands (m .tables) (m .arena) b w
 

@@ -7,7 +7,7 @@ use native.Mathlib.Omega.{arith}
 use borrow.Author.Tests.{leb-true}
 use lib.ListN.{length}
 use Rattle.order.specs.Order.{byBytes}
-use Rattle.order.specs.OrderLaws.{bytes}
+use Rattle.order.proofs.OrderLaws.{bytes}
 use Rattle.machine.specs.Map.{lookup, records}
 use Rattle.machine.specs.Names.{Bytes, lastUploadNumber}
 use Rattle.machine.specs.Digest.{md5, length-md5}
@@ -19,7 +19,7 @@ use Rattle.machine.specs.Valid.{EtagOk, ObjectOk, Valid}
 use Rattle.machine.proofs.MapLaws.{every-lookup}
 use Rattle.machine.proofs.MapSums.{total-share}
 use Rattle.machine.proofs.Outcome.{Then, then-accept, then-else, then-given, then-put}
-use Rattle.layout.specs.TestLaws.{stamp-range}
+use Rattle.layout.proofs.TestLaws.{stamp-range}
 use Rattle.layout.specs.Memory.{arenaMost}
 use Rattle.reply.specs.Reply.{replyBytes}
 use Rattle.reply.specs.ReadBack.{answerIn, metadataIn}

@@ -9,10 +9,10 @@ use Rattle.machine.specs.State.{State}
 use Rattle.machine.specs.Calls.{Call, Reply, Answer, Outcome, refuse, accept, lent}
 use Rattle.machine.specs.Steps.{replyOf, after}
 use Rattle.layout.specs.Memory.{Stands}
-use Rattle.layout.specs.StandsLaws.{stands-state, stands-whole}
+use Rattle.layout.proofs.StandsLaws.{stands-state, stands-whole}
 use Rattle.calls.specs.Answers.{refused}
 use Rattle.calls.specs.Made.{Memory, wholeMemory, stateIn, outcome, resultOf, meantReply, meantState, Made, MadeWhole}
-use Rattle.calls.proofs.Judging.{code-not-zero}
+use Rattle.machine.proofs.Outcome.{code-not-zero}
 
 pub one-not-zero : _≡_ {A = ℕ} 1 0 → ⊥
 one-not-zero e = omega arith

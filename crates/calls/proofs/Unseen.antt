@@ -3,7 +3,7 @@ use mathlib.Core.Path.{_≡_, sym, _∙_}
 use Rattle.machine.specs.State.{State}
 use Rattle.machine.specs.Calls.{Call, Reply}
 use Rattle.layout.specs.Memory.{Stands}
-use Rattle.layout.specs.StandsLaws.{stands-state, stands-whole}
+use Rattle.layout.proofs.StandsLaws.{stands-state, stands-whole}
 use Rattle.layout.specs.FreeBytes.{SameButFree}
 use Rattle.layout.proofs.FreeBytes.{free-bytes}
 use Rattle.calls.specs.Made.{Memory, stateIn, meantReply, meantState, Made}

@@ -5,7 +5,7 @@ use mathlib.Core.Bool.{Bool, true, false, cond}
 use mathlib.Core.List.{List, []}
 use mathlib.Core.Option.{some}
 use lib.ListN.{length}
-use Rattle.number.specs.NumberLaws as byte
+use Rattle.number.specs.Number.{AreBytes}
 use Rattle.machine.specs.Map.{isSome, byNumber, lookup}
 use Rattle.machine.specs.Names.{Bytes}
 use Rattle.machine.specs.State.{Object, Part, Upload, State, counted, withObject, withoutUpload}
@@ -16,7 +16,7 @@ use Rattle.machine.specs.Fits.{fits, listedParts}
 use Rattle.machine.proofs.Fit.{given-fit}
 use Rattle.machine.proofs.KeepsValid.{next-valid}
 use Rattle.layout.specs.Memory.{whole, stateOf}
-use Rattle.layout.specs.WholeLaws.{whole-stands}
+use Rattle.layout.proofs.WholeLaws.{whole-stands}
 use Rattle.find.specs.declared.Place.{Place}
 use Rattle.find.specs.Places.{uploadPlace}
 use Rattle.find.proofs.Found.{is-some, is-none}
@@ -98,7 +98,7 @@ module _ (t a : List ℕ) (u : ℕ) (list : Bytes) (place : Place) (place-is : p
   pub missing-judged : place .found ≡ false → 2 ≡ resultOf (outcome (COMMIT u (partList list)) (memory t a))
   missing-judged e = not-open (memory t a) u (partList list) (open-found false e)
 
-  module _ (b : byte.Bytes t) (w : whole t a ≡ true) (e : place .found ≡ true) (r : Bool) (fit-is : (x : Upload) → lookup byNumber u (stateOf t a .U) ≡ some x → r ≡ fits (partList list) (x .parts)) where
+  module _ (b : AreBytes t) (w : whole t a ≡ true) (e : place .found ≡ true) (r : Bool) (fit-is : (x : Upload) → lookup byNumber u (stateOf t a .U) ≡ some x → r ≡ fits (partList list) (x .parts)) where
     valid : Valid (length a) (stateOf t a)
     valid = whole-stands t a b w .valid
 
@@ -115,7 +115,7 @@ module _ (t a : List ℕ) (u : ℕ) (list : Bytes) (place : Place) (place-is : p
 
 -- What `join` asks, and what the machine does ---------------------------------------------------------------------------
 
-module _ (t a : List ℕ) (u : ℕ) (list : Bytes) (w : whole t a ≡ true) (zero-result : resultOf (outcome (COMMIT u (partList list)) (memory t a)) ≡ 0) (b : byte.Bytes t) where
+module _ (t a : List ℕ) (u : ℕ) (list : Bytes) (w : whole t a ≡ true) (zero-result : resultOf (outcome (COMMIT u (partList list)) (memory t a)) ≡ 0) (b : AreBytes t) where
   pub commit-ready : Joinable t a u list
   commit-ready =
       record {

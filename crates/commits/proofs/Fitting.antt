@@ -8,8 +8,8 @@ use native.Mathlib.Omega.{arith}
 use borrow.Author.Tests.{eq-eqb, eqb-true, not-true}
 use lib.Dec.{eqb}
 use lib.ListN.{length}
-use Rattle.number.specs.NumberLaws as byte
-use Rattle.order.specs.OrderLaws.{numbers}
+use Rattle.number.specs.Number.{AreBytes}
+use Rattle.order.proofs.OrderLaws.{numbers}
 use Rattle.machine.specs.Map.{isSome, Map, byNumber, lookup, Ascending, Every}
 use Rattle.machine.specs.Names.{Bytes}
 use Rattle.machine.specs.State.{Part, Upload, State}
@@ -19,7 +19,7 @@ use Rattle.machine.proofs.MapLaws.{every-lookup}
 use Rattle.machine.proofs.Options.{both}
 use Rattle.machine.proofs.Fit.{fits-fit, fit-length, distinct-snoc, found-append}
 use Rattle.layout.specs.Memory.{whole, stateOf, Stands}
-use Rattle.layout.specs.WholeLaws.{whole-stands}
+use Rattle.layout.proofs.WholeLaws.{whole-stands}
 use Rattle.find.specs.declared.Place.{Place}
 use Rattle.find.specs.declared.Parts.{Parts}
 use Rattle.find.specs.Places.{partPlace, partsOf}
@@ -129,7 +129,7 @@ pub upload-ok : (A : ℕ) (s : State) → Valid A s → (u : ℕ) (x : Upload) �
 upload-ok A s v u x f = every-lookup numbers (UploadOk (s .N)) u x (s .U) (v .upload) f
 
 -- what `list_fits` finds in whole memory
-module _ (t a : List ℕ) (b : byte.Bytes t) (w : whole t a ≡ true) (u : ℕ) (parts : Parts) where
+module _ (t a : List ℕ) (b : AreBytes t) (w : whole t a ≡ true) (u : ℕ) (parts : Parts) where
   abbrev s : State
   s = stateOf t a
 

@@ -10,9 +10,9 @@ use borrow.Author.Tests.{le-leb}
 use lib.Dec.{leb}
 use lib.ListN.{length, take, drop, length-drop}
 use lib.Seq.{take-at, length-take-le}
-use Rattle.number.specs.NumberLaws as byte
+use Rattle.number.specs.Number.{AreBytes}
 use Rattle.order.specs.Order.{byBytes}
-use Rattle.order.specs.OrderLaws as order
+use Rattle.order.proofs.OrderLaws as order
 use Rattle.machine.specs.Map.{isSome, byNumber, lookup, insert}
 use Rattle.machine.specs.Names.{Bytes}
 use Rattle.machine.specs.State.{Object, Upload, State, held, counted, withObject, withoutUpload}
@@ -24,7 +24,7 @@ use Rattle.machine.proofs.Counts.{put-counted, commit-counted, held-put}
 use Rattle.row.specs.declared.Head.{Head}
 use Rattle.row.specs.Row.{headAt, headLength, span}
 use Rattle.layout.specs.Memory.{whole, stateOf, Stands}
-use Rattle.layout.specs.WholeLaws.{whole-stands}
+use Rattle.layout.proofs.WholeLaws.{whole-stands}
 use Rattle.find.specs.declared.Place.{Place}
 use Rattle.find.specs.Places.{uploadPlace}
 use Rattle.find.proofs.Found.{is-some}
@@ -53,7 +53,7 @@ module _ (A : ℕ) (s : State) (v : Valid A s) (u : ℕ) (p : Bytes) (y : Object
       ∙ ap (λ (b : Bool). cond b 0 4) same-counted
 
 -- what `commit_room` reads off whole memory
-module _ (t a : List ℕ) (b : byte.Bytes t) (w : whole t a ≡ true) (u : ℕ) (place : Place) (place-is : place ≡ uploadPlace (stateOf t a) u) where
+module _ (t a : List ℕ) (b : AreBytes t) (w : whole t a ≡ true) (u : ℕ) (place : Place) (place-is : place ≡ uploadPlace (stateOf t a) u) where
   abbrev s : State
   s = stateOf t a
 

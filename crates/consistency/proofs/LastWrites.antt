@@ -6,7 +6,7 @@ use mathlib.Core.Bool.{Bool, true, false, cond, false≢true}
 use mathlib.Core.List.{List, [], _∷_, _++_, reverse, reverse-cons, reverse-append, reverse-reverse}
 use mathlib.Core.Option.{Option, none, some}
 use Rattle.order.specs.Order.{byBytes, same}
-use Rattle.order.specs.OrderLaws.{bytes, numbers, same-self, same-true}
+use Rattle.order.proofs.OrderLaws.{bytes, numbers, same-self, same-true}
 use Rattle.machine.specs.Map.{Map, byNumber, lookup, insert, remove, also, Ascending}
 use Rattle.machine.specs.Names.{Bytes}
 use Rattle.machine.specs.State.{Object, Part, Upload, State, fresh}
@@ -18,7 +18,7 @@ use Rattle.machine.specs.Demand3.{lastPart, startOf, joinedFrom}
 use Rattle.consistency.specs.LastWrites.{Change, sets, copies, joins, removes, change, Write, writes, written, isTo, left, lastWrite}
 use Rattle.machine.proofs.MapLaws.{every-lookup, lookup-insert, lookup-insert-other, lookup-remove, lookup-remove-other}
 use Rattle.machine.proofs.Fit.{fit-listed}
-use Rattle.machine.proofs.Outcome.{refused, Then, then-else, then-given, then-object, then-put, then-step}
+use Rattle.machine.proofs.Outcome.{refused-not-accepted, Then, then-else, then-given, then-object, then-put, then-step}
 use Rattle.machine.proofs.KeepsValid.{fresh-valid, final-valid}
 use Rattle.machine.proofs.Commits.{Agrees, fresh-agrees, sent, joined-new}
 use Rattle.machine.proofs.Traces.{final-snoc}
@@ -95,7 +95,7 @@ module _ (A : ℕ) (s : State) (t : Trace) (v : Valid A s) (a : Agrees (s .U) (s
   step-wrote : (c : Call) (p : Bytes) → lookup byBytes p (next A s c .O) ≡ changed p (written was t (c, reply A s c)) (was p)
   step-wrote c p =
       then-step _ (λ r s′. lookup byBytes p (s′ .O) ≡ changed p (written was t (c, r)) (was p)) s (lent c) (act A s c) (act-changes A s c)
-      (λ n. w p ∙ ap (λ (x : Bool). changed p (cond x (also (change c) (writes was t)) none) (was p)) (sym (refused (lent c) n))) (λ r out s′ h. wrote (change c) (s′ .O) h p)
+      (λ n. w p ∙ ap (λ (x : Bool). changed p (cond x (also (change c) (writes was t)) none) (was p)) (sym (refused-not-accepted (lent c) n))) (λ r out s′ h. wrote (change c) (s′ .O) h p)
 
 -- A list of calls -----------------------------------------------------------------------------------------------------------------
 

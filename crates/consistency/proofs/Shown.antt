@@ -7,7 +7,7 @@ use mathlib.Core.Option.{Option, none, some}
 use lib.Dec.{leb}
 use lib.ListN.{length, drop}
 use Rattle.order.specs.Order.{byBytes}
-use Rattle.order.specs.OrderLaws.{bytes}
+use Rattle.order.proofs.OrderLaws.{bytes}
 use Rattle.machine.specs.Map.{Map, lookup, records}
 use Rattle.machine.specs.Names.{Bytes, requestPathOk}
 use Rattle.machine.specs.State.{Object, State, fresh}

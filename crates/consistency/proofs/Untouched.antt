@@ -4,7 +4,7 @@ use mathlib.Core.Path.{_≡_, sym, ap, _∙_}
 use mathlib.Core.Bool.{true}
 use mathlib.Core.List.{[], _∷_, _++_, append-nil, append-assoc}
 use mathlib.Core.Option.{none}
-use Rattle.order.specs.OrderLaws.{same-self}
+use Rattle.order.proofs.OrderLaws.{same-self}
 use Rattle.machine.specs.Names.{Bytes}
 use Rattle.machine.specs.Calls.{Call, PUT, DELETE, COPY, COMMIT, Reply}
 use Rattle.machine.specs.Lists.{Trace}

@@ -6,7 +6,7 @@ use mathlib.Core.List.{List, []}
 use mathlib.Core.Option.{some}
 use native.Mathlib.Omega.{arith}
 use lib.ListN.{length, take, drop}
-use Rattle.number.specs.NumberLaws as byte
+use Rattle.number.specs.Number.{AreBytes}
 use Rattle.md5.specs.declared.words.Digest.{Digest}
 use Rattle.md5.specs.Md5.{md5}
 use Rattle.order.specs.Order.{byBytes}
@@ -21,7 +21,7 @@ use Rattle.row.specs.declared.Head.{Head}
 use Rattle.row.specs.Row.{encodeRows, contentsOf, headAt, numbersLength}
 use Rattle.layout.specs.Header.{headerLength}
 use Rattle.layout.specs.Memory.{objectRow, whole, stateOf, Stands, arenaMost}
-use Rattle.layout.specs.WholeLaws.{whole-stands}
+use Rattle.layout.proofs.WholeLaws.{whole-stands}
 use Rattle.find.specs.declared.Place.{Place}
 use Rattle.find.specs.Places.{beforeObject, afterObject, objectPlace}
 use Rattle.find.proofs.Splits.{object-found}
@@ -35,7 +35,7 @@ use Rattle.calls.proofs.Judging.{result-pass, result-stop, passed, result-found
 use Rattle.copies.specs.Source.{sourceOutcome}
 
 -- the source, read off whole memory
-module _ (t a p : List ℕ) (b : byte.Bytes t) (w : whole t a ≡ true) (place : Place) (place-is : place ≡ objectPlace (stateOf t a) p) (there : isSome (lookup byBytes p (stateOf t a .O)) ≡ true) where
+module _ (t a p : List ℕ) (b : AreBytes t) (w : whole t a ≡ true) (place : Place) (place-is : place ≡ objectPlace (stateOf t a) p) (there : isSome (lookup byBytes p (stateOf t a .O)) ≡ true) where
   abbrev s : State
   s = stateOf t a
 
@@ -128,7 +128,7 @@ module _ (m : Memory) (t : ℕ) (p q : Bytes) where
 
 module _ (tables arena p q : List ℕ) (t : ℕ) (digest : Digest) (w : whole tables arena ≡ true) (zero-result : resultOf (outcome (COPY t p q) (memory tables arena)) ≡ 0)
     (e : digest ≡ md5 (contentAt (stateOf tables arena) p)) where
-  pub copy-ready : byte.Bytes tables → Copiable tables arena t digest p q
+  pub copy-ready : AreBytes tables → Copiable tables arena t digest p q
   copy-ready b =
       record {
         is-whole = w;

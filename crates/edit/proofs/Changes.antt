@@ -5,7 +5,7 @@ use mathlib.Core.List.{List, [], _∷_, _++_, append-assoc}
 use mathlib.Core.Option.{none, some}
 use lib.ListN.{take, drop}
 use Rattle.order.specs.Order.{byBytes}
-use Rattle.order.specs.OrderLaws.{numbers, bytes, compare-above}
+use Rattle.order.proofs.OrderLaws.{numbers, bytes, compare-above}
 use Rattle.machine.specs.Map.{Map, byNumber, lookup, insert, remove, place, Every}
 use Rattle.machine.specs.Names.{Bytes}
 use Rattle.machine.specs.State.{Object, Part, Upload, State, withObject, withoutObject, withUpload, withoutUpload, withPart}
@@ -45,7 +45,7 @@ module _ (s : State) (p : Bytes) where
 
 -- Uploads ----------------------------------------------------------------------------------------------------------------
 
--- a number that is above those of all uploads stands behind them
+-- a number that is above those of all uploads stands after them
 above-all : (N : ℕ) (us : Map ℕ Upload) (x : Upload) → Every (UploadOk N) us → insert byNumber N x us ≡ us ++ ((N, x) ∷ [])
 above-all N [] x v = refl
 above-all N (e ∷ us) x v = rw (compare-above N (e .0) (v .0 .high)) (ap (λ (m : Map ℕ Upload). e ∷ m) (above-all N us x (v .1)))

@@ -8,12 +8,12 @@ use Rattle.machine.specs.Map.{Map, Every, total}
 use Rattle.machine.specs.Names.{Bytes}
 use Rattle.machine.specs.State.{Object, Part, Upload, State, partsIn}
 use Rattle.machine.specs.Valid.{ObjectOk, UploadOk, Valid}
-use Rattle.row.specs.Row.{encodeRow, encodeRows, headLength, longestRow}
-use Rattle.row.specs.RowLaws.{EncodableAll, length-row, encode-append, encodable-left, encodable-right}
+use Rattle.row.specs.Row.{encodeRow, encodeRows, headLength, longestRow, EncodableAll}
+use Rattle.row.proofs.RowLaws.{length-row, encode-append, encodable-left, encodable-right}
 use Rattle.layout.specs.Header.{headerLength}
 use Rattle.layout.specs.Memory.{objectRow, objectRows, uploadRow, partRow, partRows, uploadRows, rowsOf, arenaMost, tablesLength}
-use Rattle.layout.specs.TestLaws.{stored-path-length}
-use Rattle.layout.specs.StandsLaws.{rows-encodable}
+use Rattle.layout.proofs.TestLaws.{stored-path-length}
+use Rattle.layout.proofs.StandsLaws.{rows-encodable}
 
 objects-most : (m : Map Bytes Object) → EncodableAll (objectRows m) → Every ObjectOk m → length (encodeRows (objectRows m)) ≤ longestRow * length m
 unfolding objectRows encodeRows

@@ -3,7 +3,7 @@ use Prim.Native.Nat.{Ordering}
 use mathlib.Core.Path.{_≡_, refl, sym, ap, subst}
 use mathlib.Core.List.{[], _∷_}
 use mathlib.Core.Option.{none, some}
-use Rattle.order.specs.OrderLaws.{cases, Lawful}
+use Rattle.order.proofs.OrderLaws.{cases, Lawful}
 use Rattle.machine.specs.Map.{Map, lookup, insert, remove, Above, Ascending}
 use Rattle.machine.proofs.MapSplits.{insert-above}
 

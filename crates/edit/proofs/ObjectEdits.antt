@@ -8,11 +8,11 @@ use native.Mathlib.Omega.{arith}
 use lib.ListN.{length, take, drop}
 use lib.Seq.{length-take-le}
 use lib.ListN.{length-drop}
-use Rattle.number.specs.NumberLaws.{Bytes}
+use Rattle.number.specs.Number.{AreBytes}
 use Rattle.md5.specs.declared.words.Digest.{Digest}
 use Rattle.md5.specs.Md5.{bytesOf}
 use Rattle.order.specs.Order.{byBytes}
-use Rattle.order.specs.OrderLaws.{bytes}
+use Rattle.order.proofs.OrderLaws.{bytes}
 use Rattle.buffer.specs.Buffer.{spliced, rotated}
 use Rattle.machine.specs.Map.{isSome, lookup}
 use Rattle.machine.specs.State.{Object, State, held, withObject, withoutObject}
@@ -21,14 +21,13 @@ use Rattle.machine.proofs.MapSums.{length-insert, length-remove}
 use Rattle.machine.proofs.MapLaws.{lookup-insert, every-lookup}
 use Rattle.machine.proofs.KeepsValid.{without-object-valid}
 use Rattle.row.specs.declared.Head.{Head}
-use Rattle.row.specs.Row.{encodeRows, contentsOf, headAt, headOf, rowBytes, headLength, span}
-use Rattle.row.specs.RowLaws.{Encodable}
+use Rattle.row.specs.Row.{encodeRows, contentsOf, headAt, headOf, rowBytes, headLength, span, Encodable}
 use Rattle.layout.specs.declared.Header.{Header}
 use Rattle.layout.specs.Memory.{rowsOf, objectRow, whole, stateOf, Stands}
-use Rattle.layout.specs.TestLaws.{stored-path-length}
-use Rattle.layout.specs.ObjectLaws.{Etagged, etagged, object-encodable}
-use Rattle.layout.specs.WholeLaws.{whole-stands}
-use Rattle.layout.specs.StandsLaws.{header-back}
+use Rattle.layout.proofs.TestLaws.{stored-path-length}
+use Rattle.layout.proofs.ObjectLaws.{Etagged, etagged, object-encodable}
+use Rattle.layout.proofs.WholeLaws.{whole-stands}
+use Rattle.layout.proofs.StandsLaws.{header-back}
 use Rattle.layout.specs.declared.Offset.{Offset}
 use Rattle.layout.specs.Header.{headerOf, headed, headerAt, headerLength}
 use Rattle.find.specs.declared.Place.{Place}
@@ -43,7 +42,7 @@ use Rattle.edit.proofs.OneRow as row
 abbrev pub withObjects : Header → ℕ → Header
 withObjects h n = record { arena = h .arena; next = h .next; objects = n; uploads = h .uploads; parts = h .parts }
 
-module _ (t a : List ℕ) (b : Bytes t) (w : whole t a ≡ true) where
+module _ (t a : List ℕ) (b : AreBytes t) (w : whole t a ≡ true) where
   abbrev s : State
   s = stateOf t a
 

@@ -8,11 +8,11 @@ use Rattle.machine.specs.State.{State, held}
 use Rattle.machine.specs.Valid.{Valid}
 use Rattle.buffer.specs.Buffer.{spliced, rotated}
 use Rattle.row.specs.declared.Head.{Head}
-use Rattle.row.specs.Row.{Row, encodeRow, encodeRows, contentsOf, headAt, headOf, rowBytes, headLength, span}
-use Rattle.row.specs.RowLaws.{Encodable, length-row, encode-append, contents-append}
+use Rattle.row.specs.Row.{Row, encodeRow, encodeRows, contentsOf, headAt, headOf, rowBytes, headLength, span, Encodable}
+use Rattle.row.proofs.RowLaws.{length-row, encode-append, contents-append}
 use Rattle.layout.specs.declared.Header.{Header}
 use Rattle.layout.specs.Memory.{rowsOf, Stands}
-use Rattle.layout.specs.RowCounts.{length-contents}
+use Rattle.layout.proofs.RowCounts.{length-contents}
 use Rattle.layout.specs.Header.{headerOf, headed, headerLength}
 use Rattle.find.proofs.RowsAt.{At, row-at}
 use Rattle.edit.proofs.Fit.{tables-fit}
@@ -73,7 +73,7 @@ module _ (t a : List ℕ) (s : State) (h : Stands t a s) (xs : List Row) (r : Ro
           removed t a s h s′ valid (spliced t at (span head) used []) t′ a′ header is e l l′ xs (r ∷ []) ys at (span head) used base (head .size) end split split′
           at-is n-is used-is refl base-is m-is end-is e′
 
-  -- the row r put in; its data stand behind the last byte held
+  -- the row r put in; its data stand after the last byte held
   module _ (split : rowsOf s ≡ xs ++ ys) (s′ : State) (valid : Valid (length a) s′) (split′ : rowsOf s′ ≡ xs ++ (r ∷ ys)) (path : length (r .path) ≤ 128)
       (encodable : Encodable r) (content : take (length (r .content)) (drop (held s) a) ≡ r .content) (room : held s + length (r .content) ≤ length a) where
     old-length : length (encodeRows (rowsOf s)) ≡ length (encodeRows xs) + length (encodeRows ys)

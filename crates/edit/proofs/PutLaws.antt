@@ -6,10 +6,10 @@ use mathlib.Core.List.{List}
 use native.Mathlib.Omega.{arith}
 use lib.ListN.{length, take, drop}
 use Rattle.md5.specs.declared.words.Digest.{Digest}
-use Rattle.number.specs.NumberLaws.{Bytes}
+use Rattle.number.specs.Number.{AreBytes}
 use Rattle.number.proofs.Fields.{over}
 use Rattle.order.specs.Order.{byBytes}
-use Rattle.order.specs.OrderLaws.{bytes}
+use Rattle.order.proofs.OrderLaws.{bytes}
 use Rattle.machine.specs.Map.{isSome, Map, lookup}
 use Rattle.machine.specs.State.{Object, State, held, withO, withObject, withoutObject}
 use Rattle.machine.specs.Valid.{Valid}
@@ -18,9 +18,9 @@ use Rattle.machine.proofs.Counts.{held-put, held-delete}
 use Rattle.row.specs.Row.{contentsOf}
 use Rattle.layout.specs.Rules.{plainKind}
 use Rattle.layout.specs.Memory.{rowsOf, whole, stateOf, Stands}
-use Rattle.layout.specs.RowCounts.{length-contents}
-use Rattle.layout.specs.WholeLaws.{whole-stands}
-use Rattle.layout.specs.StandsLaws.{stands-state, stands-whole}
+use Rattle.layout.proofs.RowCounts.{length-contents}
+use Rattle.layout.proofs.WholeLaws.{whole-stands}
+use Rattle.layout.proofs.StandsLaws.{stands-state, stands-whole}
 use Rattle.layout.specs.declared.Offset.{Offset}
 use Rattle.find.specs.declared.Place.{Place}
 use Rattle.find.specs.Places.{behind, objectPlace}
@@ -35,11 +35,11 @@ unfolding objectPlace
 place-found s p place b is e = sym (ap (λ (x : Place). x .found) is) ∙ e
 
 -- taking out an object that is not there changes nothing
-pub free-already : (t a p : List ℕ) → Bytes t → whole t a ≡ true → isSome (lookup byBytes p (stateOf t a .O)) ≡ false → Stands t a (withoutObject (stateOf t a) p)
+pub free-already : (t a p : List ℕ) → AreBytes t → whole t a ≡ true → isSome (lookup byBytes p (stateOf t a .O)) ≡ false → Stands t a (withoutObject (stateOf t a) p)
 free-already t a p b w e =
     subst (λ (m : Map (List ℕ) Object). Stands t a (withO (stateOf t a) m)) (sym (remove-absent bytes p (stateOf t a .O) (is-none _ e))) (whole-stands t a b w)
 
--- memory t₁, a₁ stands for s without the object at p; content then goes behind the last byte held
+-- memory t₁, a₁ stands for s without the object at p; content then goes after the last byte held
 module _ (s : State) (p content : List ℕ) (stamp : ℕ) (digest : Digest) (A : ℕ) (v : Valid A s) (valid : Valid A (withObject s p (plainWith stamp digest content)))
     (t₁ a₁ : List ℕ) (h : Stands t₁ a₁ (withoutObject s p)) (keeps : length a₁ ≡ A)
     (end : Offset) (end-is : end ≡ behind (rowsOf (stateOf t₁ a₁))) where

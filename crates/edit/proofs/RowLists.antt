@@ -9,7 +9,7 @@ use Rattle.machine.specs.State.{State}
 use Rattle.buffer.specs.Buffer.{spliced, rotated}
 use Rattle.buffer.proofs.Live.{spliced-live, rotated-live}
 use Rattle.row.specs.Row.{Row, encodeRows, contentsOf}
-use Rattle.row.specs.RowLaws.{encode-append, contents-append}
+use Rattle.row.proofs.RowLaws.{encode-append, contents-append}
 use Rattle.layout.specs.declared.Header.{Header}
 use Rattle.layout.specs.Header.{headerOf, headerBytes, headed, encodeHeader, headerLength}
 
@@ -46,7 +46,7 @@ module _ (xs ys ys′ zs : List Row) where
       (contents-append₃ xs ys′ zs ∙ ap (λ (r : List ℕ). contentsOf xs ++ (r ++ contentsOf zs)) (sym is))
       refl refl refl e
 
--- data d behind the last byte held comes to stand where rows ys are put in
+-- data d after the last byte held comes to stand where rows ys are put in
 pub data-rotated : (xs ys zs : List Row) (a a′ d free : List ℕ) → a ≡ contentsOf (xs ++ zs) ++ (d ++ free) → d ≡ contentsOf ys
     → a′ ≡ rotated a (length (contentsOf xs)) (length (contentsOf zs)) (length d) → a′ ≡ contentsOf (xs ++ (ys ++ zs)) ++ free
 data-rotated xs ys zs a a′ d free told is e =

@@ -12,14 +12,14 @@ use Rattle.buffer.specs.Buffer.{spliced, rotated}
 use Rattle.row.specs.Row.{Row, encodeRow, encodeRows, contentsOf}
 use Rattle.layout.specs.declared.Header.{Header}
 use Rattle.layout.specs.Memory.{rowsOf, Stands}
-use Rattle.layout.specs.RowCounts.{length-contents}
-use Rattle.layout.specs.StandsLaws.{length-header}
+use Rattle.layout.proofs.RowCounts.{length-contents}
+use Rattle.layout.proofs.StandsLaws.{length-header}
 use Rattle.layout.specs.Header.{headerOf, headed, encodeHeader, headerLength}
 use Rattle.edit.proofs.RowLists.{rows-spliced, data-spliced, data-rotated, header-written}
 
 module _ (t a : List ℕ) (s : State) (h : Stands t a s) (s′ : State) (valid : Valid (length a) s′) (t₁ t′ a′ : List ℕ) (header : Header)
     (is : header ≡ headerOf (length a) s′) (e : t′ ≡ headed t₁ header) (keeps : length t′ ≡ length t) (keeps-arena : length a′ ≡ length a) where
-  -- tables t₁ with the rows of s′ behind the old header, and an arena with their data
+  -- tables t₁ with the rows of s′ after the old header, and an arena with their data
   standing : (free arena-free : List ℕ) → t₁ ≡ encodeHeader (length a) s ++ (encodeRows (rowsOf s′) ++ free) → a′ ≡ contentsOf (rowsOf s′) ++ arena-free → Stands t′ a′ s′
   standing free arena-free told told′ =
       let u = header-written (length a) s s′ t₁ t′ (encodeRows (rowsOf s′) ++ free) header (length-header (length a) s (h .small) (h .valid)) told is e in
@@ -49,7 +49,7 @@ module _ (t a : List ℕ) (s : State) (h : Stands t a s) (s′ : State) (valid :
       ∙ ap (λ (rs : List Row). encodeHeader (length a) s ++ (encodeRows rs ++ drop (headerLength + length (encodeRows (xs ++ zs))) t)) (sym split′))
       (data-spliced xs ys [] zs a a′ (h .arena-free) [] told′ refl cut₂ ∙ ap (λ (rs : List Row). contentsOf rs ++ drop (length (contentsOf (xs ++ zs))) a) (sym split′))
 
-  -- the row r put in; its data stood behind the last byte held
+  -- the row r put in; its data stood after the last byte held
   pub inserted : (xs : List Row) (r : Row) (zs : List Row) (at used base left : ℕ) (src : List ℕ) → rowsOf s ≡ xs ++ zs → rowsOf s′ ≡ xs ++ (r ∷ zs)
       → src ≡ encodeRow r
       → at ≡ headerLength + length (encodeRows xs) → used ≡ headerLength + length (encodeRows (rowsOf s)) → t₁ ≡ spliced t at 0 used src

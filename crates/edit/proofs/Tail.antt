@@ -1,4 +1,4 @@
--- Bytes written behind the last byte held: memory stands for the same state. Assumes nothing.
+-- Bytes written after the last byte held: memory stands for the same state. Assumes nothing.
 use Prim.Native.Nat.{ℕ, _+_}
 use mathlib.Core.Path.{_≡_, refl, sym, ap, _∙_, subst}
 use mathlib.Core.List.{List, _++_, append-assoc}
@@ -10,7 +10,7 @@ use Rattle.machine.specs.Valid.{Valid}
 use Rattle.number.proofs.Fields.{over}
 use Rattle.row.specs.Row.{encodeRows, contentsOf}
 use Rattle.layout.specs.Memory.{rowsOf, Stands}
-use Rattle.layout.specs.RowCounts.{length-contents}
+use Rattle.layout.proofs.RowCounts.{length-contents}
 use Rattle.layout.specs.Header.{encodeHeader}
 
 module _ (t a : List ℕ) (s : State) (h : Stands t a s) (a′ d : List ℕ) (n : ℕ) (e : a′ ≡ over a (held s) d n) (keeps : length a′ ≡ length a) where

@@ -1,4 +1,4 @@
--- An object whose data stand behind the last byte held. Assumes nothing.
+-- An object whose data stand after the last byte held. Assumes nothing.
 use Prim.Native.Nat.{ℕ, _+_, _≤_}
 use mathlib.Core.Path.{_≡_}
 use mathlib.Core.Bool.{true, cond}
@@ -15,11 +15,11 @@ use Rattle.machine.specs.Etags.{plain}
 use Rattle.machine.specs.State.{Object, held, withObject}
 use Rattle.machine.specs.Valid.{Valid}
 use Rattle.layout.specs.Rules.{plainKind, joinedKind, partsMost}
-use Rattle.layout.specs.Memory.{whole, stateOf, etagOf}
+use Rattle.layout.specs.Memory.{whole, stateOf, rowEtag}
 
 unfoldable pub objectBehind : (t a : List ℕ) (stamp kind count : ℕ) (digest : Digest) (size : ℕ) → Object
 objectBehind t a stamp kind count digest size =
-    record { content = take size (drop (held (stateOf t a)) a); created = stamp; etag = etagOf kind (bytesOf digest) count }
+    record { content = take size (drop (held (stateOf t a)) a); created = stamp; etag = rowEtag kind (bytesOf digest) count }
 
 -- an object with a plain etag
 abbrev pub plainWith : (stamp : ℕ) (digest : Digest) (content : List ℕ) → Object

@@ -36,7 +36,7 @@ pub fn remove_object(tables: &mut [u8], arena: &mut [u8], path: &[u8])
     buffer::remove(arena, base, m, end.base);
 }
 
-// An object put in at a path that has none; its data, `size` bytes, stand behind the last byte held.
+// An object put in at a path that has none; its data, `size` bytes, stand after the last byte held.
 pub fn add_object(
     tables: &mut [u8],
     arena: &mut [u8],

@@ -6,11 +6,11 @@ use mathlib.Core.List.{List, _++_}
 use mathlib.Core.Option.{some}
 use native.Mathlib.Omega.{arith}
 use lib.ListN.{length, take, drop}
-use Rattle.number.specs.NumberLaws.{Bytes}
+use Rattle.number.specs.Number.{AreBytes}
 use Rattle.number.proofs.Fields.{over}
 use Rattle.md5.specs.declared.words.Digest.{Digest}
 use Rattle.order.specs.Order.{byBytes, same}
-use Rattle.order.specs.OrderLaws.{bytes, same-self}
+use Rattle.order.proofs.OrderLaws.{bytes, same-self}
 use Rattle.machine.specs.Map.{lookup}
 use Rattle.machine.specs.State.{Object, State, withObject, withoutObject}
 use Rattle.machine.specs.Valid.{Valid}
@@ -19,8 +19,8 @@ use Rattle.row.specs.declared.Head.{Head}
 use Rattle.row.specs.Row.{encodeRows, contentsOf, headAt, headLength}
 use Rattle.layout.specs.Rules.{plainKind}
 use Rattle.layout.specs.Memory.{rowsOf, objectRow, stateOf, Stands}
-use Rattle.layout.specs.WholeLaws.{whole-stands}
-use Rattle.layout.specs.StandsLaws.{stands-state}
+use Rattle.layout.proofs.WholeLaws.{whole-stands}
+use Rattle.layout.proofs.StandsLaws.{stands-state}
 use Rattle.layout.specs.declared.Offset.{Offset}
 use Rattle.layout.specs.Header.{headerLength}
 use Rattle.find.specs.declared.Place.{Place}
@@ -32,7 +32,7 @@ use Rattle.edit.specs.Objects.{objectBehind, plainWith, Addable}
 use Rattle.edit.proofs.PutLaws.{put-room, put-addable, put-stands}
 use Rattle.edit_copy.specs.Copy.{contentIn, contentAt, Copiable}
 
-module _ (t a p q : List ℕ) (b : Bytes t) (stamp : ℕ) (digest : Digest) (pre : Copiable t a stamp digest p q) (other : same p q ≡ false)
+module _ (t a p q : List ℕ) (b : AreBytes t) (stamp : ℕ) (digest : Digest) (pre : Copiable t a stamp digest p q) (other : same p q ≡ false)
     (t₁ a₁ : List ℕ) (h : Stands t₁ a₁ (withoutObject (stateOf t a) q)) (keeps : length a₁ ≡ length a)
     (end : Offset) (end-is : end ≡ behind (rowsOf (stateOf t₁ a₁))) (place : Place) (place-is : place ≡ objectPlace (stateOf t₁ a₁) p) where
   abbrev s : State

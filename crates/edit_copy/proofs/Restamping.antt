@@ -5,11 +5,11 @@ use mathlib.Core.List.{List, [], _∷_, _++_, append-nil}
 use mathlib.Core.Option.{some}
 use native.Mathlib.Omega.{arith}
 use lib.ListN.{length, drop, length-append}
-use Rattle.number.specs.NumberLaws.{Bytes}
+use Rattle.number.specs.Number.{AreBytes}
 use Rattle.md5.specs.declared.words.Digest.{Digest}
 use Rattle.md5.specs.Md5.{bytesOf}
 use Rattle.order.specs.Order.{byBytes}
-use Rattle.order.specs.OrderLaws.{bytes}
+use Rattle.order.proofs.OrderLaws.{bytes}
 use Rattle.buffer.specs.Buffer.{spliced}
 use Rattle.machine.specs.Map.{lookup}
 use Rattle.machine.specs.State.{Object, State, withObject}
@@ -18,13 +18,13 @@ use Rattle.machine.proofs.MapSums.{length-insert}
 use Rattle.machine.proofs.MapLaws.{lookup-insert, every-lookup}
 use Rattle.row.specs.declared.Head.{Head}
 use Rattle.row.specs.Row.{Row, encodeRow, encodeRows, contentsOf, headAt, headOf, rowBytes, headLength}
-use Rattle.row.specs.RowLaws.{length-row, encode-append, contents-append}
+use Rattle.row.proofs.RowLaws.{length-row, encode-append, contents-append}
 use Rattle.layout.specs.declared.Header.{Header}
 use Rattle.layout.specs.Rules.{plainKind}
 use Rattle.layout.specs.Memory.{rowsOf, objectRow, stateOf, Stands}
-use Rattle.layout.specs.TestLaws.{stored-path-length}
-use Rattle.layout.specs.WholeLaws.{whole-stands}
-use Rattle.layout.specs.StandsLaws.{length-header, header-back}
+use Rattle.layout.proofs.TestLaws.{stored-path-length}
+use Rattle.layout.proofs.WholeLaws.{whole-stands}
+use Rattle.layout.proofs.StandsLaws.{length-header, header-back}
 use Rattle.layout.specs.declared.Offset.{Offset}
 use Rattle.layout.specs.Header.{headerOf, headed, encodeHeader, headerAt, headerLength}
 use Rattle.find.specs.declared.Place.{Place}
@@ -42,7 +42,7 @@ contents-cons : (r r′ : Row) (rs : List Row) → r .content ≡ r′ .content 
 unfolding contentsOf
 contents-cons r r′ rs e = ap (λ (d : List ℕ). d ++ contentsOf rs) e
 
-module _ (t a p : List ℕ) (b : Bytes t) (stamp : ℕ) (digest : Digest) (pre : Copiable t a stamp digest p p) (place : Place) (place-is : place ≡ objectPlace (stateOf t a) p)
+module _ (t a p : List ℕ) (b : AreBytes t) (stamp : ℕ) (digest : Digest) (pre : Copiable t a stamp digest p p) (place : Place) (place-is : place ≡ objectPlace (stateOf t a) p)
     (end : Offset) (end-is : end ≡ behind (rowsOf (stateOf t a))) where
   abbrev s : State
   s = stateOf t a

@@ -7,10 +7,10 @@ use mathlib.Core.Option.{none, some}
 use native.Mathlib.Omega.{arith}
 use lib.ListN.{length, take, drop, length-drop}
 use lib.Seq.{length-take-le}
-use Rattle.number.specs.NumberLaws.{Bytes}
+use Rattle.number.specs.Number.{AreBytes}
 use Rattle.md5.specs.declared.words.Digest.{Digest}
 use Rattle.md5.specs.Md5.{bytesOf}
-use Rattle.order.specs.OrderLaws.{numbers}
+use Rattle.order.proofs.OrderLaws.{numbers}
 use Rattle.buffer.specs.Buffer.{spliced, rotated}
 use Rattle.machine.specs.Map.{isSome, byNumber, lookup, total}
 use Rattle.machine.specs.State.{Part, Upload, State, held, partsIn, withUpload, withPart}
@@ -18,14 +18,13 @@ use Rattle.machine.specs.Valid.{Valid, PartOk, UploadOk}
 use Rattle.machine.proofs.MapLaws.{lookup-insert, every-lookup}
 use Rattle.machine.proofs.Counts.{parts-part}
 use Rattle.row.specs.declared.Head.{Head}
-use Rattle.row.specs.Row.{encodeRows, contentsOf, headAt, headOf, rowBytes, headLength, span}
-use Rattle.row.specs.RowLaws.{Encodable}
+use Rattle.row.specs.Row.{encodeRows, contentsOf, headAt, headOf, rowBytes, headLength, span, Encodable}
 use Rattle.layout.specs.declared.Header.{Header}
 use Rattle.layout.specs.Rules.{partKind}
 use Rattle.layout.specs.Memory.{rowsOf, partRow, whole, stateOf, Stands}
-use Rattle.layout.specs.UploadLaws.{part-encodable}
-use Rattle.layout.specs.WholeLaws.{whole-stands}
-use Rattle.layout.specs.StandsLaws.{header-back}
+use Rattle.layout.proofs.UploadLaws.{part-encodable}
+use Rattle.layout.proofs.WholeLaws.{whole-stands}
+use Rattle.layout.proofs.StandsLaws.{header-back}
 use Rattle.layout.specs.declared.Offset.{Offset}
 use Rattle.layout.specs.Header.{headerOf, headed, headerAt, headerLength}
 use Rattle.find.specs.declared.Place.{Place}
@@ -38,7 +37,7 @@ use Rattle.edit.proofs.OneRow as row
 use Rattle.edit_uploads.specs.Parts.{withoutPart, partBehind}
 use Rattle.edit_uploads.proofs.PartStates.{open-once, same-uploads, parts-without, without-part-valid}
 
-module _ (t a : List ℕ) (b : Bytes t) (w : whole t a ≡ true) (u n : ℕ) (x : Upload) (is-open : lookup byNumber u (stateOf t a .U) ≡ some x)
+module _ (t a : List ℕ) (b : AreBytes t) (w : whole t a ≡ true) (u n : ℕ) (x : Upload) (is-open : lookup byNumber u (stateOf t a .U) ≡ some x)
     (place : Place) (place-is : (y : Upload) → lookup byNumber u (stateOf t a .U) ≡ some y → place ≡ partPlace (stateOf t a) u y n)
     (end : Offset) (end-is : end ≡ behind (rowsOf (stateOf t a))) (header : Header) (read : header ≡ headerAt t) where
   abbrev s : State

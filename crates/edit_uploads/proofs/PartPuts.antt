@@ -7,9 +7,9 @@ use mathlib.Core.Option.{none, some}
 use native.Mathlib.Omega.{arith}
 use lib.ListN.{length, take, drop}
 use Rattle.md5.specs.declared.words.Digest.{Digest}
-use Rattle.number.specs.NumberLaws.{Bytes}
+use Rattle.number.specs.Number.{AreBytes}
 use Rattle.number.proofs.Fields.{over}
-use Rattle.order.specs.OrderLaws.{cases, Lawful, numbers}
+use Rattle.order.proofs.OrderLaws.{cases, Lawful, numbers}
 use Rattle.machine.specs.Map.{isSome, Map, byNumber, lookup, insert}
 use Rattle.machine.specs.State.{Part, Upload, State, held, withU, withUpload, withPart}
 use Rattle.machine.specs.Valid.{UploadOk, Valid}
@@ -17,9 +17,9 @@ use Rattle.machine.proofs.MapLaws.{lookup-insert, lookup-remove, insert-there, 
 use Rattle.machine.proofs.Counts.{held-part}
 use Rattle.row.specs.Row.{contentsOf}
 use Rattle.layout.specs.Memory.{rowsOf, whole, stateOf, Stands}
-use Rattle.layout.specs.RowCounts.{length-contents}
-use Rattle.layout.specs.WholeLaws.{whole-stands}
-use Rattle.layout.specs.StandsLaws.{stands-state, stands-whole}
+use Rattle.layout.proofs.RowCounts.{length-contents}
+use Rattle.layout.proofs.WholeLaws.{whole-stands}
+use Rattle.layout.proofs.StandsLaws.{stands-state, stands-whole}
 use Rattle.layout.specs.declared.Offset.{Offset}
 use Rattle.find.specs.declared.Place.{Place}
 use Rattle.find.specs.Places.{behind, partPlace}
@@ -50,7 +50,7 @@ module _ (t a : List ℕ) (w : whole t a ≡ true) (u n : ℕ) (x : Upload) (is-
   free-there e = record { is-whole = w; upload = x; is-open = is-open; there = place-found (stateOf t a) u x n place true (place-is x is-open) e }
 
   -- taking out a part that is not there changes nothing
-  pub free-already : Bytes t → place .found ≡ false → (z : Upload) → lookup byNumber u (stateOf t a .U) ≡ some z → Stands t a (withUpload (stateOf t a) u (withoutPart z n))
+  pub free-already : AreBytes t → place .found ≡ false → (z : Upload) → lookup byNumber u (stateOf t a .U) ≡ some z → Stands t a (withUpload (stateOf t a) u (withoutPart z n))
   free-already b e z open-z =
       let absent : lookup byNumber n (x .parts) ≡ none = is-none _ (place-found (stateOf t a) u x n place false (place-is x is-open) e) in
       let same : withoutPart x n ≡ x = ap (λ (ps : Map ℕ Part). record { path = x .path; started = x .started; parts = ps }) (remove-absent numbers n (x .parts) absent) in
@@ -58,7 +58,7 @@ module _ (t a : List ℕ) (w : whole t a ≡ true) (u n : ℕ) (x : Upload) (is-
       subst (λ (y : Upload). Stands t a (withUpload (stateOf t a) u (withoutPart y n))) (open-once _ x z is-open open-z)
       (subst (λ (m : Map ℕ Upload). Stands t a (withU (stateOf t a) m)) (sym kept) (whole-stands t a b w))
 
--- memory t₁, a₁ stands for s without the part; content then goes behind the last byte held
+-- memory t₁, a₁ stands for s without the part; content then goes after the last byte held
 module _ (s : State) (u n : ℕ) (x : Upload) (is-open : lookup byNumber u (s .U) ≡ some x) (content : List ℕ) (digest : Digest) (A : ℕ) (v : Valid A s)
     (valid : Valid A (withUpload s u (withPart x n (partWith digest content)))) (t₁ a₁ : List ℕ)
     (h : (z : Upload) → lookup byNumber u (s .U) ≡ some z → Stands t₁ a₁ (withUpload s u (withoutPart z n))) (keeps : length a₁ ≡ A)

@@ -4,7 +4,7 @@ use mathlib.Core.Path.{_≡_}
 use mathlib.Core.Option.{Option, some}
 use native.Mathlib.Omega.{arith}
 use lib.ListN.{length}
-use Rattle.order.specs.OrderLaws.{numbers}
+use Rattle.order.proofs.OrderLaws.{numbers}
 use Rattle.machine.specs.Map.{byNumber, lookup, total, owed}
 use Rattle.machine.specs.State.{Part, Upload, State, partLength, partsIn, held, withUpload}
 use Rattle.machine.specs.Valid.{PartOk, UploadOk, Valid}

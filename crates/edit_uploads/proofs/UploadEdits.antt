@@ -6,11 +6,10 @@ use mathlib.Core.List.{List, [], _∷_, _++_, append-assoc, append-nil}
 use mathlib.Core.Option.{none, some}
 use native.Mathlib.Omega.{arith}
 use lib.ListN.{length, take, drop, length-append, take-append-drop}
-use Rattle.number.specs.NumberLaws.{Bytes}
-use Rattle.number.specs.Number.{le}
+use Rattle.number.specs.Number.{le, AreBytes}
 use Rattle.md5.specs.declared.words.Digest.{Digest}
 use Rattle.md5.specs.Md5.{bytesOf}
-use Rattle.order.specs.OrderLaws.{numbers, compare-above}
+use Rattle.order.proofs.OrderLaws.{numbers, compare-above}
 use Rattle.buffer.specs.Buffer.{spliced, rotated}
 use Rattle.machine.specs.Map.{isSome, Map, byNumber, lookup, Every, total}
 use Rattle.machine.specs.State.{Upload, State, held, partsIn, withUpload, withoutUpload, withNext}
@@ -20,16 +19,16 @@ use Rattle.machine.proofs.MapSums.{length-insert, length-remove, total-insert, 
 use Rattle.machine.proofs.MapLaws.{lookup-insert, every-lookup}
 use Rattle.machine.proofs.KeepsValid.{without-upload-valid}
 use Rattle.row.specs.declared.Head.{Head}
-use Rattle.row.specs.Row.{Row, encodeRows, contentsOf, headOf, rowBytes, headLength}
-use Rattle.row.specs.RowLaws.{Encodable, encode-append, contents-append}
+use Rattle.row.specs.Row.{Row, encodeRows, contentsOf, headOf, rowBytes, headLength, Encodable}
+use Rattle.row.proofs.RowLaws.{encode-append, contents-append}
 use Rattle.layout.specs.declared.Header.{Header}
-use Rattle.layout.specs.Rules.{zeros, uploadKind, partsMost}
+use Rattle.layout.specs.Rules.{noDigest, uploadKind, partsMost}
 use Rattle.layout.specs.Memory.{rowsOf, uploadRow, partRows, whole, stateOf, Stands}
-use Rattle.layout.specs.TestLaws.{stored-path-length}
-use Rattle.layout.specs.UploadLaws.{upload-encodable}
-use Rattle.layout.specs.WholeLaws.{whole-stands}
-use Rattle.layout.specs.StandsLaws.{header-back}
-use Rattle.layout.specs.RowCounts.{length-contents}
+use Rattle.layout.proofs.TestLaws.{stored-path-length}
+use Rattle.layout.proofs.UploadLaws.{upload-encodable}
+use Rattle.layout.proofs.WholeLaws.{whole-stands}
+use Rattle.layout.proofs.StandsLaws.{header-back}
+use Rattle.layout.proofs.RowCounts.{length-contents}
 use Rattle.layout.specs.declared.Offset.{Offset}
 use Rattle.layout.specs.Header.{headerOf, headed, headerAt, headerLength}
 use Rattle.find.specs.declared.Place.{Place}
@@ -42,7 +41,7 @@ use Rattle.edit.proofs.Fit.{tables-fit}
 use Rattle.edit.proofs.Standing.{removed}
 use Rattle.edit.proofs.OneRow as row
 
--- no upload has the coming number
+-- no upload has the next number
 no-upload : (N : ℕ) (us : Map ℕ Upload) → Every (UploadOk N) us → lookup byNumber N us ≡ none
 no-upload N [] v = refl
 no-upload N (e ∷ us) v = rw (compare-above N (e .0) (v .0 .high)) (no-upload N us (v .1))
@@ -51,7 +50,7 @@ no-upload N (e ∷ us) v = rw (compare-above N (e .0) (v .0 .high)) (no-upload N
 abbrev zeroDigest : Digest
 zeroDigest = record { a = 0; b = 0; c = 0; d = 0 }
 
-zero-bytes : bytesOf zeroDigest ≡ zeros
+zero-bytes : bytesOf zeroDigest ≡ noDigest
 unfolding bytesOf le
 zero-bytes = refl
 
@@ -62,7 +61,7 @@ rotated-none a at =
     let i : at + 0 + 0 ≡ at = omega arith in
     ap (λ (n : ℕ). rotated a at n 0) z ∙ ap (λ (n : ℕ). take at a ++ drop n a) i ∙ take-append-drop at a
 
-module _ (t a : List ℕ) (b : Bytes t) (w : whole t a ≡ true) (end : Offset) (end-is : end ≡ behind (rowsOf (stateOf t a)))
+module _ (t a : List ℕ) (b : AreBytes t) (w : whole t a ≡ true) (end : Offset) (end-is : end ≡ behind (rowsOf (stateOf t a)))
     (header : Header) (read : header ≡ headerAt t) where
   abbrev s : State
   s = stateOf t a

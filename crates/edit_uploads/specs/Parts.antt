@@ -1,4 +1,4 @@
--- A part taken out of an upload, and a part whose data stand behind the last byte held. Assumes nothing.
+-- A part taken out of an upload, and a part whose data stand after the last byte held. Assumes nothing.
 use Prim.Native.Nat.{ℕ, _+_, _≤_}
 use mathlib.Core.Path.{_≡_}
 use mathlib.Core.Bool.{true}

@@ -33,7 +33,7 @@ fn remove_part(tables: &mut [u8], arena: &mut [u8], upload: u32, number: u16)
     buffer::remove(arena, base, m, end.base);
 }
 
-// A part put in where the upload has none of this number; its data, `size` bytes, stand behind the last byte held.
+// A part put in where the upload has none of this number; its data, `size` bytes, stand after the last byte held.
 fn add_part(
     tables: &mut [u8],
     arena: &mut [u8],

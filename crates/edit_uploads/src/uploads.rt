@@ -11,7 +11,7 @@ ghost use Rattle.machine.specs.Steps.{newUpload};
 ghost use Rattle.machine.specs.Valid.{Valid};
 ghost use Rattle.layout.specs.Memory.{whole, stateOf, Stands};
 
-// An upload without parts, put behind all rows with the coming number. No data change.
+// An upload without parts, put after all rows with the next number. No data change.
 pub fn open_upload(tables: &mut [u8], arena: &[u8], stamp: u64, path: &[u8])
     requires { ⌜ (whole (now tables) (now arena) ≡ true) × Valid (length (now arena)) (withNext (withUpload (stateOf (now tables) (now arena)) (stateOf (now tables) (now arena) .N) (newUpload stamp (now path)))) ⌝ }
     ensures { λ _. ⌜ Stands (now (tables .exit)) (now (arena .entry)) (withNext (withUpload (stateOf (now (tables .entry)) (now (arena .entry))) (stateOf (now (tables .entry)) (now (arena .entry)) .N) (newUpload stamp (now (path .entry))))) ⌝ }

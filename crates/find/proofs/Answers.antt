@@ -13,7 +13,7 @@ use Rattle.row.specs.Row.{Row, encodeRows, contentsOf}
 use Rattle.layout.specs.Rules.{uploadKind, partKind}
 use Rattle.layout.specs.Header.{headerLength}
 use Rattle.layout.specs.Memory.{uploadRow, partRows, rowsOf}
-use Rattle.layout.specs.UploadLaws.{length-part-rows}
+use Rattle.layout.proofs.UploadLaws.{length-part-rows}
 use Rattle.find.specs.declared.RowPlace.{RowPlace}
 use Rattle.find.specs.declared.PassedParts.{PassedParts}
 use Rattle.find.specs.declared.search.Goal.{Goal}
@@ -51,7 +51,7 @@ pub sought-row-place : (g : Goal) (rs : List Row) (p : RowPlace) (i : ℕ) → p
 unfolding sought
 sought-row-place g rs p i e l = is-row-place rs p _ e (omega (arith, reach-length (stopsOf g) (drop i rs), length-drop i rs))
 
--- a place behind the rows xs, where ys are the rest
+-- a place after the rows xs, where ys are the rest
 pub record Behind (rs xs ys : List Row) (p : RowPlace) : Type 0 where
   pub at : p .at ≡ headerLength + length (encodeRows xs)
   pub base : p .base ≡ length (contentsOf xs)
@@ -70,7 +70,7 @@ place-behind rs xs ys p e q =
       rest = ap (λ (i : ℕ). drop i rs) n ∙ ap (drop (length xs)) e ∙ drop-at xs ys (length xs) refl;
     }
 
--- a search from behind the rows xs passes zs
+-- a search from after the rows xs passes zs
 sought-behind : (g : Goal) (rs xs ys zs : List Row) (i : ℕ) → rs ≡ xs ++ ys → i ≡ length xs → reach (stopsOf g) ys ≡ length zs → sought g rs i ≡ rowPlaceAt rs (length (xs ++ zs))
 unfolding sought
 sought-behind g rs xs ys zs i e n r =
@@ -108,7 +108,7 @@ open-within s u e =
     let x = k .0 in
     omega (arith, ap length (upload-found s u x (k .1)), length-append (beforeUpload s u) (uploadRow u x ∷ (partRows (x .parts) ++ afterUpload s u)))
 
--- the place of an open upload's row, and that of the row behind it
+-- the place of an open upload's row, and that of the row after it
 pub open-row-place : (s : State) (u : ℕ) (p : RowPlace) → p ≡ rowPlaceAt (rowsOf s) (length (beforeUpload s u)) → isSome (lookup byNumber u (s .U)) ≡ true → (p ≡ rowPlaceAt (rowsOf s) (p .row)) × (p .row < length (rowsOf s))
 open-row-place s u p e o =
     let l = open-within s u o in
@@ -148,7 +148,7 @@ module _ (s : State) (u : ℕ) (x : Upload) (f : lookup byNumber u (s .U) ≡ so
       let c : p .row - first .row ≡ length ps = omega (arith, first-row, length-append (beforeParts s u x) (partRows ps), length-part-rows ps) in
       λ i. record { count = c i; next = (q ∙ m) i }
 
--- the offset behind the parts
+-- the offset after the parts
 pub parts-answer : (s : State) (u : ℕ) (x : Upload) → lookup byNumber u (s .U) ≡ some x → (p : PassedParts) → p ≡ passedParts s u x
     → record { count = p .count; at = p .next .at; base = p .next .base } ≡ partsOf s u x
 unfolding passedParts partsOf

@@ -1,4 +1,4 @@
--- The row of object i among all rows, and those before and behind it. Assumes nothing.
+-- The row of object i among all rows, and those before and after it. Assumes nothing.
 use Prim.Native.Nat.{ℕ, suc, _+_, _<_}
 use mathlib.Core.Path.{_≡_, ap, _∙_}
 use mathlib.Core.List.{List, [], _∷_, _++_, append-assoc}

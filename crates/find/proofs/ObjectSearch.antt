@@ -16,7 +16,7 @@ use Rattle.row.specs.declared.Head.{Head}
 use Rattle.row.specs.Row.{Row, encodeRows, contentsOf, headAt, headLength, span}
 use Rattle.layout.specs.Header.{headerLength}
 use Rattle.layout.specs.Memory.{objectRows, Stands}
-use Rattle.layout.specs.ObjectLaws.{length-object-rows}
+use Rattle.layout.proofs.ObjectLaws.{length-object-rows}
 use Rattle.find.specs.declared.Place.{Place}
 use Rattle.find.specs.Places.{beforeObject, objectPlace}
 use Rattle.find.proofs.RowsAt.{At, Read, row-at, row-read}

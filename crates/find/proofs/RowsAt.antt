@@ -1,4 +1,4 @@
--- What stands in tables and arena behind some rows of a state, and at a row. Assumes nothing.
+-- What stands in tables and arena after some rows of a state, and at a row. Assumes nothing.
 use Prim.Native.Nat.{ℕ, _+_, _≤_}
 use mathlib.Core.Path.{_≡_, refl, sym, ap, _∙_, subst}
 use mathlib.Core.List.{List, [], _∷_, _++_, append-assoc}
@@ -7,13 +7,13 @@ use lib.ListN.{length, take, drop, length-append}
 use lib.Seq.{take-at, drop-at, drop-drop}
 use Rattle.machine.specs.State.{State}
 use Rattle.row.specs.declared.Head.{Head}
-use Rattle.row.specs.Row.{Row, encodeRow, encodeRows, contentsOf, headAt, digestAt, pathAt, headOf, numbersLength, headLength, span}
-use Rattle.row.specs.RowLaws.{Encodable, EncodableAll, encode-append, contents-append, encodable-right, length-row, head-back, digest-back, path-back}
+use Rattle.row.specs.Row.{Row, encodeRow, encodeRows, contentsOf, headAt, digestAt, pathAt, headOf, numbersLength, headLength, span, Encodable, EncodableAll}
+use Rattle.row.proofs.RowLaws.{encode-append, contents-append, encodable-right, length-row, head-back, digest-back, path-back}
 use Rattle.layout.specs.Memory.{rowsOf, Stands}
-use Rattle.layout.specs.StandsLaws.{rows-encodable, length-header}
+use Rattle.layout.proofs.StandsLaws.{rows-encodable, length-header}
 use Rattle.layout.specs.Header.{encodeHeader, headerLength}
 
--- tables and arena, cut behind the rows xs, where ys are the rest
+-- tables and arena, cut after the rows xs, where ys are the rest
 pub record Cut (t a : List ℕ) (s : State) (h : Stands t a s) (xs ys : List Row) : Type 0 where
   pub before : take (headerLength + length (encodeRows xs)) t ≡ encodeHeader (length a) s ++ encodeRows xs
   pub behind : drop (headerLength + length (encodeRows xs)) t ≡ encodeRows ys ++ h .tables-free
@@ -43,7 +43,7 @@ module _ (t a : List ℕ) (s : State) (h : Stands t a s) (xs ys : List Row) (e :
         arena-inside = omega (arith, ap length arena-cut, length-append (contentsOf xs) (contentsOf ys ++ h .arena-free));
       }
 
--- the row r behind the rows xs: what is read of it, that it stands inside, and where the next row begins
+-- the row r after the rows xs: what is read of it, that it stands inside, and where the next row begins
 pub record At (t a : List ℕ) (s : State) (h : Stands t a s) (xs : List Row) (r : Row) (ys : List Row) : Type 0 where
   pub encodable : Encodable r
   pub row : drop (headerLength + length (encodeRows xs)) t ≡ encodeRow r ++ (encodeRows ys ++ h .tables-free)
@@ -114,7 +114,7 @@ module _ (t a : List ℕ) (s : State) (h : Stands t a s) (xs : List Row) (r : Ro
         arena-next = next-content;
       }
 
--- what the code knows at the row r behind the rows xs, by the head that it read there
+-- what the code knows at the row r after the rows xs, by the head that it read there
 pub record Read (t a : List ℕ) (xs : List Row) (r : Row) (at base : ℕ) (head : Head) : Type 0 where
   pub same : head ≡ headOf r
   pub path : take (head .pathlen) (drop (at + headLength) t) ≡ r .path

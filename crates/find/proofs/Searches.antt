@@ -6,7 +6,7 @@ use mathlib.Core.List.{List, [], _∷_, _++_}
 use native.Mathlib.Omega.{arith}
 use borrow.Author.Tests.{eq-eqb, ne-eqb}
 use lib.ListN.{length, take, drop, length-append}
-use Rattle.order.specs.OrderLaws.{cases, alike, below}
+use Rattle.order.proofs.OrderLaws.{cases, alike, below}
 use Rattle.machine.specs.Map.{isSome, Map, byNumber, lookup, place}
 use Rattle.machine.specs.Names.{Bytes}
 use Rattle.machine.specs.Etags.{Etag, absent, plain, joined}
@@ -65,7 +65,7 @@ upload-leads u (e ∷ m) =
     (λ q. rw (q, eq-eqb (e .0) u (sym (alike u (e .0) q))))
     (λ q. rw q (upload-leads u m))
 
--- to a part, and behind the parts
+-- to a part, and after the parts
 reach-no-part : (n : ℕ) (m : Map ℕ Upload) → reach (stopsOf (goal.Part n)) (uploadRows m) ≡ 0
 unfolding reach uploadRows stopsAt
 reach-no-part n [] = refl

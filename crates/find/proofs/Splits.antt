@@ -1,11 +1,11 @@
--- The rows of a state, split at an object, at an upload, behind its parts, and at a part. Assumes nothing.
+-- The rows of a state, split at an object, at an upload, after its parts, and at a part. Assumes nothing.
 use Prim.Native.Nat.{ℕ, suc}
 use mathlib.Core.Path.{_≡_, refl, sym, ap, _∙_}
 use mathlib.Core.List.{List, [], _∷_, _++_, append-assoc}
 use mathlib.Core.Option.{some}
 use lib.ListN.{take, drop, take-append-drop}
 use Rattle.order.specs.Order.{byBytes}
-use Rattle.order.specs.OrderLaws.{numbers, bytes}
+use Rattle.order.proofs.OrderLaws.{numbers, bytes}
 use Rattle.machine.specs.Map.{Map, byNumber, lookup, place}
 use Rattle.machine.specs.Names.{Bytes}
 use Rattle.machine.specs.State.{Object, Part, Upload, State}
@@ -70,7 +70,7 @@ module _ (s : State) (u : ℕ) (x : Upload) (f : lookup byNumber u (s .U) ≡ so
       ∙ ap (λ (rs : List Row). objectRows (s .O) ++ rs) (upload-rows-append (take i U) ((u, x) ∷ drop (suc i) U))
       ∙ sym (append-assoc (objectRows (s .O)) (uploadRows (take i U)) (uploadRow u x ∷ (partRows (x .parts) ++ uploadRows (drop (suc i) U))))
 
-  -- at its parts, and behind them
+  -- at its parts, and after them
   pub parts-place : rowsOf s ≡ beforeParts s u x ++ (partRows (x .parts) ++ afterUpload s u)
   unfolding beforeParts
   parts-place = upload-found ∙ sym (append-assoc (beforeUpload s u) (uploadRow u x ∷ []) (partRows (x .parts) ++ afterUpload s u))

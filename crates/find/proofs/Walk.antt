@@ -14,7 +14,7 @@ use Rattle.row.specs.declared.Head.{Head}
 use Rattle.row.specs.Row.{Row, encodeRows, contentsOf, headAt, headOf, headLength, span}
 use Rattle.layout.specs.Header.{headerLength}
 use Rattle.layout.specs.Memory.{rowsOf, Stands}
-use Rattle.layout.specs.RowCounts.{length-rows}
+use Rattle.layout.proofs.RowCounts.{length-rows}
 use Rattle.find.specs.declared.RowPlace.{RowPlace}
 use Rattle.find.specs.declared.search.Goal.{Goal}
 use Rattle.find.specs.Search.{reach, stopsAt, stopsOf, rowPlaceAt, sought, leads}

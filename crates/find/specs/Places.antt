@@ -16,7 +16,7 @@ use Rattle.find.specs.declared.Parts.{Parts}
 use Rattle.find.specs.declared.PassedParts.{PassedParts}
 use Rattle.find.specs.Search.{rowPlaceAt}
 
--- where the rows behind rs begin, and their data
+-- where the rows after rs begin, and their data
 abbrev pub behind : List Row → Offset
 behind rs = record { at = headerLength + length (encodeRows rs); base = length (contentsOf rs) }
 
@@ -39,7 +39,7 @@ beforePart s u x n = beforeParts s u x ++ partRows (take (place byNumber n (x .p
 unfoldable pub throughParts : State → ℕ → Upload → List Row
 throughParts s u x = beforeParts s u x ++ partRows (x .parts)
 
--- the rows from the place of an object, of an upload, of a part on, and those behind the object, the upload with its parts, the part
+-- the rows from the place of an object, of an upload, of a part on, and those after the object, the upload with its parts, the part
 unfoldable pub fromObject : State → Bytes → List Row
 fromObject s p = objectRows (drop (place byBytes p (s .O)) (s .O)) ++ uploadRows (s .U)
 

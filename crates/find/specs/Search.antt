@@ -28,11 +28,11 @@ stopsAt (Part n) h = eqb (h .kind) uploadKind || leb n (h .number)
 abbrev pub stopsOf : Goal → Row → Bool
 stopsOf g r = stopsAt g (headOf r)
 
--- the place of row i of rs, counted from 0, or behind them all
+-- the place of row i of rs, counted from 0, or after them all
 unfoldable pub rowPlaceAt : List Row → ℕ → RowPlace
 rowPlaceAt rs i = record { row = i; at = headerLength + length (encodeRows (take i rs)); base = length (contentsOf (take i rs)) }
 
--- p is the place of one of the rows rs, or behind them all
+-- p is the place of one of the rows rs, or after them all
 abbrev pub IsRowPlace : List Row → RowPlace → Type 0
 IsRowPlace rs p = (p ≡ rowPlaceAt rs (p .row)) × (p .row ≤ length rs)
 

@@ -26,7 +26,7 @@ pub struct Place {
     pub base: usize,
 }
 
-// How many parts an upload has, and the offset behind them.
+// How many parts an upload has, and the offset after them.
 pub struct Parts {
     pub count: usize,
     pub at: usize,
@@ -41,7 +41,7 @@ pub struct RowPlace {
     pub base: usize,
 }
 
-// How many parts an upload has, and the place of the row behind them.
+// How many parts an upload has, and the place of the row after them.
 pub struct PassedParts {
     pub count: usize,
     pub next: RowPlace,

@@ -9,7 +9,7 @@ ghost use lib.ListN.{length, drop};
 ghost use Rattle.layout.specs.Memory.{whole, stateOf, rowsOf};
 ghost use Rattle.find.specs.Search.{stopsAt, sought, rowPlaceAt, IsRowPlace, leads};
 
-// Where a search along the rows stops: behind them all; at the upload with a number, or the first above it; at the next
+// Where a search along the rows stops: after them all; at the upload with a number, or the first above it; at the next
 // upload; at the part with a number, the first above it, or the next upload.
 pub(crate) enum Goal {
     End,
@@ -30,7 +30,7 @@ fn stops(h: Head, goal: Goal) -> bool
     }
 }
 
-// The row behind a row.
+// The row after a row.
 pub(crate) fn row_behind(tables: &[u8], arena: &[u8], from: RowPlace) -> RowPlace
     requires { ⌜ (whole (now tables) (now arena) ≡ true) × ((from ≡ rowPlaceAt (rowsOf (stateOf (now tables) (now arena))) (from .row)) × (from .row < length (rowsOf (stateOf (now tables) (now arena))))) ⌝ }
     ensures { λ r. ⌜ r ≡ rowPlaceAt (rowsOf (stateOf (now (tables .entry)) (now (arena .entry)))) (from .row + 1) ⌝ }

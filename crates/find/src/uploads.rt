@@ -32,7 +32,7 @@ pub fn upload_row(tables: &[u8], arena: &[u8], upload: u32) -> RowPlace
     seek(tables, arena, first, Goal::Upload(upload))
 }
 
-// The row behind that of an open upload: its first part's, where it has one.
+// The row after that of an open upload: its first part's, where it has one.
 pub fn parts_row(tables: &[u8], arena: &[u8], upload: u32) -> RowPlace
     requires { ⌜ (whole (now tables) (now arena) ≡ true) × (isSome (lookup byNumber upload (stateOf (now tables) (now arena) .U)) ≡ true) ⌝ }
     ensures { λ r. ⌜ r ≡ rowPlaceAt (rowsOf (stateOf (now (tables .entry)) (now (arena .entry)))) (length (beforeUpload (stateOf (now (tables .entry)) (now (arena .entry))) upload) + 1) ⌝ }
@@ -82,7 +82,7 @@ pub fn find_upload(tables: &[u8], arena: &[u8], upload: u32) -> Place
     }
 }
 
-// The place of a part of an open upload, `first` being the row behind the upload's.
+// The place of a part of an open upload, `first` being the row after the upload's.
 pub fn find_part_from(tables: &[u8], arena: &[u8], first: RowPlace, number: u16) -> Place
     requires { ⌜ (whole (now tables) (now arena) ≡ true) × IsRowPlace (rowsOf (stateOf (now tables) (now arena))) first ⌝ }
     ensures { λ r. ⌜ ((u : ℕ) (x : Upload) → first ≡ rowPlaceAt (rowsOf (stateOf (now (tables .entry)) (now (arena .entry)))) (length (beforeUpload (stateOf (now (tables .entry)) (now (arena .entry))) u) + 1) → lookup byNumber u (stateOf (now (tables .entry)) (now (arena .entry)) .U) ≡ some x → r ≡ partPlace (stateOf (now (tables .entry)) (now (arena .entry))) u x number) ⌝ }
@@ -106,7 +106,7 @@ pub fn find_part(tables: &[u8], arena: &[u8], upload: u32, number: u16) -> Place
     find_part_from(tables, arena, first, number)
 }
 
-// How many parts the upload has whose row stands there, and the row behind them.
+// How many parts the upload has whose row stands there, and the row after them.
 pub fn pass_parts(tables: &[u8], arena: &[u8], here: RowPlace) -> PassedParts
     requires { ⌜ (whole (now tables) (now arena) ≡ true) × ((here ≡ rowPlaceAt (rowsOf (stateOf (now tables) (now arena))) (here .row)) × (here .row < length (rowsOf (stateOf (now tables) (now arena))))) ⌝ }
     ensures { λ r. ⌜ ((u : ℕ) (x : Upload) → here ≡ rowPlaceAt (rowsOf (stateOf (now (tables .entry)) (now (arena .entry)))) (length (beforeUpload (stateOf (now (tables .entry)) (now (arena .entry))) u)) → lookup byNumber u (stateOf (now (tables .entry)) (now (arena .entry)) .U) ≡ some x → r ≡ passedParts (stateOf (now (tables .entry)) (now (arena .entry))) u x) ⌝ }
@@ -119,7 +119,7 @@ pub fn pass_parts(tables: &[u8], arena: &[u8], here: RowPlace) -> PassedParts
     }
 }
 
-// How many parts an open upload has, and the offset behind them.
+// How many parts an open upload has, and the offset after them.
 pub fn parts_end(tables: &[u8], arena: &[u8], upload: u32) -> Parts
     requires { ⌜ (whole (now tables) (now arena) ≡ true) × (isSome (lookup byNumber upload (stateOf (now tables) (now arena) .U)) ≡ true) ⌝ }
     ensures { λ r. ⌜ ((x : Upload) → lookup byNumber upload (stateOf (now (tables .entry)) (now (arena .entry)) .U) ≡ some x → r ≡ partsOf (stateOf (now (tables .entry)) (now (arena .entry))) upload x) ⌝ }

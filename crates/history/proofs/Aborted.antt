@@ -6,7 +6,7 @@ use mathlib.Core.Bool.{Bool, true, false, false≢true}
 use mathlib.Core.List.{List, [], _∷_, _++_, append-assoc}
 use mathlib.Core.Option.{Option, none, some}
 use borrow.Author.Tests.{eq-eqb, eqb-true}
-use Rattle.order.specs.OrderLaws.{numbers}
+use Rattle.order.proofs.OrderLaws.{numbers}
 use Rattle.machine.specs.Map.{byNumber, lookup, Ascending}
 use Rattle.machine.specs.Names.{requestPartOk}
 use Rattle.machine.specs.State.{Upload, State, fresh}
@@ -95,14 +95,14 @@ not-accepted : (r : Reply) → r .result ≡ 2 → accepted r ≡ true → ⊥
 not-accepted r e ok = omega (arith, e, eqb-true (r .result) 0 ok)
 
 -- After an accepted ABORT the upload takes no part and no commit, and no later record is made of its parts.
-pub stays-out : (A : ℕ) (t : Trace) (m : Memory) → FromFresh A t m → (before behind : Trace) (u : ℕ) (r : Reply) → t ≡ before ++ (ABORT u, r) ∷ behind → accepted r ≡ true
-    → StaysOut A before u r behind m
-stays-out A t m f before behind u r e ok =
-    let k = cut A fresh (calls t) before behind (ABORT u) r (sym (from-fresh A t m f .0) ∙ e) in
+pub stays-out : (A : ℕ) (t : Trace) (m : Memory) → FromFresh A t m → (before later : Trace) (u : ℕ) (r : Reply) → t ≡ before ++ (ABORT u, r) ∷ later → accepted r ≡ true
+    → StaysOut A before u r later m
+stays-out A t m f before later u r e ok =
+    let k = cut A fresh (calls t) before later (ABORT u) r (sym (from-fresh A t m f .0) ∙ e) in
     let s = final A fresh (calls before) in
     let v = final-valid A fresh (calls before) (fresh-valid A) in
     let g = aborted A u s v (ap accepted (k .replied) ∙ ok) in
-    let h : Shut u behind = subst (Shut u) (k .last) (all-shut A u (next A s (ABORT u)) (k .rest) (next-valid A s (ABORT u) v) g) in
+    let h : Shut u later = subst (Shut u) (k .last) (all-shut A u (next A s (ABORT u)) (k .rest) (next-valid A s (ABORT u) v) g) in
     record {
       shut = h;
       records = λ between after w ns q is yes-accepted. (

@@ -8,7 +8,7 @@ use Rattle.machine.specs.Calls.{Call, COMMIT, Reply}
 use Rattle.machine.specs.Lists.{Trace, trace, final}
 use Rattle.machine.specs.Demand3.{accepted, Leaves, calls, CommitsJoin, without, NeverCommitted, NoCommitAccepted, NeverFull, PartsUnseen, PartsUnseenUnlessCommitted, seen}
 use Rattle.machine.proofs.Demand3.{demand3 as machine-demand3}
-use Rattle.layout.specs.StandsLaws.{stands-state, stands-whole}
+use Rattle.layout.proofs.StandsLaws.{stands-state, stands-whole}
 use Rattle.calls.specs.Made.{Memory, stateIn}
 use Rattle.history.specs.Runs.{Run, FromFresh}
 use Rattle.history.specs.Demand3.{Committed, Demand3}
@@ -19,21 +19,21 @@ calls-append [] t₂ = refl
 calls-append (e ∷ t₁) t₂ = ap (λ (cs : List Call). e .0 ∷ cs) (calls-append t₁ t₂)
 
 module _ (A : ℕ) (t : Trace) (m : Memory) (f : FromFresh A t m) where
-  -- the run, cut behind one of its calls
-  cut-behind : (before behind : Trace) (c : Call) (r : Reply) → t ≡ before ++ (c, r) ∷ behind → Halves (before ++ (c, r) ∷ []) behind (f .start) m
-  cut-behind before behind c r e =
-      halves (before ++ (c, r) ∷ []) behind (f .start) m
-      (subst (λ (x : Trace). Run x (f .start) m) (e ∙ sym (append-assoc before ((c, r) ∷ []) behind)) (f .run))
+  -- the run, cut after one of its calls
+  cut-after : (before later : Trace) (c : Call) (r : Reply) → t ≡ before ++ (c, r) ∷ later → Halves (before ++ (c, r) ∷ []) later (f .start) m
+  cut-after before later c r e =
+      halves (before ++ (c, r) ∷ []) later (f .start) m
+      (subst (λ (x : Trace). Run x (f .start) m) (e ∙ sym (append-assoc before ((c, r) ∷ []) later)) (f .run))
 
-  commits : (before behind : Trace) (u : ℕ) (ns : List ℕ) (r : Reply) → t ≡ before ++ (COMMIT u ns, r) ∷ behind → accepted r ≡ true → Committed A before u ns r behind m
+  commits : (before later : Trace) (u : ℕ) (ns : List ℕ) (r : Reply) → t ≡ before ++ (COMMIT u ns, r) ∷ later → accepted r ≡ true → Committed A before u ns r later m
   unfolding CommitsJoin
-  commits before behind u ns r e ok =
-      let h = cut-behind before behind (COMMIT u ns) r e in
+  commits before later u ns r e ok =
+      let h = cut-after before later (COMMIT u ns) r e in
       let g : FromFresh A (before ++ (COMMIT u ns, r) ∷ []) (h .between) = record { lent = f .lent; start = f .start; arena = f .arena; fresh = f .fresh; run = h .first } in
       let s = from-fresh A (before ++ (COMMIT u ns, r) ∷ []) (h .between) g in
       let q : stateIn (h .between) ≡ final A fresh (calls before ++ COMMIT u ns ∷ []) =
       stands-state _ _ _ (s .1) ∙ ap (final A fresh) (calls-append before ((COMMIT u ns, r) ∷ [])) in
-      let l = machine-demand3 A (calls t) .commits-join before behind u ns r (sym (from-fresh A t m f .0) ∙ e) ok in
+      let l = machine-demand3 A (calls t) .commits-join before later u ns r (sym (from-fresh A t m f .0) ∙ e) ok in
       record { left = h .between; reached = g; goes-on = h .second; leaves = subst (Leaves A before u ns) (sym q) l }
 
   module _ (u : ℕ) (t₂ : Trace) (m₂ : Memory) (f₂ : FromFresh A t₂ m₂) (e : calls t₂ ≡ without u (calls t)) where

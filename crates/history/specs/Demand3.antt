@@ -12,10 +12,10 @@ use Rattle.calls.specs.Made.{Memory, wholeMemory, stateIn}
 use Rattle.history.specs.Runs.{Run, FromFresh}
 
 -- Where the run came to this COMMIT: the memory that it left, from which the run goes on to m, and what stands at the upload's path there.
-pub record Committed (A : ℕ) (before : Trace) (u : ℕ) (ns : List ℕ) (r : Reply) (behind : Trace) (m : Memory) : Type 0 where
+pub record Committed (A : ℕ) (before : Trace) (u : ℕ) (ns : List ℕ) (r : Reply) (later : Trace) (m : Memory) : Type 0 where
   pub left : Memory
   pub reached : FromFresh A (before ++ (COMMIT u ns, r) ∷ []) left
-  pub goes-on : Run behind left m
+  pub goes-on : Run later left m
   pub leaves : Leaves A before u ns (stateIn left)
 
 -- The run from FRESH with calls and answers t, which leaves memory m.
@@ -28,8 +28,8 @@ pub record Demand3 (A : ℕ) (t : Trace) (m : Memory) : Type 0 where
   pub bytes : Stands (m .tables) (m .arena) (final A fresh (calls t))
   -- "Every accepted COMMIT leaves at its path, joined in listed order, for each part the bytes of the last accepted PART before it with that
   -- upload and part number."
-  pub commits-join : (before behind : Trace) (u : ℕ) (ns : List ℕ) (r : Reply) → t ≡ before ++ (COMMIT u ns, r) ∷ behind → accepted r ≡ true
-      → Committed A before u ns r behind m
+  pub commits-join : (before later : Trace) (u : ℕ) (ns : List ℕ) (r : Reply) → t ≡ before ++ (COMMIT u ns, r) ∷ later → accepted r ≡ true
+      → Committed A before u ns r later m
   -- "For every upload that no COMMIT of the list names, the list without that upload's PART calls gives every GET, HEAD and LIST the same
   -- answer and buffer, if no call of either list is refused by 4 or 5": t₂ is any run of that other list.
   pub parts-unseen : (u : ℕ) (t₂ : Trace) (m₂ : Memory) → FromFresh A t₂ m₂ → calls t₂ ≡ without u (calls t)

@@ -50,7 +50,7 @@ Shut u (e ∷ t) = (names u (e .0) ≡ true → e .1 .result ≡ 2) × Shut u t
 
 -- What an accepted ABORT of upload u means for the rest of the run, which leaves memory m: the upload is shut, and every COMMIT that is
 -- accepted later names another upload and joins the parts that were sent to that one.
-pub record StaysOut (A : ℕ) (before : Trace) (u : ℕ) (r : Reply) (behind : Trace) (m : Memory) : Type 0 where
-  pub shut : Shut u behind
-  pub records : (between after : Trace) (v : ℕ) (ns : List ℕ) (q : Reply) → behind ≡ between ++ (COMMIT v ns, q) ∷ after → accepted q ≡ true
+pub record StaysOut (A : ℕ) (before : Trace) (u : ℕ) (r : Reply) (later : Trace) (m : Memory) : Type 0 where
+  pub shut : Shut u later
+  pub records : (between after : Trace) (v : ℕ) (ns : List ℕ) (q : Reply) → later ≡ between ++ (COMMIT v ns, q) ∷ after → accepted q ≡ true
       → (v ≡ u → ⊥) × Committed A (before ++ (ABORT u, r) ∷ between) v ns q after m

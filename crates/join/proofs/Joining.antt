@@ -5,7 +5,7 @@ use mathlib.Core.List.{List}
 use native.Mathlib.Omega.{arith}
 use lib.ListN.{length, take, drop, length-take, length-drop}
 use Rattle.order.specs.Order.{byBytes}
-use Rattle.order.specs.OrderLaws.{bytes}
+use Rattle.order.proofs.OrderLaws.{bytes}
 use Rattle.machine.specs.Map.{byNumber, lookup, insert, remove}
 use Rattle.machine.specs.Names.{Bytes}
 use Rattle.machine.specs.State.{Object, State, held, withObject, withoutObject, withoutUpload}
@@ -14,7 +14,7 @@ use Rattle.machine.specs.Valid.{Valid}
 use Rattle.machine.proofs.Fit.{fit-length}
 use Rattle.machine.proofs.MapLaws.{lookup-remove}
 use Rattle.layout.specs.Memory.{stateOf, Stands}
-use Rattle.layout.specs.StandsLaws.{stands-state, stands-whole}
+use Rattle.layout.proofs.StandsLaws.{stands-state, stands-whole}
 use Rattle.edit.specs.Objects.{objectBehind, Addable}
 use Rattle.edit.proofs.MapEdits.{insert-removed}
 use Rattle.calls.specs.Answers.{partList}

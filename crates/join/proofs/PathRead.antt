@@ -6,7 +6,7 @@ use mathlib.Core.Option.{some}
 use native.Mathlib.Omega.{arith}
 use lib.ListN.{length, take, drop}
 use lib.Seq.{take-at}
-use Rattle.order.specs.OrderLaws.{numbers}
+use Rattle.order.proofs.OrderLaws.{numbers}
 use Rattle.machine.specs.Map.{byNumber, lookup}
 use Rattle.machine.specs.State.{Upload, State}
 use Rattle.machine.specs.Valid.{UploadOk}
@@ -15,7 +15,7 @@ use Rattle.row.specs.declared.Head.{Head}
 use Rattle.row.specs.Row.{encodeRows, contentsOf, headAt, headLength, span}
 use Rattle.layout.specs.Header.{headerLength}
 use Rattle.layout.specs.Memory.{uploadRow, partRows, Stands}
-use Rattle.layout.specs.TestLaws.{stored-path-length}
+use Rattle.layout.proofs.TestLaws.{stored-path-length}
 use Rattle.find.specs.declared.Place.{Place}
 use Rattle.find.specs.Places.{beforeUpload, afterUpload, uploadPlace}
 use Rattle.find.proofs.Splits.{upload-found}

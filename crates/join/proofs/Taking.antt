@@ -1,4 +1,4 @@
--- An upload taken out, its parts' data left behind the last byte held, in listed order. Assumes nothing.
+-- An upload taken out, its parts' data left after the last byte held, in listed order. Assumes nothing.
 use Prim.Native.Nat.{ℕ, _+_, _-_, _*_, _≤_}
 use mathlib.Core.Path.{_≡_, refl, sym, ap, _∙_, subst}
 use mathlib.Core.Bool.{false≢true}
@@ -7,7 +7,7 @@ use mathlib.Core.Option.{some}
 use native.Mathlib.Omega.{arith}
 use lib.ListN.{length, take, drop, length-append}
 use lib.Seq.{take-at, drop-at}
-use Rattle.order.specs.OrderLaws.{numbers}
+use Rattle.order.proofs.OrderLaws.{numbers}
 use Rattle.md5.specs.declared.words.Digest.{Digest}
 use Rattle.md5.specs.Md5.{bytesOf}
 use Rattle.md5.specs.DigestBytes.{digestBytes-is}
@@ -24,12 +24,12 @@ use Rattle.machine.proofs.MapLaws.{every-lookup, every-remove}
 use Rattle.machine.proofs.MapSums.{length-remove, total-remove, total-share}
 use Rattle.machine.proofs.KeepsValid.{without-upload-valid}
 use Rattle.row.specs.Row.{Row, encodeRows, contentsOf}
-use Rattle.row.specs.RowLaws.{encode-append, contents-append}
+use Rattle.row.proofs.RowLaws.{encode-append, contents-append}
 use Rattle.layout.specs.declared.Header.{Header}
 use Rattle.layout.specs.Rules.{partsMost}
 use Rattle.layout.specs.Memory.{uploadRow, partRows, rowsOf, Stands}
-use Rattle.layout.specs.RowCounts.{length-contents, length-part-contents}
-use Rattle.layout.specs.StandsLaws.{length-header}
+use Rattle.layout.proofs.RowCounts.{length-contents, length-part-contents}
+use Rattle.layout.proofs.StandsLaws.{length-header}
 use Rattle.layout.specs.Header.{headerOf, headed, encodeHeader, headerLength}
 use Rattle.find.specs.Places.{beforeUpload, beforeParts, throughParts, afterUpload}
 use Rattle.find.proofs.Splits.{parts-place, parts-behind}
@@ -282,7 +282,7 @@ module _ (t a : List ℕ) (s : State) (h : Stands t a s) (u : ℕ) (x : Upload) 
         ∙ sym (append-assoc (contentsOf ahead) (contentsOf after) (contents ys ++ h .arena-free))
         ∙ ap (λ (l : List ℕ). l ++ (contents ys ++ h .arena-free)) (sym rows-are)
 
-  -- the upload's rows cut out of the ordered tables, and its data brought behind those still held
+  -- the upload's rows cut out of the ordered tables, and its data moved to after those still held
   pub taken : (t₁ a₁ t₂ a₂ : List ℕ) (digest : Digest) (head : Header) → Arranged t a (b .first) (b .base) list listed-at t₁ a₁ digest → length t₁ ≡ length t → head ≡ headerOf (length a) s
       → t₂ ≡ headed (spliced t₁ (b .at) (b .behind - b .at) (b .used) [])
       (record { arena = head .arena; next = head .next; objects = head .objects; uploads = head .uploads - 1; parts = head .parts - b .count })

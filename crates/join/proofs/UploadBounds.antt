@@ -5,15 +5,15 @@ use mathlib.Core.List.{List, [], _∷_, _++_, append-nil}
 use mathlib.Core.Option.{some}
 use native.Mathlib.Omega.{arith}
 use lib.ListN.{length, length-append}
-use Rattle.order.specs.OrderLaws.{numbers}
+use Rattle.order.proofs.OrderLaws.{numbers}
 use Rattle.machine.specs.Map.{Map, byNumber, lookup}
 use Rattle.machine.specs.State.{Part, Upload, State, partsIn}
 use Rattle.machine.proofs.MapSums.{total-share}
-use Rattle.row.specs.Row.{encodeRow, encodeRows, contentsOf, headLength}
-use Rattle.row.specs.RowLaws.{EncodableAll, encode-append, contents-append, encodable-left, encodable-right, length-row}
+use Rattle.row.specs.Row.{encodeRow, encodeRows, contentsOf, headLength, EncodableAll}
+use Rattle.row.proofs.RowLaws.{encode-append, contents-append, encodable-left, encodable-right, length-row}
 use Rattle.layout.specs.Rules.{partsMost}
 use Rattle.layout.specs.Memory.{uploadRow, partRow, partRows, rowsOf, Stands}
-use Rattle.layout.specs.StandsLaws.{rows-encodable}
+use Rattle.layout.proofs.StandsLaws.{rows-encodable}
 use Rattle.layout.specs.declared.Offset.{Offset}
 use Rattle.layout.specs.Header.{headerLength}
 use Rattle.find.specs.declared.Place.{Place}

@@ -16,7 +16,7 @@ ghost use Rattle.calls.specs.Answers.{partList};
 ghost use Rattle.join.specs.Bounds.{boundsOf};
 ghost use Rattle.join.specs.Joined.{Listed, TakenOut, Joinable, JoinableAt, joinedState};
 
-// Where an upload's row, its first part's row, the rows behind its parts and the free bytes begin in the tables; where its
+// Where an upload's row, its first part's row, the rows after its parts and the free bytes begin in the tables; where its
 // parts' data begin in the arena, their size, and what is held; how many parts it has.
 pub struct Bounds {
     pub at: usize,
@@ -56,7 +56,7 @@ fn upload_bounds(tables: &[u8], arena: &[u8], upload: u32) -> Bounds
     }
 }
 
-// The upload's rows cut out, and its parts' data brought behind the last byte that is still held.
+// The upload's rows cut out, and its parts' data moved to after the last byte that is still held.
 fn cut(tables: &mut [u8], arena: &mut [u8], b: Bounds, header: Header)
     requires { ⌜ (headerLength ≤ b .at) × (b .at ≤ b .behind) × (b .behind ≤ b .used) × (b .used ≤ length (now tables)) × (b .base + b .size ≤ b .held) × (b .held ≤ length (now arena)) ⌝ }
     ensures { λ _. ⌜ (now (tables .exit) ≡ headed (spliced (now (tables .entry)) (b .at) (b .behind - b .at) (b .used) []) header)
@@ -67,7 +67,7 @@ fn cut(tables: &mut [u8], arena: &mut [u8], b: Bounds, header: Header)
     edit::rows::remove_rows(tables, b.at, b.behind - b.at, b.used, header);
 }
 
-// An open upload taken out, its parts' data left behind the last byte held, in listed order.
+// An open upload taken out, its parts' data left after the last byte held, in listed order.
 fn take_upload(tables: &mut [u8], arena: &mut [u8], upload: u32, list: &[u8]) -> Taken
     requires { ⌜ (whole (now tables) (now arena) ≡ true) × Listed (stateOf (now tables) (now arena)) upload (partList (now list)) ⌝ }
     ensures { λ r. ⌜ ((k : Listed (stateOf (now (tables .entry)) (now (arena .entry))) upload (partList (now (list .entry))))

@@ -4,7 +4,7 @@ use mathlib.Core.Path.{_≡_, sym, ap, _∙_}
 use mathlib.Core.List.{List, _∷_, _++_, append-assoc}
 use native.Mathlib.Omega.{arith}
 use lib.ListN.{length, take, drop}
-use Rattle.order.specs.OrderLaws.{numbers}
+use Rattle.order.proofs.OrderLaws.{numbers}
 use Rattle.machine.specs.Map.{Map, byNumber, remove, place}
 use Rattle.machine.specs.State.{Part}
 use Rattle.machine.proofs.MapPlaces.{split-found, remove-old}

@@ -8,8 +8,8 @@ use lib.ListN.{length, take, drop, length-append}
 use lib.Seq.{drop-at, drop-drop, take-at, length-take-le}
 use Rattle.machine.specs.State.{Part}
 use Rattle.machine.specs.Steps.{digests}
-use Rattle.row.specs.Row.{Row, encodeRow, encodeRows, digestAt, numbersLength, headLength}
-use Rattle.row.specs.RowLaws.{EncodableAll, length-row, digest-back}
+use Rattle.row.specs.Row.{Row, encodeRow, encodeRows, digestAt, numbersLength, headLength, EncodableAll}
+use Rattle.row.proofs.RowLaws.{length-row, digest-back}
 use Rattle.layout.specs.Memory.{partRow}
 use Rattle.join_order.specs.Region.{listedRows}
 use Rattle.join_order.specs.Digests.{OrderedAt}
@@ -18,7 +18,7 @@ uncons : {A : Type 0} (l : List A) → 0 < length l → (x : A) × (xs : List A)
 uncons [] h = absurd (not-suc-le-zero h)
 uncons (x ∷ xs) h = (x, xs, refl)
 
--- the first row, and those behind it
+-- the first row, and those after it
 pub record FirstRow (t : List ℕ) (at count : ℕ) (k : OrderedAt t at count) : Type 0 where
   pub part : Part
   pub rest : List Part

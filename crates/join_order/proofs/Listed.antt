@@ -5,14 +5,14 @@ use mathlib.Core.List.{List, [], _∷_}
 use mathlib.Core.Option.{some}
 use native.Mathlib.Omega.{arith}
 use lib.ListN.{length, take, drop}
-use Rattle.order.specs.OrderLaws.{numbers}
+use Rattle.row.specs.Row.{EncodableAll}
+use Rattle.order.proofs.OrderLaws.{numbers}
 use Rattle.machine.specs.Map.{Map, byNumber, remove, place}
 use Rattle.machine.specs.State.{Part}
 use Rattle.machine.specs.Steps.{fit}
 use Rattle.machine.proofs.Options.{none-some}
 use Rattle.machine.proofs.MapPlaces.{split-found}
 use Rattle.machine.proofs.Fit.{fit-cons}
-use Rattle.row.specs.RowLaws.{EncodableAll}
 use Rattle.layout.specs.Memory.{partRows}
 use Rattle.calls.specs.Answers.{partList}
 use Rattle.join_order.specs.Region.{listedRows, ListedAt, orderedTables}

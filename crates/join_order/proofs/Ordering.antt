@@ -8,15 +8,14 @@ use native.Mathlib.Omega.{arith}
 use lib.ListN.{length, take, drop, length-append, length-drop}
 use lib.Seq.{drop-drop}
 use Rattle.number.specs.Number.{fromLe}
-use Rattle.order.specs.OrderLaws.{numbers}
+use Rattle.order.proofs.OrderLaws.{numbers}
 use Rattle.machine.specs.Map.{Map, byNumber, lookup, remove, place}
 use Rattle.machine.specs.State.{Part}
 use Rattle.machine.specs.Steps.{fit, contents}
 use Rattle.machine.proofs.Options.{none-some}
 use Rattle.machine.proofs.MapPlaces.{split-found, remove-old}
 use Rattle.machine.proofs.Fit.{fit-cons}
-use Rattle.row.specs.Row.{encodeRow, encodeRows, contentsOf, headLength}
-use Rattle.row.specs.RowLaws.{EncodableAll}
+use Rattle.row.specs.Row.{encodeRow, encodeRows, contentsOf, headLength, EncodableAll}
 use Rattle.layout.specs.Memory.{partRow, partRows}
 use Rattle.calls.specs.Answers.{partList}
 use Rattle.join_order.specs.Region.{Region, PartAt, Brought, listedRows, ListedAt, orderedTables, orderedArena}

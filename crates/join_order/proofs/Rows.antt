@@ -7,8 +7,8 @@ use lib.ListN.{length, drop, length-append}
 use lib.Seq.{drop-at}
 use Rattle.machine.specs.Map.{Map}
 use Rattle.machine.specs.State.{Part}
-use Rattle.row.specs.Row.{Row, encodeRow, encodeRows, contentsOf, headAt, headOf, headLength}
-use Rattle.row.specs.RowLaws.{Encodable, EncodableAll, encode-append, contents-append, encodable-right, length-row, head-back}
+use Rattle.row.specs.Row.{Row, encodeRow, encodeRows, contentsOf, headAt, headOf, headLength, Encodable, EncodableAll}
+use Rattle.row.proofs.RowLaws.{encode-append, contents-append, encodable-right, length-row, head-back}
 use Rattle.layout.specs.Memory.{partRow, partRows}
 use Rattle.find.proofs.Splits.{part-rows-append}
 use Rattle.join_order.specs.Region.{Region}
@@ -55,7 +55,7 @@ pub length-data-snoc : (xs : Map ℕ Part) (e : ℕ × Part) → length (dataByt
 unfolding partRows contentsOf
 length-data-snoc xs e = omega (arith, ap length (data-bytes-append xs (e ∷ [])), length-append (dataBytes xs) (dataBytes (e ∷ [])), length-append (e .1 .content) [])
 
--- the row of part e, behind those of xs
+-- the row of part e, after those of xs
 pub record Here (t a : List ℕ) (at base : ℕ) (xs : Map ℕ Part) (e : ℕ × Part) : Type 0 where
   pub span : length (encodeRow (partRow (e .0) (e .1))) ≡ headLength
   pub inside : at + length (rowBytes xs) + headLength ≤ length t

@@ -6,7 +6,7 @@ use mathlib.Core.Option.{some}
 use native.Mathlib.Omega.{arith}
 use lib.ListN.{length, take, drop}
 use lib.Seq.{take-at}
-use Rattle.order.specs.OrderLaws.{numbers, cases}
+use Rattle.order.proofs.OrderLaws.{numbers, cases}
 use Rattle.machine.specs.Map.{Map, byNumber, lookup, place}
 use Rattle.machine.specs.State.{Part}
 use Rattle.machine.proofs.MapSplits.{Below, place-append}
@@ -91,7 +91,7 @@ module _ (t a : List ℕ) (at base n : ℕ) (k : PartAt t a at base n) where
           let z = size ∙ ap (λ (y : Part). length (y .content)) part in
           λ i. record { rows = r i; bytes = b i; size = z i }
 
-      -- it is another: the search goes on behind it
+      -- it is another: the search goes on after it
       pub passed-next : (head .number ≡ n → ⊥) → Passed t a at base n k (rows + headLength) (bytes + head .size)
       passed-next other =
           cases (byNumber n (e .0))

@@ -4,8 +4,7 @@ use mathlib.Core.Path.{_≡_}
 use mathlib.Core.List.{List, _++_}
 use lib.ListN.{length}
 use Rattle.machine.specs.State.{Part}
-use Rattle.row.specs.Row.{encodeRows}
-use Rattle.row.specs.RowLaws.{EncodableAll}
+use Rattle.row.specs.Row.{encodeRows, EncodableAll}
 use Rattle.join_order.specs.Region.{listedRows}
 
 -- the rows of `count` parts at `at` in the tables

@@ -9,8 +9,7 @@ use Rattle.machine.specs.State.{Part}
 use Rattle.machine.specs.Steps.{fit, contents, digests}
 use Rattle.md5.specs.declared.words.Digest.{Digest}
 use Rattle.md5.specs.Md5.{md5}
-use Rattle.row.specs.Row.{Row, encodeRow, encodeRows, contentsOf}
-use Rattle.row.specs.RowLaws.{EncodableAll}
+use Rattle.row.specs.Row.{Row, encodeRow, encodeRows, contentsOf, EncodableAll}
 use Rattle.layout.specs.Memory.{partRow, partRows}
 use Rattle.calls.specs.Answers.{partList}
 use Rattle.join_order.specs.declared.Found.{Found}

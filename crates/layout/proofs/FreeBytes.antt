@@ -8,9 +8,10 @@ use lib.Seq.{take-at}
 use Rattle.machine.specs.State.{State, held}
 use Rattle.machine.specs.Valid.{Valid}
 use Rattle.row.specs.Row.{encodeRows, contentsOf}
-use Rattle.layout.specs.Memory.{rowsOf, encodeHeader, Stands}
-use Rattle.layout.specs.RowCounts.{length-contents}
-use Rattle.layout.specs.StandsLaws.{length-header}
+use Rattle.layout.specs.Header.{encodeHeader}
+use Rattle.layout.specs.Memory.{rowsOf, Stands}
+use Rattle.layout.proofs.RowCounts.{length-contents}
+use Rattle.layout.proofs.StandsLaws.{length-header}
 use Rattle.layout.specs.FreeBytes.{tablesUsed, SameButFree}
 
 -- a list that begins as another does, and the rest of it

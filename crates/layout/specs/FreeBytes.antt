@@ -5,11 +5,12 @@ use mathlib.Core.List.{List}
 use lib.ListN.{length, take}
 use Rattle.machine.specs.State.{State, held}
 use Rattle.row.specs.Row.{encodeRows}
+use Rattle.layout.specs.Header.{headerLength}
 use Rattle.layout.specs.Memory.{rowsOf}
 
 -- how many bytes of the tables a state takes: its header and its rows; the others are free
 unfoldable pub tablesUsed : State → ℕ
-tablesUsed s = 18 + length (encodeRows (rowsOf s))
+tablesUsed s = headerLength + length (encodeRows (rowsOf s))
 
 -- Other tables and another arena of the same lengths, the same in the bytes that s takes. In the arena s takes the bytes held.
 pub record SameButFree (s : State) (t a t′ a′ : List ℕ) : Type 0 where

@@ -1,10 +1,4 @@
 pub mod Rules
 pub mod Header
 pub mod Memory
-pub mod TestLaws
-pub mod ObjectLaws
-pub mod UploadLaws
-pub mod RowCounts
-pub mod WholeLaws
-pub mod StandsLaws
 pub mod FreeBytes

@@ -13,24 +13,24 @@ use Rattle.machine.specs.Valid.{Valid}
 use Rattle.row.specs.Row.{Row, encodeRows, contentsOf, rowsAt, pastRows, pastData, good}
 use Rattle.layout.specs.declared.Mark.{Mark}
 use Rattle.layout.specs.declared.Header.{Header}
-use Rattle.layout.specs.Rules.{plainKind, joinedKind, uploadKind, partKind, objectsMost, uploadsMost, partsMost, all, zeros, objectOk, objectNext, entryOk, entryNext, start}
+use Rattle.layout.specs.Rules.{plainKind, joinedKind, uploadKind, partKind, objectsMost, uploadsMost, partsMost, all, noDigest, objectOk, objectNext, entryOk, entryNext, start}
 use Rattle.layout.specs.Header.{headerLength, encodeHeader, headerAt}
 
 -- The rows of a state ------------------------------------------------------------------------------------------------------
 
 -- the kind of an object's row, by its etag
-abbrev pub kindOf : Etag → ℕ
-kindOf absent = plainKind
-kindOf (plain digest) = plainKind
-kindOf (joined digest count) = joinedKind
+abbrev pub rowKind : Etag → ℕ
+rowKind absent = plainKind
+rowKind (plain digest) = plainKind
+rowKind (joined digest count) = joinedKind
 
 -- the row of an object, of an upload, and of a part
 abbrev pub objectRow : Bytes → Object → Row
 objectRow p x =
-    record { number = 0; stamp = x .created; kind = kindOf (x .etag); count = countOf (x .etag); digest = digestOf (x .etag); path = p; content = x .content }
+    record { number = 0; stamp = x .created; kind = rowKind (x .etag); count = countOf (x .etag); digest = digestOf (x .etag); path = p; content = x .content }
 
 abbrev pub uploadRow : ℕ → Upload → Row
-uploadRow u x = record { number = u; stamp = x .started; kind = uploadKind; count = 0; digest = zeros; path = x .path; content = [] }
+uploadRow u x = record { number = u; stamp = x .started; kind = uploadKind; count = 0; digest = noDigest; path = x .path; content = [] }
 
 abbrev pub partRow : ℕ → Part → Row
 partRow n y = record { number = n; stamp = 0; kind = partKind; count = 0; digest = y .digest; path = []; content = y .content }
@@ -44,7 +44,7 @@ unfoldable pub partRows : Map ℕ Part → List Row
 partRows [] = []
 partRows (e ∷ m) = partRow (e .0) (e .1) ∷ partRows m
 
--- each upload, and its parts behind it
+-- each upload, and its parts after it
 unfoldable pub uploadRows : Map ℕ Upload → List Row
 uploadRows [] = []
 uploadRows (e ∷ m) = uploadRow (e .0) (e .1) ∷ (partRows (e .1 .parts) ++ uploadRows m)
@@ -64,11 +64,11 @@ arenaMost = 1048576
 
 -- Reading ----------------------------------------------------------------------------------------------------------------------
 
-abbrev pub etagOf : (kind : ℕ) (digest : Bytes) (count : ℕ) → Etag
-etagOf kind digest count = cond (eqb kind plainKind) (plain digest) (joined digest count)
+abbrev pub rowEtag : (kind : ℕ) (digest : Bytes) (count : ℕ) → Etag
+rowEtag kind digest count = cond (eqb kind plainKind) (plain digest) (joined digest count)
 
 abbrev pub objectOf : Row → Object
-objectOf r = record { content = r .content; created = r .stamp; etag = etagOf (r .kind) (r .digest) (r .count) }
+objectOf r = record { content = r .content; created = r .stamp; etag = rowEtag (r .kind) (r .digest) (r .count) }
 
 unfoldable pub objectsOf : List Row → Map Bytes Object
 objectsOf [] = []
@@ -79,8 +79,8 @@ pub record Nest : Type 0 where
   pub waiting : Map ℕ Part
   pub uploads : Map ℕ Upload
 
-abbrev pub partOf : Row → Part
-partOf r = record { content = r .content; digest = r .digest }
+abbrev pub rowPart : Row → Part
+rowPart r = record { content = r .content; digest = r .digest }
 
 abbrev pub uploadOf : Row → Map ℕ Part → Upload
 uploadOf r ps = record { path = r .path; started = r .stamp; parts = ps }
@@ -90,15 +90,15 @@ nest [] = record { waiting = []; uploads = [] }
 nest (r ∷ rs) =
     cond (eqb (r .kind) uploadKind)
     (record { waiting = []; uploads = (r .number, uploadOf r (nest rs .waiting)) ∷ nest rs .uploads })
-    (record { waiting = (r .number, partOf r) ∷ nest rs .waiting; uploads = nest rs .uploads })
+    (record { waiting = (r .number, rowPart r) ∷ nest rs .waiting; uploads = nest rs .uploads })
 
 -- how many rows are uploads'
-unfoldable pub opens : List Row → ℕ
-opens [] = 0
-opens (r ∷ rs) = cond (eqb (r .kind) uploadKind) 1 0 + opens rs
+unfoldable pub uploadsAmong : List Row → ℕ
+uploadsAmong [] = 0
+uploadsAmong (r ∷ rs) = cond (eqb (r .kind) uploadKind) 1 0 + uploadsAmong rs
 
 module _ (t a : List ℕ) where
-  -- the rows of objects, and those behind them
+  -- the rows of objects, and those after them
   unfoldable pub objectRowsAt : List Row
   objectRowsAt = rowsAt (headerAt t .objects) (drop headerLength t) a
 
@@ -143,7 +143,7 @@ wholeOf T t a =
     (headerOk T (length t) (length a) (headerAt t)
     ∷ objectsGood t a
     ∷ uploadsGood t a
-    ∷ eqb (opens (uploadRowsAt t a)) (headerAt t .uploads)
+    ∷ eqb (uploadsAmong (uploadRowsAt t a)) (headerAt t .uploads)
     ∷ [])
 
 -- the test "whole"

@@ -1,4 +1,4 @@
--- The rules by which rows follow one another: objects ascend by path; uploads ascend by number, each with its parts behind it,
+-- The rules by which rows follow one another: objects ascend by path; uploads ascend by number, each with its parts after it,
 -- ascending by part number. A field that a kind of row does not use is 0. Assumes nothing.
 use Prim.Native.Nat.{ℕ, Ordering, Ordering·lt, Ordering·eq, Ordering·gt}
 use mathlib.Core.Bool.{Bool, true, false, _&&_, cond}
@@ -45,10 +45,10 @@ isLess Ordering·eq = false
 isLess Ordering·gt = false
 
 -- a digest that is not used
-abbrev pub zeros : List ℕ
-zeros = replicate 16 0
+abbrev pub noDigest : List ℕ
+noDigest = replicate 16 0
 
--- an object's row, behind one whose path is `last` ([] for none): a plain etag has no count, a joined one at most that of all parts
+-- an object's row, after one whose path is `last` ([] for none): a plain etag has no count, a joined one at most that of all parts
 unfoldable pub objectRule : (last : List ℕ) → Head → (path : List ℕ) → Bool
 objectRule last h path =
     all
@@ -66,7 +66,7 @@ objectOk last r = objectRule last (headOf r) (r .path)
 abbrev pub objectNext : (last : List ℕ) → Row → List ℕ
 objectNext last r = r .path
 
--- an upload's row, behind upload m .upload (0 for none), with a number below N
+-- an upload's row, after upload m .upload (0 for none), with a number below N
 unfoldable pub uploadRule : (N : ℕ) → Mark → Head → (digest path : List ℕ) → Bool
 uploadRule N m h digest path =
     all
@@ -76,10 +76,10 @@ uploadRule N m h digest path =
     ∷ ltb (m .upload) (h .number)
     ∷ ltb (h .number) N
     ∷ storedPathOk path
-    ∷ same digest zeros
+    ∷ same digest noDigest
     ∷ [])
 
--- a part's row, behind part m .part (0 for none) of upload m .upload
+-- a part's row, after part m .part (0 for none) of upload m .upload
 unfoldable pub partRule : Mark → Head → Bool
 partRule m h =
     all
@@ -92,7 +92,7 @@ partRule m h =
     ∷ storedPartOk (h .number)
     ∷ [])
 
--- a row behind the objects: an upload's or a part's
+-- a row after the objects: an upload's or a part's
 unfoldable pub entryRule : (N : ℕ) → Mark → Head → (digest path : List ℕ) → Bool
 entryRule N m h digest path = cond (eqb (h .kind) uploadKind) (uploadRule N m h digest path) (partRule m h)
 

@@ -1,4 +1,4 @@
-// What a call answered, printed behind its line.
+// What a call answered, printed after its line.
 use crate::words::front_len;
 use libc::STDOUT_FILENO;
 use md5::words::Digest;

@@ -86,7 +86,7 @@ pub fn part_number(text: &[u8]) -> u16 {
     if 65535 < n { 65535 } else { n as u16 }
 }
 
-// An entry of a part list, at index n. `+` is one odd byte. Answers the index behind it.
+// An entry of a part list, at index n. `+` is one odd byte. Answers the index after it.
 fn put_entry(text: &[u8], out: &mut [u8], n: usize) -> usize
     requires { ⌜ n + 2 ≤ length (now out) ⌝ }
     ensures { λ r. ⌜ r ≤ n + 2 ⌝ }

@@ -8,7 +8,7 @@ use native.Mathlib.Omega.{arith}
 use lib.ListN.{length, take, drop, length-append}
 use lib.Seq.{take-all}
 use Rattle.number.specs.Number.{le}
-use Rattle.order.specs.OrderLaws.{bytes}
+use Rattle.order.proofs.OrderLaws.{bytes}
 use Rattle.machine.specs.Map.{Map, records}
 use Rattle.machine.specs.Names.{Bytes}
 use Rattle.machine.specs.Etags.{text}
@@ -20,10 +20,10 @@ use Rattle.machine.proofs.MapScan.{lookup-key}
 use Rattle.machine.proofs.MapLaws.{every-lookup}
 use Rattle.row.specs.declared.Head.{Head}
 use Rattle.row.specs.Row.{Row, encodeRows, headAt, digestAt, pathAt, headOf, span}
-use Rattle.row.specs.RowLaws.{path-back, digest-back}
+use Rattle.row.proofs.RowLaws.{path-back, digest-back}
 use Rattle.layout.specs.Header.{headerLength}
 use Rattle.layout.specs.Memory.{objectRows, Stands}
-use Rattle.layout.specs.ObjectLaws.{object-back}
+use Rattle.layout.proofs.ObjectLaws.{object-back}
 use Rattle.find.proofs.RowsAt.{At, row-at}
 use Rattle.find.proofs.ObjectAt.{blank, entry, row, front, rest, split, next-front}
 use Rattle.lists.specs.Rows.{textAt, recordAt, listedBytes}

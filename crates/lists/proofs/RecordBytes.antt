@@ -10,15 +10,15 @@ use lib.Dec.{eqb}
 use lib.ListN.{length, take, drop, set, length-append, length-drop, length-set}
 use lib.Seq.{drop-drop, length-take-le}
 use Rattle.number.specs.Number.{le}
-use Rattle.number.specs.NumberLaws.{length-le}
+use Rattle.number.proofs.NumberLaws.{length-le}
 use Rattle.number.proofs.Halves.{write-byte}
 use Rattle.number.proofs.Fields.{over, over-length}
 use Rattle.text.specs.Text.{hex, decimal}
-use Rattle.text.specs.TextLaws.{length-hex}
+use Rattle.text.proofs.TextLaws.{length-hex}
 use Rattle.machine.specs.Etags.{plain, joined, text}
 use Rattle.row.specs.declared.Head.{Head}
 use Rattle.row.specs.Row.{headAt, digestAt, pathAt, numbersLength, headLength, span}
-use Rattle.layout.specs.Memory.{etagOf}
+use Rattle.layout.specs.Memory.{rowEtag}
 use Rattle.lists.specs.Rows.{textAt, recordAt}
 use Rattle.lists.proofs.RowLengths.{record-length, text-plain, text-joined}
 use Rattle.lists.proofs.Front.{over-next}
@@ -74,7 +74,7 @@ module _ (t b b₁ : List ℕ) (at to kind count : ℕ) (inside : at + headLengt
   digest-read = length-take-le (at + numbersLength + 16 - (at + numbersLength)) (drop (at + numbersLength) t) (simp length-drop (omega arith)) ∙ add-sub-cancel-left (at + numbersLength) 16
 
   abbrev etag : List ℕ
-  etag = text (etagOf kind (digestAt (drop at t)) count)
+  etag = text (rowEtag kind (digestAt (drop at t)) count)
 
   digits : length (digestAt (drop at t)) ≡ 16
   digits = ap length (sym digest-is) ∙ digest-read
@@ -113,9 +113,9 @@ pieces : (n k : ℕ) (p s c e : List ℕ) → ((n ∷ p) ++ (s ++ (c ++ (k ∷ [
 pieces n k p s c e = simp append-assoc
 
 module _ (t b : List ℕ) (at to : ℕ) (h : Head) (k : ℕ) (inside : at + span (headAt (drop at t)) ≤ length t) (read : h ≡ headAt (drop at t))
-    (measured : k ≡ length (text (etagOf (h .kind) (digestAt (drop at t)) (h .count)))) where
+    (measured : k ≡ length (text (rowEtag (h .kind) (digestAt (drop at t)) (h .count)))) where
   abbrev told : Head → List ℕ
-  told x = text (etagOf (x .kind) (digestAt (drop at t)) (x .count))
+  told x = text (rowEtag (x .kind) (digestAt (drop at t)) (x .count))
 
   abbrev etagText : List ℕ
   etagText = told h

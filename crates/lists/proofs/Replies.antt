@@ -5,7 +5,7 @@ use mathlib.Core.Bool.{true}
 use mathlib.Core.List.{List, _++_}
 use native.Mathlib.Omega.{arith}
 use lib.ListN.{length, drop}
-use Rattle.number.specs.NumberLaws as number
+use Rattle.number.specs.Number.{AreBytes}
 use Rattle.types.specs.declared.Counts.{Counts}
 use Rattle.types.specs.declared.ListAnswer.the-variants.{Refused, Written}
 use Rattle.machine.specs.State.{State}
@@ -13,18 +13,18 @@ use Rattle.machine.specs.Calls.{LIST, Answer, counts, Reply}
 use Rattle.machine.specs.Steps.{act, listed, replyOf}
 use Rattle.machine.proofs.Records.{write-fits, write-short}
 use Rattle.layout.specs.Memory.{whole, stateOf}
-use Rattle.layout.specs.WholeLaws.{whole-stands}
+use Rattle.layout.proofs.WholeLaws.{whole-stands}
 use Rattle.calls.specs.Answers.{listReply, success}
 use Rattle.calls.specs.Made.{memory, outcome, Made}
 use Rattle.calls.proofs.Reading.{reads, write-keeps}
-use Rattle.lists.specs.Rows.{listing}
+use Rattle.lists.specs.Rows.{listBytes}
 
 module _ (t a prefix suffix b : List ℕ) where
   abbrev s : State
   s = stateOf t a
 
   abbrev out : List ℕ
-  out = listing prefix suffix s
+  out = listBytes prefix suffix s
 
   abbrev told : Answer
   told = counts (length (listed prefix suffix (s .O))) (length out)
@@ -41,6 +41,6 @@ module _ (t a prefix suffix b : List ℕ) where
   list-written b′ c e f l q = ap₂ success (ap₂ counts e f) q ∙ sym (write-fits told out b s (omega arith))
 
   -- the contract
-  pub made-list : number.Bytes t → whole t a ≡ true → (r : Reply) → r ≡ replyOf b (outcome (LIST prefix suffix b) (memory t a)) → Made (LIST prefix suffix b) (memory t a) r (memory t a)
+  pub made-list : AreBytes t → whole t a ≡ true → (r : Reply) → r ≡ replyOf b (outcome (LIST prefix suffix b) (memory t a)) → Made (LIST prefix suffix b) (memory t a) r (memory t a)
   unfolding outcome act
   made-list bytes w r e = reads (LIST prefix suffix b) (memory t a) r w (whole-stands t a bytes w) (write-keeps told out b s) e

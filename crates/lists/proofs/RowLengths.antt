@@ -9,21 +9,21 @@ use borrow.Author.Tests.{eq-eqb, ne-eqb}
 use lib.ListN.{length, take, drop, length-append, length-drop}
 use lib.Seq.{drop-drop, length-take-le, take-all}
 use Rattle.order.specs.Order.{begins, ends}
-use Rattle.order.specs.AffixLaws.{begins-true}
-use Rattle.number.specs.NumberLaws.{length-le}
+use Rattle.order.proofs.AffixLaws.{begins-true}
+use Rattle.number.proofs.NumberLaws.{length-le}
 use Rattle.text.specs.Text.{hex, decimal}
-use Rattle.text.specs.TextLaws.{length-hex}
+use Rattle.text.proofs.TextLaws.{length-hex}
 use Rattle.machine.specs.Etags.{text}
 use Rattle.row.specs.Row.{headAt, digestAt, pathAt, numbersLength, headLength, span}
-use Rattle.layout.specs.Memory.{etagOf}
+use Rattle.layout.specs.Memory.{rowEtag}
 use Rattle.machine.specs.Steps.{isListed}
 use Rattle.lists.specs.Rows.{textAt, recordAt, listedBytes}
 
-pub text-plain : (kind count : ℕ) (d : List ℕ) → kind ≡ 0 → length d ≡ 16 → 32 ≡ length (text (etagOf kind d count))
+pub text-plain : (kind count : ℕ) (d : List ℕ) → kind ≡ 0 → length d ≡ 16 → 32 ≡ length (text (rowEtag kind d count))
 unfolding text
 text-plain kind count d z l = rw (eq-eqb kind 0 z) (omega (arith, length-hex d))
 
-pub text-joined : (kind count n : ℕ) (d : List ℕ) → (kind ≡ 0 → ⊥) → n ≡ length (decimal count) → length d ≡ 16 → 33 + n ≡ length (text (etagOf kind d count))
+pub text-joined : (kind count n : ℕ) (d : List ℕ) → (kind ≡ 0 → ⊥) → n ≡ length (decimal count) → length d ≡ 16 → 33 + n ≡ length (text (rowEtag kind d count))
 unfolding text
 text-joined kind count n d z e l = rw (ne-eqb kind 0 z) (omega (arith, length-hex d, length-append (hex d) (45 ∷ decimal count)))
 
@@ -44,7 +44,7 @@ module _ (t : List ℕ) (at : ℕ) (room : at + span (headAt (drop at t)) ≤ le
   unfolding recordAt
   record-length = simp (length-append, length-le, path-length) (omega arith)
 
-  pub measured-length : (n w m : ℕ) → n ≡ headAt (drop at t) .pathlen → w ≡ n → m ≡ length (text (etagOf (headAt (drop at t) .kind) (digestAt (drop at t)) (headAt (drop at t) .count))) → 14 + w + m ≡ length (recordAt (drop at t))
+  pub measured-length : (n w m : ℕ) → n ≡ headAt (drop at t) .pathlen → w ≡ n → m ≡ length (text (rowEtag (headAt (drop at t) .kind) (digestAt (drop at t)) (headAt (drop at t) .count))) → 14 + w + m ≡ length (recordAt (drop at t))
   unfolding textAt
   measured-length n w m e f g = omega (arith, record-length)
 

@@ -16,7 +16,7 @@ use Rattle.machine.proofs.MapKeep.{keep-append, records-append}
 use Rattle.row.specs.Row.{encodeRows, headAt, pathAt, span}
 use Rattle.layout.specs.Header.{headerLength}
 use Rattle.layout.specs.Memory.{objectRows, Stands}
-use Rattle.lists.specs.Rows.{recordAt, listedBytes, listing}
+use Rattle.lists.specs.Rows.{recordAt, listedBytes, listBytes}
 use Rattle.lists.proofs.ObjectRows.{row-next, bytes-next}
 use Rattle.lists.proofs.Front.{front-grows}
 
@@ -81,7 +81,7 @@ module _ (t a : List ℕ) (s : State) (h : Stands t a s) (prefix suffix : Bytes)
   next-length = let p = w .place in omega (arith, ap length next-bytes, length-append (bytesOf prefix suffix (take i (s .O))) (listedBytes prefix suffix (drop at t)))
 
   -- room for the row's record
-  pub written-room : length (listing prefix suffix s) ≤ length b₀ → to + length (listedBytes prefix suffix (drop at t)) ≤ length b
+  pub written-room : length (listBytes prefix suffix s) ≤ length b₀ → to + length (listedBytes prefix suffix (drop at t)) ≤ length b
   written-room room = let p = w .same in omega (arith, next-length, bytes-fewer prefix suffix (i + 1) (s .O))
 
   pub written-next : (n r : ℕ) (b₁ : List ℕ) → n ≡ span (headAt (drop at t))
@@ -99,5 +99,5 @@ module _ (t a : List ℕ) (s : State) (h : Stands t a s) (prefix suffix : Bytes)
       }
 
 pub written-all : (s : State) (prefix suffix : Bytes) (b₀ b : List ℕ) (i at to : ℕ) → Written s prefix suffix b₀ b i at to → length (s .O) ≤ i
-    → b ≡ listing prefix suffix s ++ drop (length (listing prefix suffix s)) b₀
+    → b ≡ listBytes prefix suffix s ++ drop (length (listBytes prefix suffix s)) b₀
 written-all s prefix suffix b₀ b i at to w l = w .front ∙ ap (λ (o : Map Bytes Object). bytesOf prefix suffix o ++ drop (length (bytesOf prefix suffix o)) b₀) (take-all i (s .O) l)

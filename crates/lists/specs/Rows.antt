@@ -10,11 +10,11 @@ use Rattle.machine.specs.Etags.{text}
 use Rattle.machine.specs.State.{State}
 use Rattle.machine.specs.Steps.{isListed, listed, listRecord}
 use Rattle.row.specs.Row.{headAt, digestAt, pathAt}
-use Rattle.layout.specs.Memory.{etagOf}
+use Rattle.layout.specs.Memory.{rowEtag}
 
 -- the text of the etag in the row at the front of t
 unfoldable pub textAt : List ℕ → Bytes
-textAt t = text (etagOf (headAt t .kind) (digestAt t) (headAt t .count))
+textAt t = text (rowEtag (headAt t .kind) (digestAt t) (headAt t .count))
 
 -- the record of the object in the row at the front of t
 unfoldable pub recordAt : List ℕ → Bytes
@@ -25,5 +25,5 @@ unfoldable pub listedBytes : (prefix suffix : Bytes) (t : List ℕ) → Bytes
 listedBytes prefix suffix t = cond (isListed prefix suffix (pathAt t)) (recordAt t) []
 
 -- all that LIST writes
-abbrev pub listing : (prefix suffix : Bytes) → State → Bytes
-listing prefix suffix s = records listRecord (listed prefix suffix (s .O))
+abbrev pub listBytes : (prefix suffix : Bytes) → State → Bytes
+listBytes prefix suffix s = records listRecord (listed prefix suffix (s .O))

@@ -8,12 +8,12 @@ ghost use lib.ListN.{length, drop};
 ghost use Rattle.machine.specs.Etags.{text};
 ghost use Rattle.machine.specs.Steps.{isListed, listed};
 ghost use Rattle.row.specs.Row.{headAt, pathAt, span};
-ghost use Rattle.layout.specs.Memory.{whole, stateOf, etagOf};
-ghost use Rattle.lists.specs.Rows.{listedBytes, listing};
+ghost use Rattle.layout.specs.Memory.{whole, stateOf, rowEtag};
+ghost use Rattle.lists.specs.Rows.{listedBytes, listBytes};
 
 // How long the text of an etag is.
 pub(crate) fn text_length(kind: u8, count: u16) -> u32
-    ensures { λ r. ⌜ (r ≤ 38) × ((d : List ℕ) → length d ≡ 16 → r ≡ length (text (etagOf kind d count))) ⌝ }
+    ensures { λ r. ⌜ (r ≤ 38) × ((d : List ℕ) → length d ≡ 16 → r ≡ length (text (rowEtag kind d count))) ⌝ }
 {
     if kind == layout::PLAIN_KIND {
         return 32;
@@ -46,7 +46,7 @@ fn measure_row(tables: &[u8], at: usize, prefix: &[u8], suffix: &[u8]) -> Counts
 pub(crate) fn measure_rows(tables: &[u8], arena: &[u8], prefix: &[u8], suffix: &[u8]) -> Counts
     requires { ⌜ whole (now tables) (now arena) ≡ true ⌝ }
     ensures { λ r. ⌜ (r .records ≡ length (listed (now (prefix .entry)) (now (suffix .entry)) (stateOf (now (tables .entry)) (now (arena .entry)) .O)))
-        × (r .bytes ≡ length (listing (now (prefix .entry)) (now (suffix .entry)) (stateOf (now (tables .entry)) (now (arena .entry))))) ⌝ }
+        × (r .bytes ≡ length (listBytes (now (prefix .entry)) (now (suffix .entry)) (stateOf (now (tables .entry)) (now (arena .entry))))) ⌝ }
 {
     let objects = find::object_count(tables, arena);
     let mut at: usize = layout::HEADER_LENGTH;

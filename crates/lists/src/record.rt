@@ -7,7 +7,7 @@ ghost use Rattle.number.specs.Number.{le};
 ghost use Rattle.text.specs.Text.{decimal};
 ghost use Rattle.machine.specs.Etags.{text};
 ghost use Rattle.row.specs.Row.{headAt, digestAt, headLength, span};
-ghost use Rattle.layout.specs.Memory.{etagOf};
+ghost use Rattle.layout.specs.Memory.{rowEtag};
 ghost use Rattle.lists.specs.Rows.{recordAt};
 
 // The length of the path in the row at `at`, and the path.
@@ -42,8 +42,8 @@ fn write_count(answer: &mut [u8], to: usize, count: u16)
 
 // The text of the etag in the row at `at`.
 fn write_text(tables: &[u8], at: usize, kind: u8, count: u16, answer: &mut [u8], to: usize)
-    requires { ⌜ (at + headLength ≤ length (now tables)) × (to + length (text (etagOf kind (digestAt (drop at (now tables))) count)) ≤ length (now answer)) ⌝ }
-    ensures { λ _. ⌜ now (answer .exit) ≡ take to (now (answer .entry)) ++ text (etagOf kind (digestAt (drop at (now (tables .entry)))) count) ++ drop (to + length (text (etagOf kind (digestAt (drop at (now (tables .entry)))) count))) (now (answer .entry)) ⌝ }
+    requires { ⌜ (at + headLength ≤ length (now tables)) × (to + length (text (rowEtag kind (digestAt (drop at (now tables))) count)) ≤ length (now answer)) ⌝ }
+    ensures { λ _. ⌜ now (answer .exit) ≡ take to (now (answer .entry)) ++ text (rowEtag kind (digestAt (drop at (now (tables .entry)))) count) ++ drop (to + length (text (rowEtag kind (digestAt (drop at (now (tables .entry)))) count))) (now (answer .entry)) ⌝ }
 {
     let from = at + row::NUMBERS_LENGTH;
     text::put_hex(answer, to, &tables[from..from + 16]);

@@ -6,7 +6,7 @@ ghost use mathlib.Core.List.{_++_};
 ghost use lib.ListN.{length, take, drop};
 ghost use Rattle.row.specs.Row.{headAt, span};
 ghost use Rattle.layout.specs.Memory.{whole, stateOf};
-ghost use Rattle.lists.specs.Rows.{listedBytes, listing};
+ghost use Rattle.lists.specs.Rows.{listedBytes, listBytes};
 
 // What it writes for the row at `at`, over the answer buffer from `to` on; the answer is where it ends.
 fn write_row(
@@ -35,8 +35,8 @@ pub(crate) fn write_rows(
     suffix: &[u8],
     answer: &mut [u8],
 )
-    requires { ⌜ (whole (now tables) (now arena) ≡ true) × (length (listing (now prefix) (now suffix) (stateOf (now tables) (now arena))) ≤ length (now answer)) ⌝ }
-    ensures { λ _. ⌜ now (answer .exit) ≡ listing (now (prefix .entry)) (now (suffix .entry)) (stateOf (now (tables .entry)) (now (arena .entry))) ++ drop (length (listing (now (prefix .entry)) (now (suffix .entry)) (stateOf (now (tables .entry)) (now (arena .entry))))) (now (answer .entry)) ⌝ }
+    requires { ⌜ (whole (now tables) (now arena) ≡ true) × (length (listBytes (now prefix) (now suffix) (stateOf (now tables) (now arena))) ≤ length (now answer)) ⌝ }
+    ensures { λ _. ⌜ now (answer .exit) ≡ listBytes (now (prefix .entry)) (now (suffix .entry)) (stateOf (now (tables .entry)) (now (arena .entry))) ++ drop (length (listBytes (now (prefix .entry)) (now (suffix .entry)) (stateOf (now (tables .entry)) (now (arena .entry))))) (now (answer .entry)) ⌝ }
 {
     let objects = find::object_count(tables, arena);
     let mut at: usize = layout::HEADER_LENGTH;

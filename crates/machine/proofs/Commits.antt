@@ -12,7 +12,7 @@ use borrow.Author.Tests.{le-leb, eq-eqb, ne-eqb}
 use lib.Dec.{eqb}
 use lib.ListN.{length, drop}
 use Rattle.order.specs.Order.{byBytes}
-use Rattle.order.specs.OrderLaws.{numbers, bytes}
+use Rattle.order.proofs.OrderLaws.{numbers, bytes}
 use Rattle.machine.specs.Map.{isSome, Map, byNumber, lookup, insert, remove, mapped, Ascending}
 use Rattle.machine.specs.Names.{Bytes, storedPathOk}
 use Rattle.machine.specs.Digest.{md5}
@@ -28,7 +28,7 @@ use Rattle.machine.proofs.MapLaws.{ascending-remove, every-lookup, look
 use Rattle.machine.proofs.Fit.{lookup-kept, fit-listed, fit-once, fit-all}
 use Rattle.machine.proofs.Rules.{stored-requested, stored-not-root}
 use Rattle.machine.proofs.Traces.{cut, final-snoc}
-use Rattle.machine.proofs.Outcome.{refused, Then, then-else, then-given, then-step}
+use Rattle.machine.proofs.Outcome.{refused-not-accepted, Then, then-else, then-given, then-step}
 use Rattle.machine.proofs.Effects.{Effects, stop, sets, removes, closes, Quiet, Does, opens-upload, sets-part, has-effects, step-does}
 use Rattle.machine.proofs.KeepsValid.{next-valid, fresh-valid, final-valid}
 
@@ -126,7 +126,7 @@ module _ (A : ℕ) (s : State) (f : ℕ → ℕ → Option Bytes) (g : ℕ → O
       Agrees (next A s c .U) (next A s c .N) (λ u n. carried u n (c, reply A s c) or f u n) (λ u. opened u (c, reply A s c) or g u)
   step-agrees v a c =
       step-does A s (λ r s′. Agrees (s′ .U) (s′ .N) (λ u n. carried u n (c, r) or f u n) (λ u. opened u (c, r) or g u)) c
-      (λ n. rw (refused (lent c) n) a) (λ r out s′ d. does-agree v a d)
+      (λ n. rw (refused-not-accepted (lent c) n) a) (λ r out s′ d. does-agree v a d)
 
 pub or-assoc : {X : Type 0} (a b c : Option X) → (a or b) or c ≡ a or (b or c)
 or-assoc none b c = refl
@@ -199,7 +199,7 @@ unfolding act Then
 commit-leaves A s u ns t v a =
     then-step (λ r out s′. Leaves A t u ns s′) (λ r s′. accepted r ≡ true → Leaves A t u ns s′) s [] (act A s (COMMIT u ns))
     (then-given _ _ _ _ λ x e. then-given _ _ _ _ λ xs f. then-else _ _ _ _ λ _. go x e xs f)
-    (λ n ok. absurd (false≢true (sym (refused [] n) ∙ ok))) (λ r out s′ h ok. h)
+    (λ n ok. absurd (false≢true (sym (refused-not-accepted [] n) ∙ ok))) (λ r out s′ h ok. h)
   where
     go : (x : Upload) → lookup byNumber u (s .U) ≡ some x → (xs : List Part) → fit ns (x .parts) ≡ some xs → Leaves A t u ns (withoutUpload (withObject s (x .path) (joinedObject x xs)) u)
     go x e xs f =

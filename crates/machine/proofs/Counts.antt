@@ -9,7 +9,7 @@ use borrow.Author.Tests.{le-leb}
 use lib.Dec.{leb}
 use lib.ListN.{length}
 use Rattle.order.specs.Order.{byBytes}
-use Rattle.order.specs.OrderLaws.{numbers, bytes}
+use Rattle.order.proofs.OrderLaws.{numbers, bytes}
 use Rattle.machine.specs.Map.{byNumber, lookup, insert, remove, total, owed}
 use Rattle.machine.specs.Names.{Bytes}
 use Rattle.machine.specs.State.{Object, Part, Upload, State, withObject, withoutObject, withUpload, withoutUpload, withNext, withPart, objectLength, partLength, uploadLength, partsIn, held, counted}

@@ -6,7 +6,7 @@ use mathlib.Core.List.{List, [], _∷_, _++_, append-assoc}
 use mathlib.Core.Bool.{Bool, true, false, cond}
 use lib.ListN.{take, length, getD}
 use lib.Seq.{take-suc}
-use Rattle.order.specs.OrderLaws.{Lawful}
+use Rattle.order.proofs.OrderLaws.{Lawful}
 use Rattle.machine.specs.Map.{Map, Above, Ascending, keep, records}
 use Rattle.machine.proofs.MapLaws.{above-chain}
 

@@ -7,7 +7,7 @@ use mathlib.Core.List.{[], _∷_}
 use mathlib.Core.Option.{none, some}
 use native.Mathlib.Omega.{arith}
 use Rattle.order.specs.Order.{by}
-use Rattle.order.specs.OrderLaws.{cases, Lawful}
+use Rattle.order.proofs.OrderLaws.{cases, Lawful}
 use Rattle.machine.specs.Map.{Map, lookup, insert, remove, Above, Ascending, Every}
 
 module _ {K X : Type 0} {cmp : K → K → Ordering} (L : Lawful cmp) where

@@ -1,4 +1,4 @@
--- Finite maps as lists cut in two or three: what stands before a key, the key's entry, what stands behind it.
+-- Finite maps as lists cut in two or three: what stands before a key, the key's entry, what stands after it.
 -- Assumes nothing.
 use Prim.Native.Nat.{_+_, Ordering, Ordering·lt, Ordering·gt}
 use mathlib.Core.Path.{_≡_, refl, _∙_}
@@ -6,7 +6,7 @@ use mathlib.Core.List.{[], _∷_, _++_}
 use mathlib.Core.Option.{some}
 use native.Mathlib.Omega.{arith}
 use lib.ListN.{length}
-use Rattle.order.specs.OrderLaws.{Lawful}
+use Rattle.order.proofs.OrderLaws.{Lawful}
 use Rattle.machine.specs.Map.{Map, lookup, insert, place, Above, Ascending}
 use Rattle.machine.proofs.MapLaws.{above-chain}
 

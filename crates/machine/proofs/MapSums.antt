@@ -6,7 +6,7 @@ use mathlib.Core.List.{[], _∷_}
 use mathlib.Core.Option.{some}
 use native.Mathlib.Omega.{arith}
 use lib.ListN.{length}
-use Rattle.order.specs.OrderLaws.{cases, Lawful}
+use Rattle.order.proofs.OrderLaws.{cases, Lawful}
 use Rattle.machine.specs.Map.{Map, lookup, insert, remove, total, owed}
 
 pub length-total : {K X : Type 0} (m : Map K X) → total (λ (x : X). 1) m ≡ length m

@@ -23,8 +23,8 @@ code-not-zero arenaFull e = omega arith
 code-not-zero numbersUsedUp e = omega arith
 code-not-zero bufferShort e = omega arith
 
-pub refused : (b : Bytes) (n : Refusal) → accepted (replyOf b (refuse n)) ≡ false
-refused b n = ne-eqb (code n) 0 (code-not-zero n)
+pub refused-not-accepted : (b : Bytes) (n : Refusal) → accepted (replyOf b (refuse n)) ≡ false
+refused-not-accepted b n = ne-eqb (code n) 0 (code-not-zero n)
 
 -- Q holds where the outcome is accepted
 unfoldable pub Then : (Answer → Bytes → State → Type 0) → Outcome → Type 0

@@ -7,10 +7,10 @@ use native.Mathlib.Omega.{arith}
 use borrow.Author.Tests.{le-leb, lt-leb}
 use lib.ListN.{length, drop, length-append, drop-of-length-le}
 use Rattle.number.specs.Number.{le}
-use Rattle.number.specs.NumberLaws.{length-le}
+use Rattle.number.proofs.NumberLaws.{length-le}
 use Rattle.order.specs.Order.{begins, ends}
 use Rattle.text.specs.Text.{hex}
-use Rattle.text.specs.TextLaws.{length-hex}
+use Rattle.text.proofs.TextLaws.{length-hex}
 use Rattle.machine.specs.Names.{Bytes, pathOk, requestPathOk, newPathOk, stampOk}
 use Rattle.machine.specs.Digest.{md5, length-md5}
 use Rattle.machine.specs.Etags.{text}

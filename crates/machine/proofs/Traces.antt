@@ -10,7 +10,7 @@ use Rattle.machine.specs.Steps.{reply, next}
 use Rattle.machine.specs.Lists.{Trace, trace, final}
 use Rattle.machine.specs.Demand3.{calls}
 
--- what stands before the call is a trace, its reply is that of the state there, and what stands behind it is a trace from the state after
+-- what stands before the call is a trace, its reply is that of the state there, and what stands after it is a trace from the state after
 pub record Cut (A : ℕ) (s : State) (before : Trace) (c : Call) (r : Reply) (behind : Trace) : Type 0 where
   pub first : trace A s (calls before) ≡ before
   pub replied : reply A (final A s (calls before)) c ≡ r

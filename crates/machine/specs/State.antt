@@ -57,7 +57,7 @@ withUpload s u x = withU s (insert byNumber u x (s .U))
 abbrev pub withoutUpload : State → ℕ → State
 withoutUpload s u = withU s (remove byNumber u (s .U))
 
--- the number that the coming upload gets is one more
+-- the number that the next upload gets is one more
 abbrev pub withNext : State → State
 withNext s = record { O = s .O; U = s .U; N = s .N + 1 }
 

@@ -8,7 +8,7 @@ use mathlib.Core.List.{List, _∷_, _++_}
 use lib.ListN.{length, take, drop, replicate, length-append, length-drop, length-replicate, take-append-drop}
 use lib.Seq.{drop-drop, take-append-le, drop-append-le}
 use Rattle.number.specs.Number.{le}
-use Rattle.number.specs.NumberLaws.{length-le}
+use Rattle.number.proofs.NumberLaws.{length-le}
 use Rattle.md5.specs.declared.words.Digest.{Digest}
 use Rattle.md5.specs.Md5.{chain, compress, initial, zeros, padded, md5}
 
@@ -33,7 +33,7 @@ chain-front v x y (suc n) h =
     let b : 64 ≤ length (drop (n * 64) x) = simp length-drop (omega arith) in
     ap₂ (λ (z : List ℕ) (w : Digest). compress z w) (ap (take 64) (drop-append-le (n * 64) x y a) ∙ take-append-le 64 (drop (n * 64) x) y b) (chain-front v x y n a)
 
--- what stands behind the whole blocks of the message: the rest of it, the byte 128, z zeros, and the length in bits
+-- what stands after the whole blocks of the message: the rest of it, the byte 128, z zeros, and the length in bits
 abbrev pub rest : List ℕ → ℕ → ℕ → List ℕ
 rest m start z = drop start m ++ 128 ∷ (replicate z 0 ++ le 8 (8 * length m % 2 ^ 64))
 

@@ -7,14 +7,14 @@ use mathlib.Core.List.{List, _++_, append-assoc}
 use lib.ListN.{length, take, drop, length-append, length-drop}
 use lib.Seq.{take-take, drop-drop}
 use Rattle.number.specs.Number.{le, fromLe}
-use Rattle.number.specs.NumberLaws.{length-le}
+use Rattle.number.proofs.NumberLaws.{length-le}
 use Rattle.number.proofs.Fields.{over, part, drop-take}
 use Rattle.number.proofs.Halves.{write-next}
 use Rattle.md5.specs.declared.words.Digest.{Digest}
 use Rattle.md5.specs.Md5.{word, bytesOf, fromBytes}
 
 module _ (b : List ℕ) (at : ℕ) where
-  -- y is written behind x
+  -- y is written after x
   next : {b₁ b₂ : List ℕ} (x y : List ℕ) (k j : ℕ) → length x ≡ k → at + k ≤ length b → b₁ ≡ over b at x k → b₂ ≡ over b₁ (at + k) y j → b₂ ≡ over b at (x ++ y) (k + j)
   next x y k j e room one two = two ∙ ap (λ (l : List ℕ). over l (at + k) y j) one ∙ write-next b at x y k j e room
 

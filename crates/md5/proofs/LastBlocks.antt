@@ -1,4 +1,4 @@
--- What the stores of `tail` leave: the bytes behind the message's whole blocks. Assumes nothing.
+-- What the stores of `tail` leave: the bytes after the message's whole blocks. Assumes nothing.
 use mathlib.Core.Path.{_≡_, refl, sym, ap, ap₂, _∙_}
 use Prim.Native.Nat.{ℕ, suc, _+_, _-_, _*_, _%_, _^_, _≤_, _<_}
 use native.Mathlib.Nat.{le-of-eq}
@@ -7,7 +7,7 @@ use mathlib.Core.List.{List, _∷_, _++_, append-assoc}
 use lib.ListN.{length, take, drop, set, replicate, length-append, length-drop, length-replicate, replicate-append-replicate}
 use lib.Seq.{take-all, take-length, take-at, drop-at, set-at}
 use Rattle.number.specs.Number.{le}
-use Rattle.number.specs.NumberLaws.{length-le}
+use Rattle.number.proofs.NumberLaws.{length-le}
 use Rattle.number.proofs.Fields.{over}
 use Rattle.md5.proofs.Chain.{rest}
 
@@ -22,7 +22,7 @@ zero-runs k z y e =
     ∙ drop-at (nulls k) (nulls (suc (z + y))) k (length-replicate k 0)
     ∙ ap (λ (l : List ℕ). 0 ∷ l) (sym (replicate-append-replicate z y 0))
 
--- s copied over 128 zeros, and the byte 128 stored behind it
+-- s copied over 128 zeros, and the byte 128 stored after it
 copied : (s t : List ℕ) (z y : ℕ) → length s + suc (z + y) ≡ 128 → t ≡ take (length s) s ++ drop (length s) (nulls 128)
     → set t (length s) 128 ≡ (s ++ 128 ∷ nulls z) ++ nulls y
 copied s t z y e et =
@@ -30,7 +30,7 @@ copied s t z y e et =
     ∙ set-at s 0 (nulls z ++ nulls y) 128 (length s) refl
     ∙ sym (append-assoc s (128 ∷ nulls z) (nulls y))
 
--- s written behind p
+-- s written after p
 written : (p q s : List ℕ) (at n : ℕ) → length p ≡ at → length s ≡ n → take (at + n) (over (p ++ q) at s n) ≡ p ++ s
 written p q s at n e f =
     ap (λ (l : List ℕ). take (at + n) (l ++ s ++ drop (at + n) (p ++ q))) (take-at p q at e)

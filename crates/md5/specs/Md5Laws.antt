@@ -5,8 +5,8 @@ use Prim.Native.Nat.{ℕ, _+_, _-_, _*_, _≤_}
 use native.Mathlib.Omega.{arith}
 use lib.ListN.{length, take, drop, length-drop, take-append-drop}
 use lib.Seq.{take-all, drop-drop, length-take-le}
-use Rattle.number.specs.Number.{le}
-use Rattle.number.specs.NumberLaws.{Bytes, bytes-take, bytes-drop, le-fromLe}
+use Rattle.number.specs.Number.{le, AreBytes}
+use Rattle.number.proofs.NumberLaws.{bytes-take, bytes-drop, le-fromLe}
 use Rattle.md5.specs.declared.words.Digest.{Digest}
 use Rattle.md5.specs.Md5.{word, bytesOf, fromBytes}
 
@@ -15,7 +15,7 @@ unfolding bytesOf le
 length-bytesOf v = refl
 
 -- what is read was written so
-module _ (x : List ℕ) (h : Bytes x) (e : length x ≡ 16) where
+module _ (x : List ℕ) (h : AreBytes x) (e : length x ≡ 16) where
   word-le : (i : ℕ) → i * 4 + 4 ≤ 16 → le 4 (word x i) ≡ take 4 (drop (i * 4) x)
   unfolding word
   word-le i fits =

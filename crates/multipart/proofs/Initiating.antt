@@ -8,8 +8,8 @@ use native.Mathlib.Omega.{arith}
 use borrow.Author.Tests.{le-leb, lt-leb, leb-true}
 use lib.Dec.{leb}
 use lib.ListN.{length}
-use Rattle.number.specs.NumberLaws.{Bytes}
-use Rattle.order.specs.OrderLaws.{numbers}
+use Rattle.number.specs.Number.{AreBytes}
+use Rattle.order.proofs.OrderLaws.{numbers}
 use Rattle.machine.specs.Map.{Map, byNumber, lookup, insert, Every}
 use Rattle.machine.specs.Names.{newPathOk, stampOk, lastUploadNumber}
 use Rattle.machine.specs.State.{Upload, State, counted, withUpload, withNext}
@@ -19,11 +19,11 @@ use Rattle.machine.specs.Steps.{newUpload, act, after}
 use Rattle.machine.proofs.Counts.{initiate-counted}
 use Rattle.machine.proofs.KeepsValid.{next-valid}
 use Rattle.machine.proofs.MapSums.{length-insert}
-use Rattle.order.specs.OrderLaws.{compare-above}
+use Rattle.order.proofs.OrderLaws.{compare-above}
 use Rattle.layout.specs.declared.Header.{Header}
 use Rattle.layout.specs.Memory.{whole, stateOf, Stands}
-use Rattle.layout.specs.WholeLaws.{whole-stands}
-use Rattle.layout.specs.StandsLaws.{header-back}
+use Rattle.layout.proofs.WholeLaws.{whole-stands}
+use Rattle.layout.proofs.StandsLaws.{header-back}
 use Rattle.layout.specs.Header.{headerAt, headerLength}
 use Rattle.calls.specs.Made.{memory, outcome, resultOf}
 use Rattle.calls.proofs.Judging.{pass, stop, passed}
@@ -33,7 +33,7 @@ absent : (N : ℕ) (us : Map ℕ Upload) → Every (UploadOk N) us → lookup by
 absent N [] v = refl
 absent N (e ∷ us) v = rw (compare-above N (e .0) (v .0 .high)) (absent N us (v .1))
 
-module _ (t a p : List ℕ) (b : Bytes t) (w : whole t a ≡ true) (stamp : ℕ) where
+module _ (t a p : List ℕ) (b : AreBytes t) (w : whole t a ≡ true) (stamp : ℕ) where
   abbrev s : State
   s = stateOf t a
 

@@ -8,7 +8,7 @@ use native.Mathlib.Omega.{arith}
 use borrow.Author.Tests.{le-leb, lt-leb}
 use lib.Dec.{leb}
 use lib.ListN.{length, drop}
-use Rattle.number.specs.NumberLaws as byte
+use Rattle.number.specs.Number.{AreBytes}
 use Rattle.md5.specs.declared.words.Digest.{Digest}
 use Rattle.md5.specs.Md5 as rfc
 use Rattle.md5.specs.Md5.{bytesOf}
@@ -27,7 +27,7 @@ use Rattle.row.specs.declared.Head.{Head}
 use Rattle.row.specs.Row.{encodeRows, headAt, numbersLength}
 use Rattle.layout.specs.Header.{headerLength}
 use Rattle.layout.specs.Memory.{partRow, whole, stateOf, Stands, arenaMost}
-use Rattle.layout.specs.WholeLaws.{whole-stands}
+use Rattle.layout.proofs.WholeLaws.{whole-stands}
 use Rattle.find.specs.declared.Place.{Place}
 use Rattle.find.specs.Places.{beforePart, afterPart, partPlace, uploadPlace}
 use Rattle.find.proofs.Splits.{part-found}
@@ -80,7 +80,7 @@ module _ (A : ℕ) (s : State) (v : Valid A s) (u n : ℕ) (d : Bytes) (x : Uplo
     room-new l = room (omega (arith, rw g at (parts-part s u n x (newPart d) f))) (held s) (omega (arith, rw g at (held-part s u n x (newPart d) f)))
 
 -- the same over whole memory, by what the readers give
-module _ (t a d : List ℕ) (b : byte.Bytes t) (w : whole t a ≡ true) (u n : ℕ) (is-open : isSome (lookup byNumber u (stateOf t a .U)) ≡ true)
+module _ (t a d : List ℕ) (b : AreBytes t) (w : whole t a ≡ true) (u n : ℕ) (is-open : isSome (lookup byNumber u (stateOf t a .U)) ≡ true)
     (place : Place) (place-is : (x : Upload) → lookup byNumber u (stateOf t a .U) ≡ some x → place ≡ partPlace (stateOf t a) u x n)
     (bytes : ℕ) (bytes-are : bytes ≡ held (stateOf t a)) where
   abbrev m : State
@@ -213,7 +213,7 @@ module _ (t a d : List ℕ) (u n : ℕ) (digest : Digest) (zero-result : resultO
   abbrev x₂ : Upload
   x₂ = opened (memory t a) u n d zero-result .0
 
-  pub part-ready : byte.Bytes t → whole t a ≡ true → PartPuttable t a u n digest d
+  pub part-ready : AreBytes t → whole t a ≡ true → PartPuttable t a u n digest d
   part-ready b w =
       record {
         is-whole = w;

@@ -12,7 +12,7 @@ use lib.Seq.{drop-cons}
 use borrow.Author.Tests.{ne-eqb}
 use Rattle.machine.specs.Names.{visible, apart}
 
--- b behind `before`: 0 where it may stand there, 1 where not
+-- b after `before`: 0 where it may stand there, 1 where not
 unfoldable pub faultOf : (before b : ℕ) → ℕ
 faultOf before b = cond (leb 33 b && leb b 126 && not (eqb before 47 && eqb b 47)) 0 1
 

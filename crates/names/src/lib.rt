@@ -3,7 +3,7 @@ ghost use mathlib.Core.Path.{_≡_};
 ghost use Rattle.machine.specs.Names.{pathOk, requestPathOk, newPathOk, storedPathOk, stampOk, numberOk, requestPartOk, storedPartOk};
 ghost use Rattle.names.specs.Faults.{faultOf};
 
-// 1 where b may not stand behind `before` in a path.
+// 1 where b may not stand after `before` in a path.
 fn fault(before: u8, b: u8) -> u8
     ensures { λ r. ⌜ r ≡ faultOf before b ⌝ }
 {

@@ -28,7 +28,7 @@ module _ (b : List ℕ) (at : ℕ) (s : List ℕ) (n : ℕ) (len : length s ≡ 
   pub over-length : length (over b at s n) ≡ length b
   over-length = omega (arith, length-append (take at b ++ s) (drop (at + n) b), head-length, length-drop (at + n) b)
 
--- the same where the bytes of b are told in parts: x before the place, the n bytes there, and y behind
+-- the same where the bytes of b are told in parts: x before the place, the n bytes there, and y after
 module _ (b x old y : List ℕ) (at n : ℕ) (told : b ≡ x ++ (old ++ y)) (place : length x ≡ at) (width : length old ≡ n) where
   pub field-take : take at b ≡ x
   field-take = ap (take at) told ∙ take-at x (old ++ y) at place
@@ -50,7 +50,7 @@ module _ (b x old y : List ℕ) (at n : ℕ) (told : b ≡ x ++ (old ++ y)) (pla
       ∙ ap (λ (l : List ℕ). x ++ new ++ l) field-drop
       ∙ append-assoc x new y
 
--- fields written one behind the other from the front: y behind x
+-- fields written one after the other from the front: y after x
 pub front-next : (b b₁ b₂ x y : List ℕ) (at n : ℕ) → b₁ ≡ x ++ drop at b → length x ≡ at → b₂ ≡ over b₁ at y n → b₂ ≡ (x ++ y) ++ drop (at + n) b
 front-next b b₁ b₂ x y at n told place e =
     let front : take at b₁ ≡ x = ap (take at) told ∙ take-at x (drop at b) at place in

@@ -8,7 +8,7 @@ use native.Mathlib.Omega.{arith}
 use lib.ListN.{length, take, drop, getD, set, length-append, length-drop}
 use lib.Seq.{take-at, drop-drop, drop-append-add, take-add, drop-cons, set-split, length-take-le}
 use Rattle.number.specs.Number.{le, fromLe}
-use Rattle.number.specs.NumberLaws.{length-le, fromLe-append, le-append, le-mod}
+use Rattle.number.proofs.NumberLaws.{length-le, fromLe-append, le-append, le-mod}
 
 module _ (b : List ℕ) (at : ℕ) where
   -- a byte, as a number of one byte
@@ -34,7 +34,7 @@ module _ (b : List ℕ) (at : ℕ) where
       ∙ ap (λ (x : ℕ). x + 256 ^ k * fromLe (take k (drop (at + k) b))) (sym l)
       ∙ ap (λ (x : ℕ). lo + 256 ^ k * x) (sym h))
 
-  -- y is written behind x
+  -- y is written after x
   pub write-next : (x y : List ℕ) (k j : ℕ) → length x ≡ k → at + k ≤ length b
       → take (at + k) (take at b ++ x ++ drop (at + k) b) ++ y ++ drop (at + k + j) (take at b ++ x ++ drop (at + k) b) ≡ take at b ++ (x ++ y) ++ drop (at + (k + j)) b
   write-next x y k j e room =

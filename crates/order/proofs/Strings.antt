@@ -8,10 +8,10 @@ use native.Mathlib.Omega.{arith}
 use lib.Dec.{isEq}
 use lib.ListN.{length, take, drop, getD, length-drop, take-append-drop, drop-of-length-le}
 use lib.Seq.{take-suc, take-add, drop-cons, length-take-le}
-use Rattle.number.specs.Number.{fromLe}
-use Rattle.number.specs.NumberLaws.{Bytes, bytes-take, bytes-drop, fromLe-same}
+use Rattle.number.specs.Number.{fromLe, AreBytes}
+use Rattle.number.proofs.NumberLaws.{bytes-take, bytes-drop, fromLe-same}
 use Rattle.order.specs.Order.{byBytes, same}
-use Rattle.order.specs.OrderLaws.{compare-below, compare-above, bytes-skip, same-false}
+use Rattle.order.proofs.OrderLaws.{compare-below, compare-above, bytes-skip, same-false}
 use Rattle.order.specs.Compared.{orderOf}
 use Rattle.order.specs.declared.Order.the-variants.{Less, Equal, Greater}
 
@@ -20,7 +20,7 @@ pub same-byte : (a b : List ℕ) (i : ℕ) → i < length a → i < length b →
 same-byte a b i la lb alike e = rw (add-one i, take-suc a i 0 la, take-suc b i 0 lb, alike, e)
 
 -- k bytes more in common, read as one number
-pub same-word : (a b : List ℕ) (i k : ℕ) → Bytes a → Bytes b → i + k ≤ length a → i + k ≤ length b → take i a ≡ take i b
+pub same-word : (a b : List ℕ) (i k : ℕ) → AreBytes a → AreBytes b → i + k ≤ length a → i + k ≤ length b → take i a ≡ take i b
     → fromLe (take k (drop i a)) ≡ fromLe (take k (drop i b)) → take (i + k) a ≡ take (i + k) b
 same-word a b i k ha hb la lb alike e =
     let na : length (take k (drop i a)) ≡ k = length-take-le k (drop i a) (rw (length-drop i a) (omega arith)) in

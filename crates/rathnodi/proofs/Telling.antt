@@ -5,9 +5,9 @@ use mathlib.Core.Bool.{Bool, true, false}
 use lib.ListN.{length}
 use Rattle.machine.specs.Names.{Bytes}
 use Rattle.machine.specs.State.{State}
-use Rattle.machine.specs.Calls.{Call, GET, HEAD, LIST, INITIATE, PART, UPLOADS, Answer, badRequest, notFound, tableFull, arenaFull, numbersUsedUp, bufferShort, Outcome, refuse, accept, _else_then_, lent}
+use Rattle.machine.specs.Calls.{Call, GET, HEAD, LIST, INITIATE, PART, UPLOADS, Answer, Outcome, refuse, accept, _else_then_, lent}
 use Rattle.machine.specs.Steps.{act, replyOf}
-use Rattle.machine.proofs.Outcome.{Then, then-accept, then-else, then-given, then-object}
+use Rattle.machine.proofs.Outcome.{refused-not-accepted, Then, then-accept, then-else, then-given, then-object}
 use Rattle.calls.specs.Made.{Memory, wholeMemory, stateIn, meantReply}
 use Rattle.reply.specs.Reply.{replyBytes, replyOver}
 use Rattle.rathnodi.specs.Exported.{replyAfter}
@@ -47,12 +47,7 @@ uploads-tells p b A s = then-else _ _ _ _ λ _. then-accept Tells _ _ _ λ o. re
 -- by the answer or by the number: the reply slice is the same
 outcome-over : (b o : Bytes) (x : Outcome) → Then Tells x → replyOver (replyOf b x .answer) o ≡ replyAfter (replyOf b x) o
 unfolding replyAfter Then
-outcome-over b o (refuse badRequest) h = refl
-outcome-over b o (refuse notFound) h = refl
-outcome-over b o (refuse tableFull) h = refl
-outcome-over b o (refuse arenaFull) h = refl
-outcome-over b o (refuse numbersUsedUp) h = refl
-outcome-over b o (refuse bufferShort) h = refl
+outcome-over b o (refuse n) h = rw (refused-not-accepted b n)
 outcome-over b o (accept a out s) h = h o
 
 pub meant-over : (k : Call) → Telling k → (m : Memory) (o : Bytes) → replyOver (meantReply k m .answer) o ≡ replyAfter (meantReply k m) o

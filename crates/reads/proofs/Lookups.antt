@@ -6,9 +6,9 @@ use mathlib.Core.List.{List, [], _∷_}
 use mathlib.Core.Option.{Option, none, some}
 use native.Mathlib.Omega.{arith}
 use lib.ListN.{length, drop}
-use Rattle.number.specs.NumberLaws as number
+use Rattle.number.specs.Number.{AreBytes}
 use Rattle.order.specs.Order.{byBytes}
-use Rattle.order.specs.OrderLaws.{bytes}
+use Rattle.order.proofs.OrderLaws.{bytes}
 use Rattle.machine.specs.Map.{isSome, lookup}
 use Rattle.machine.specs.Names.{Bytes, requestPathOk}
 use Rattle.machine.specs.Etags.{absent}
@@ -19,10 +19,10 @@ use Rattle.machine.specs.Valid.{ObjectOk}
 use Rattle.machine.proofs.MapLaws.{every-lookup}
 use Rattle.row.specs.declared.Head.{Head}
 use Rattle.row.specs.Row.{headAt, rowAt, headLength}
-use Rattle.row.specs.RowLaws.{row-back}
+use Rattle.row.proofs.RowLaws.{row-back}
 use Rattle.layout.specs.Memory.{whole, stateOf, objectRow, objectOf, Stands}
-use Rattle.layout.specs.ObjectLaws.{object-back}
-use Rattle.layout.specs.WholeLaws.{whole-stands}
+use Rattle.layout.proofs.ObjectLaws.{object-back}
+use Rattle.layout.proofs.WholeLaws.{whole-stands}
 use Rattle.find.specs.declared.Place.{Place}
 use Rattle.find.specs.Places.{behind, beforeObject, afterObject, objectPlace}
 use Rattle.find.proofs.RowsAt.{At, row-at}
@@ -115,7 +115,7 @@ named-object s (c ∷ p) at base e = go (requestPathOk (c ∷ p)) (lookup byByte
     go true none f g q = let z : _≡_ {A = ℕ} 0 1 = cc in absurd (omega arith)
     go false o f g q = let z : _≡_ {A = ℕ} 0 1 = cc in absurd (omega arith)
 
-module _ (t a : List ℕ) (b : number.Bytes t) (w : whole t a ≡ true) (p : Bytes) (at base : ℕ) (k : Here (stateOf t a) p at base) where
+module _ (t a : List ℕ) (b : AreBytes t) (w : whole t a ≡ true) (p : Bytes) (at base : ℕ) (k : Here (stateOf t a) p at base) where
   abbrev s : State
   s = stateOf t a
 

@@ -5,7 +5,7 @@ use mathlib.Core.Bool.{true}
 use mathlib.Core.List.{List, []}
 use native.Mathlib.Omega.{arith}
 use lib.ListN.{length, drop}
-use Rattle.number.specs.NumberLaws as number
+use Rattle.number.specs.Number.{AreBytes}
 use Rattle.types.specs.declared.Metadata.{Metadata}
 use Rattle.types.specs.declared.GetAnswer.the-variants.{Refused, Found}
 use Rattle.machine.specs.Names.{Bytes}
@@ -16,7 +16,7 @@ use Rattle.machine.specs.Steps.{act, about, write, replyOf}
 use Rattle.machine.proofs.Records.{write-fits}
 use Rattle.row.specs.Row.{headAt, headLength}
 use Rattle.layout.specs.Memory.{whole, stateOf}
-use Rattle.layout.specs.WholeLaws.{whole-stands}
+use Rattle.layout.proofs.WholeLaws.{whole-stands}
 use Rattle.calls.specs.Answers.{metadataOf, getReply, success}
 use Rattle.calls.specs.Made.{memory, outcome, Made}
 use Rattle.calls.proofs.Reading.{reads, write-keeps}
@@ -52,7 +52,7 @@ module _ (t a : List ℕ) (p : Bytes) (r : Named) (told : r ≡ namedIn (stateOf
         ∙ sym (ap (replyOf []) (named-root s p (λ x. accept (about x) [] s) (sym told ∙ e)))
 
   -- an object, whose row stands at `at`, with its data at `base`
-  module _ (bytes : number.Bytes t) (w : whole t a ≡ true) (at base : ℕ) (e : r ≡ named.Object at base) where
+  module _ (bytes : AreBytes t) (w : whole t a ≡ true) (at base : ℕ) (e : r ≡ named.Object at base) where
     here : Here s p at base
     here = named-object s p at base (sym told ∙ e)
 
@@ -78,7 +78,7 @@ module _ (t a : List ℕ) (p : Bytes) (r : Named) (told : r ≡ namedIn (stateOf
         ∙ sym (ap (replyOf []) (here .follows (λ x. accept (about x) [] s)))
 
 -- the contracts
-module _ (t a : List ℕ) (bytes : number.Bytes t) (w : whole t a ≡ true) (p : Bytes) where
+module _ (t a : List ℕ) (bytes : AreBytes t) (w : whole t a ≡ true) (p : Bytes) where
   pub made-get : (b : Bytes) (r : Reply) → r ≡ replyOf b (outcome (GET p b) (memory t a)) → Made (GET p b) (memory t a) r (memory t a)
   unfolding outcome act
   made-get b r e = reads (GET p b) (memory t a) r w (whole-stands t a bytes w) (object-keeps (stateOf t a) p _ (λ x. write-keeps (about x) (x .content) b (stateOf t a))) e

@@ -7,7 +7,8 @@ use native.Mathlib.Omega.{arith}
 use borrow.Author.Tests.{eq-eqb, ne-eqb}
 use lib.ListN.{length, take, drop, length-drop}
 use lib.Seq.{drop-drop, length-take-le}
-use Rattle.number.specs.NumberLaws.{Bytes, bytes-take, bytes-drop}
+use Rattle.number.proofs.NumberLaws.{bytes-take, bytes-drop}
+use Rattle.number.specs.Number.{AreBytes}
 use Rattle.md5.specs.declared.words.Digest.{Digest}
 use Rattle.md5.specs.Md5.{bytesOf, fromBytes}
 use Rattle.md5.specs.Md5Laws.{bytesOf-fromBytes}
@@ -21,12 +22,12 @@ use Rattle.machine.specs.Etags as machine
 use Rattle.machine.proofs.Records.{write-fits, write-short}
 use Rattle.row.specs.declared.Head.{Head}
 use Rattle.row.specs.Row.{headAt, digestAt, rowAt, numbersLength, headLength}
-use Rattle.layout.specs.Memory.{etagOf}
-use Rattle.calls.specs.Answers.{etagOf as etagIs, metadataOf, getReply, success}
+use Rattle.layout.specs.Memory.{rowEtag}
+use Rattle.calls.specs.Answers.{etagOf, metadataOf, getReply, success}
 use Rattle.reads.specs.Named.{metadataAt, storedAt}
 
 -- the digest, read by its words
-pub digest-at : (t : List ℕ) (at : ℕ) (d : Digest) → Bytes t → at + headLength ≤ length t → d ≡ fromBytes (take 16 (drop (at + numbersLength) t)) → bytesOf d ≡ digestAt (drop at t)
+pub digest-at : (t : List ℕ) (at : ℕ) (d : Digest) → AreBytes t → at + headLength ≤ length t → d ≡ fromBytes (take 16 (drop (at + numbersLength) t)) → bytesOf d ≡ digestAt (drop at t)
 unfolding digestAt
 digest-at t at d b room e =
     ap bytesOf e
@@ -34,17 +35,17 @@ digest-at t at d b room e =
     ∙ ap (take 16) (sym (drop-drop numbersLength at t))
 
 -- the etag, by its kind
-pub plain-etag : (kind count : ℕ) (d x : List ℕ) → d ≡ x → kind ≡ 0 → machine.plain d ≡ etagOf kind x count
+pub plain-etag : (kind count : ℕ) (d x : List ℕ) → d ≡ x → kind ≡ 0 → machine.plain d ≡ rowEtag kind x count
 plain-etag kind count d x e z = rw (eq-eqb kind 0 z) (ap machine.plain e)
 
-pub joined-etag : (kind count : ℕ) (d x : List ℕ) → d ≡ x → (kind ≡ 0 → ⊥) → machine.joined d count ≡ etagOf kind x count
+pub joined-etag : (kind count : ℕ) (d x : List ℕ) → d ≡ x → (kind ≡ 0 → ⊥) → machine.joined d count ≡ rowEtag kind x count
 joined-etag kind count d x e z = rw (ne-eqb kind 0 z) (ap (λ (y : List ℕ). machine.joined y count) e)
 
 -- the metadata, by the head
-pub metadata-told : (t : List ℕ) (h : Head) (e : Etag) → h ≡ headAt t → etagIs e ≡ etagOf (h .kind) (digestAt t) (h .count)
-    → metadata (h .size) (h .stamp) (etagIs e) ≡ metadataAt t
+pub metadata-told : (t : List ℕ) (h : Head) (e : Etag) → h ≡ headAt t → etagOf e ≡ rowEtag (h .kind) (digestAt t) (h .count)
+    → metadata (h .size) (h .stamp) (etagOf e) ≡ metadataAt t
 unfolding metadataAt
-metadata-told t h e q f = ap (metadata (h .size) (h .stamp)) f ∙ ap (λ (x : Head). metadata (x .size) (x .stamp) (etagOf (x .kind) (digestAt t) (x .count))) q
+metadata-told t h e q f = ap (metadata (h .size) (h .stamp)) f ∙ ap (λ (x : Head). metadata (x .size) (x .stamp) (rowEtag (x .kind) (digestAt t) (x .count))) q
 
 pub size-told : (t : List ℕ) (m : Metadata) → metadataOf m ≡ metadataAt t → m .length ≡ headAt t .size
 unfolding metadataAt
@@ -58,7 +59,7 @@ module _ (t a : List ℕ) (at base : ℕ) (room : base + headAt (drop at t) .siz
 
   pub stored-about : about (storedAt t a at base) ≡ metadataAt (drop at t)
   unfolding storedAt rowAt metadataAt
-  stored-about = ap (λ (n : ℕ). metadata n (headAt (drop at t) .stamp) (etagOf (headAt (drop at t) .kind) (digestAt (drop at t)) (headAt (drop at t) .count))) stored-length
+  stored-about = ap (λ (n : ℕ). metadata n (headAt (drop at t) .stamp) (rowEtag (headAt (drop at t) .kind) (digestAt (drop at t)) (headAt (drop at t) .count))) stored-length
 
   stored-content : (n : ℕ) → n ≡ headAt (drop at t) .size → take (base + n - base) (drop base a) ≡ storedAt t a at base .content
   unfolding storedAt rowAt

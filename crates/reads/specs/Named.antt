@@ -9,7 +9,7 @@ use Rattle.machine.specs.Names.{Bytes, requestPathOk}
 use Rattle.machine.specs.State.{Object, State}
 use Rattle.machine.specs.Calls.{Answer, metadata}
 use Rattle.row.specs.Row.{headAt, digestAt, rowAt}
-use Rattle.layout.specs.Memory.{etagOf, objectOf}
+use Rattle.layout.specs.Memory.{rowEtag, objectOf}
 use Rattle.find.specs.Places.{behind, beforeObject}
 use Rattle.reads.specs.declared.Named.{Named}
 use Rattle.reads.specs.declared.Named.the-variants as named
@@ -23,7 +23,7 @@ namedIn s (b ∷ p) =
 
 -- the metadata in the row at the front of t
 unfoldable pub metadataAt : List ℕ → Answer
-metadataAt t = metadata (headAt t .size) (headAt t .stamp) (etagOf (headAt t .kind) (digestAt t) (headAt t .count))
+metadataAt t = metadata (headAt t .size) (headAt t .stamp) (rowEtag (headAt t .kind) (digestAt t) (headAt t .count))
 
 -- the object whose row stands in t at `at`, with its data in a at `base`
 unfoldable pub storedAt : (t a : List ℕ) (at base : ℕ) → Object

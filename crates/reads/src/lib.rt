@@ -12,8 +12,8 @@ ghost use Rattle.machine.specs.Calls.{metadata, GET, HEAD};
 ghost use Rattle.machine.specs.Etags.{absent};
 ghost use Rattle.machine.specs.Steps.{about, write, replyOf};
 ghost use Rattle.row.specs.Row.{headAt, digestAt, headLength};
-ghost use Rattle.layout.specs.Memory.{whole, stateOf, etagOf};
-ghost use Rattle.calls.specs.Answers.{etagOf as etagIs, metadataOf, getReply};
+ghost use Rattle.layout.specs.Memory.{whole, stateOf, rowEtag};
+ghost use Rattle.calls.specs.Answers.{etagOf, metadataOf, getReply};
 ghost use Rattle.calls.specs.Made.{memory, outcome, Made};
 ghost use Rattle.reads.specs.Named.{namedIn, metadataAt, storedAt};
 
@@ -60,7 +60,7 @@ fn root() -> Metadata
 // The etag of the object whose row stands at `at`.
 fn etag(tables: &[u8], at: usize, kind: u8, count: u16) -> Etag
     requires { ⌜ at + headLength ≤ length (now tables) ⌝ }
-    ensures { λ r. ⌜ etagIs r ≡ etagOf kind (digestAt (drop at (now (tables .entry)))) count ⌝ }
+    ensures { λ r. ⌜ etagOf r ≡ rowEtag kind (digestAt (drop at (now (tables .entry)))) count ⌝ }
 {
     let digest = md5::get(tables, at + row::NUMBERS_LENGTH);
     if kind == layout::PLAIN_KIND {

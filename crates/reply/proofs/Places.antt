@@ -5,7 +5,7 @@ use mathlib.Core.List.{List, [], _++_, append-assoc, append-nil}
 use native.Mathlib.Omega.{arith}
 use lib.ListN.{length, length-append, drop-of-length-le}
 use Rattle.number.specs.Number.{le}
-use Rattle.number.specs.NumberLaws.{length-le}
+use Rattle.number.proofs.NumberLaws.{length-le}
 use Rattle.number.proofs.Fields.{over, front-next}
 use Rattle.md5.specs.Md5.{bytesOf}
 use Rattle.reply.specs.Reply.{fieldBytes}

@@ -5,7 +5,7 @@ use native.Mathlib.Omega.{arith}
 use lib.ListN.{length, take, drop}
 use lib.Seq.{take-at}
 use Rattle.number.specs.Number.{le}
-use Rattle.number.specs.NumberLaws.{length-le, fromLe-le}
+use Rattle.number.proofs.NumberLaws.{length-le, fromLe-le}
 use Rattle.machine.specs.Names.{Bytes}
 use Rattle.machine.specs.Etags.{Etag, absent, plain, joined, countOf, digestOf}
 use Rattle.machine.specs.Calls.{metadata, etag, number, counts}

@@ -12,7 +12,7 @@ use Rattle.md5.specs.declared.words.Digest.{Digest}
 use Rattle.md5.specs.Md5.{md5, bytesOf}
 use Rattle.md5.specs.DigestBytes.{digestBytes-is}
 use Rattle.order.specs.Order.{byBytes}
-use Rattle.order.specs.OrderLaws.{bytes as by-bytes}
+use Rattle.order.proofs.OrderLaws.{bytes as by-bytes}
 use Rattle.machine.specs.Map.{lookup}
 use Rattle.machine.specs.Names.{Bytes}
 use Rattle.machine.specs.Etags.{plain}

@@ -7,7 +7,7 @@ use mathlib.Core.Option.{none, some}
 use native.Mathlib.Omega.{arith}
 use lib.Dec.{leb}
 use lib.ListN.{length, drop}
-use Rattle.number.specs.NumberLaws.{Bytes}
+use Rattle.number.specs.Number.{AreBytes}
 use Rattle.order.specs.Order.{byBytes}
 use Rattle.machine.specs.Map.{isSome, lookup}
 use Rattle.machine.specs.State.{Object, State, objectLength, held}
@@ -16,7 +16,7 @@ use Rattle.row.specs.declared.Head.{Head}
 use Rattle.row.specs.Row.{encodeRows, headAt, numbersLength}
 use Rattle.layout.specs.Header.{headerLength}
 use Rattle.layout.specs.Memory.{objectRow, whole, stateOf, Stands}
-use Rattle.layout.specs.WholeLaws.{whole-stands}
+use Rattle.layout.proofs.WholeLaws.{whole-stands}
 use Rattle.find.specs.declared.Place.{Place}
 use Rattle.find.specs.Places.{beforeObject, afterObject, objectPlace}
 use Rattle.find.proofs.Splits.{object-found}
@@ -26,7 +26,7 @@ use Rattle.edit.proofs.PutLaws.{place-found}
 use Rattle.calls.specs.Made.{resultOf}
 use Rattle.room.proofs.PutAt.{object-share, room-old, room-new, room-none}
 
-module _ (t a : List ℕ) (b : Bytes t) (w : whole t a ≡ true) (p : List ℕ) (place : Place) (place-is : place ≡ objectPlace (stateOf t a) p)
+module _ (t a : List ℕ) (b : AreBytes t) (w : whole t a ≡ true) (p : List ℕ) (place : Place) (place-is : place ≡ objectPlace (stateOf t a) p)
     (bytes : ℕ) (bytes-are : bytes ≡ held (stateOf t a)) where
   abbrev s : State
   s = stateOf t a

@@ -1,4 +1,2 @@
 pub mod Fields
-pub mod FieldLaws
 pub mod Row
-pub mod RowLaws

@@ -1,11 +1,12 @@
 -- The rows of the tables: how they are written, and what stands at a place. Assumes nothing.
 use Prim.Native.Nat.{ℕ, zero, suc, _+_}
+use mathlib.Core.Path.{_≡_}
 use mathlib.Core.Bool.{Bool, true, _&&_}
 use mathlib.Core.List.{List, [], _∷_, _++_}
 use lib.Dec.{leb}
 use lib.ListN.{length, getD, take, drop}
 use Rattle.row.specs.declared.Head.{Head}
-use Rattle.row.specs.Fields.{fields, numbersAt}
+use Rattle.row.specs.Fields.{fields, numbersAt, Fit}
 
 -- a row with its data, which stands in the arena
 pub record Row : Type 0 where
@@ -59,6 +60,15 @@ unfoldable pub contentsOf : List Row → List ℕ
 contentsOf [] = []
 contentsOf (r ∷ rs) = r .content ++ contentsOf rs
 
+-- a row that its bytes can hold
+pub record Encodable (r : Row) : Type 0 where
+  pub fits : Fit widths (numbersOf (headOf r))
+  pub digest : length (r .digest) ≡ 16
+
+abbrev pub EncodableAll : List Row → Type 0
+EncodableAll [] = Unit {0}
+EncodableAll (r ∷ rs) = Encodable r × EncodableAll rs
+
 -- What stands at the front of t, whatever its bytes are ------------------------------------------------------------------
 
 abbrev pub headFrom : List ℕ → Head
@@ -93,7 +103,7 @@ rowAt t a =
 unfoldable pub inside : (t a : List ℕ) → Bool
 inside t a = leb headLength (length t) && (leb (spanAt t) (length t) && leb (headAt t .size) (length a))
 
--- n rows from the front of t on, with their data from the front of a on; and what stands behind them
+-- n rows from the front of t on, with their data from the front of a on; and what stands after them
 unfoldable pub rowsAt : ℕ → (t a : List ℕ) → List Row
 rowsAt zero t a = []
 rowsAt (suc n) t a = rowAt t a ∷ rowsAt n (drop (spanAt t) t) (drop (headAt t .size) a)

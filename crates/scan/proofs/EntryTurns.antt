@@ -7,14 +7,14 @@ use native.Mathlib.Nat.{add-zero, add-assoc}
 use native.Mathlib.Omega.{arith}
 use lib.Dec.{eqb, lit≤}
 use lib.ListN.{drop}
-use Rattle.number.specs.NumberLaws.{Bytes}
+use Rattle.number.specs.Number.{AreBytes}
 use Rattle.row.specs.declared.Head.{Head}
 use Rattle.row.specs.Row.{Row, rowAt, rowsAt}
 use Rattle.layout.specs.declared.Mark.{Mark}
 use Rattle.layout.specs.declared.Offset.{Offset}
 use Rattle.scan.specs.declared.Reading.the-variants.{Short, Fits}
 use Rattle.layout.specs.Rules.{entryRule, uploadKind, entryOk, entryNext, markAfter}
-use Rattle.layout.specs.Memory.{opens}
+use Rattle.layout.specs.Memory.{uploadsAmong}
 use Rattle.scan.specs.Scan.{readingOf, past, opensOne, entriesOk}
 use borrow.Author.Tests.{not-true, not-false}
 use Rattle.scan.proofs.Turns.{digestPart, pathPart, head-of, digest-of, path-of, rest-tables, rest-arena, more, good-end, good-short, good-wrong, good-next}
@@ -29,7 +29,7 @@ opens-small h = small (eqb (h .kind) uploadKind)
 
 module _ (t a : List ℕ) (N uploads opened n i : ℕ) (m : Mark) (o : Offset) where
   pub entries-end : n ≤ i → entriesOk N uploads opened (n - i) m o t a ≡ eqb opened uploads
-  unfolding entriesOk rowsAt opens
+  unfolding entriesOk rowsAt uploadsAmong
   entries-end l =
       let z : n - i ≡ 0 = omega arith in
       rw (good-end Mark (entryOk N) entryNext t a n i m o l, z, add-zero)
@@ -39,13 +39,13 @@ module _ (t a : List ℕ) (N uploads opened n i : ℕ) (m : Mark) (o : Offset) w
     unfolding entriesOk
     entries-short e = rw (good-short Mark (entryOk N) entryNext t a n i m o l e)
 
-    module _ (bytes : Bytes t) (h : Head) (f : readingOf (drop (o .at) t) (drop (o .base) a) ≡ Fits h) where
+    module _ (bytes : AreBytes t) (h : Head) (f : readingOf (drop (o .at) t) (drop (o .base) a) ≡ Fits h) where
       -- the row at o
       abbrev here : Row
       here = rowAt (drop (o .at) t) (drop (o .base) a)
 
-      opens-next : opens (rowsAt (n - i) (drop (o .at) t) (drop (o .base) a)) ≡ opensOne h + opens (rowsAt (n - (i + 1)) (drop (past o h .at) t) (drop (past o h .base) a))
-      unfolding rowsAt opens opensOne
+      opens-next : uploadsAmong (rowsAt (n - i) (drop (o .at) t) (drop (o .base) a)) ≡ opensOne h + uploadsAmong (rowsAt (n - (i + 1)) (drop (past o h .at) t) (drop (past o h .base) a))
+      unfolding rowsAt uploadsAmong opensOne
       opens-next =
           rw (
             more Mark (entryOk N) entryNext t a n i m o l,

@@ -4,7 +4,7 @@ use mathlib.Core.Path.{_≡_, sym, ap₂, _∙_}
 use mathlib.Core.Bool.{Bool, true, false, not}
 use mathlib.Core.List.{List}
 use lib.ListN.{drop}
-use Rattle.number.specs.NumberLaws.{Bytes}
+use Rattle.number.specs.Number.{AreBytes}
 use Rattle.row.specs.declared.Head.{Head}
 use Rattle.row.specs.Row.{rowAt}
 use Rattle.layout.specs.declared.Offset.{Offset}
@@ -25,7 +25,7 @@ module _ (t a : List ℕ) (n i : ℕ) (last : List ℕ) (o : Offset) where
     unfolding objectScan
     objects-short e = rw (good-short (List ℕ) objectOk objectNext t a n i last o l e)
 
-    module _ (bytes : Bytes t) (h : Head) (f : readingOf (drop (o .at) t) (drop (o .base) a) ≡ Fits h) (r : Bool) (e : r ≡ objectRule last h (pathPart t o h)) where
+    module _ (bytes : AreBytes t) (h : Head) (f : readingOf (drop (o .at) t) (drop (o .base) a) ≡ Fits h) (r : Bool) (e : r ≡ objectRule last h (pathPart t o h)) where
       judged : objectOk last (rowAt (drop (o .at) t) (drop (o .base) a)) ≡ r
       judged = ap₂ (objectRule last) (head-of t a o h f bytes) (path-of t a o h f bytes) ∙ sym e
 

@@ -8,18 +8,18 @@ use borrow.Author.Tests.{eqb-true, eqb-false}
 use lib.Dec.{leb, eqb, lit<}
 use lib.ListN.{length, take, drop, replicate, length-drop}
 use lib.Seq.{take-all}
-use Rattle.number.specs.Number.{fromLe}
-use Rattle.number.specs.NumberLaws.{Bytes, fromLe-same}
+use Rattle.number.specs.Number.{fromLe, AreBytes}
+use Rattle.number.proofs.NumberLaws.{fromLe-same}
 use Rattle.number.proofs.Halves.{get-halves}
 use Rattle.order.specs.Order.{byBytes, same}
-use Rattle.order.specs.OrderLaws.{same-self, same-false}
+use Rattle.order.proofs.OrderLaws.{same-self, same-false}
 use Rattle.order.specs.Compared.{orderOf}
 use Rattle.order.specs.declared.Order.{Order}
 use Rattle.order.specs.declared.Order.the-variants.{Less, Equal, Greater}
 use Rattle.row.specs.declared.Head.{Head}
 use Rattle.row.specs.Row.{headAt, spanAt, inside, headLength, span}
 use Rattle.scan.specs.declared.Reading.the-variants.{Short, Fits}
-use Rattle.layout.specs.Rules.{isLess, zeros}
+use Rattle.layout.specs.Rules.{isLess, noDigest}
 use Rattle.scan.specs.Scan.{readingOf}
 
 -- the tests of `read_row`
@@ -43,28 +43,28 @@ less-answered a b r k e q = ap answered (sym q ∙ e) ∙ same-answer (byBytes a
     same-answer Ordering·gt = refl
 
 -- sixteen bytes are 0 where the two numbers in them are
-bytes-zeros : (n : ℕ) → Bytes (replicate n 0)
+bytes-zeros : (n : ℕ) → AreBytes (replicate n 0)
 bytes-zeros zero i = lit< tt
 bytes-zeros (suc n) zero = lit< tt
 bytes-zeros (suc n) (suc i) = bytes-zeros n i
 
-module _ (d : List ℕ) (lo hi : ℕ) (b : Bytes d) (n : length d ≡ 16) (l : lo ≡ fromLe (take 8 d)) (h : hi ≡ fromLe (take 8 (drop 8 d))) where
+module _ (d : List ℕ) (lo hi : ℕ) (b : AreBytes d) (n : length d ≡ 16) (l : lo ≡ fromLe (take 8 d)) (h : hi ≡ fromLe (take 8 (drop 8 d))) where
   value : lo + 256 ^ 8 * hi ≡ fromLe d
   value = get-halves d 0 8 lo hi (omega arith) l h ∙ ap fromLe (take-all 16 d (omega arith))
 
-  all-zero : lo ≡ 0 → hi ≡ 0 → same d zeros ≡ true
+  all-zero : lo ≡ 0 → hi ≡ 0 → same d noDigest ≡ true
   unfolding fromLe
   all-zero p q =
-      let z : fromLe d ≡ fromLe zeros = sym value ∙ rw (p, q) in
-      rw (fromLe-same d zeros b (bytes-zeros 16) n z) (same-self zeros)
+      let z : fromLe d ≡ fromLe noDigest = sym value ∙ rw (p, q) in
+      rw (fromLe-same d noDigest b (bytes-zeros 16) n z) (same-self noDigest)
 
-  pub not-zero : (lo + 256 ^ 8 * hi ≡ 0 → ⊥) → same d zeros ≡ false
+  pub not-zero : (lo + 256 ^ 8 * hi ≡ 0 → ⊥) → same d noDigest ≡ false
   unfolding fromLe
-  not-zero n = same-false d zeros (λ e. n (value ∙ ap fromLe e))
+  not-zero n = same-false d noDigest (λ e. n (value ∙ ap fromLe e))
 
-  pub zero-rest : lo ≡ 0 → eqb hi 0 ≡ same d zeros
+  pub zero-rest : lo ≡ 0 → eqb hi 0 ≡ same d noDigest
   zero-rest p = pick (eqb hi 0) refl
     where
-      pick : (x : Bool) → eqb hi 0 ≡ x → x ≡ same d zeros
+      pick : (x : Bool) → eqb hi 0 ≡ x → x ≡ same d noDigest
       pick true e = sym (all-zero p (eqb-true hi 0 e))
       pick false e = sym (not-zero (λ z. eqb-false hi 0 e (omega arith)))

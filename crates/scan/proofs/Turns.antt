@@ -1,4 +1,4 @@
--- A turn of a scan: what is said of the rows from an offset on, said of those behind the first. Assumes nothing.
+-- A turn of a scan: what is said of the rows from an offset on, said of those after the first. Assumes nothing.
 use Prim.Native.Nat.{ℕ, suc, _+_, _-_, _≤_, _<_}
 use mathlib.Core.Path.{_≡_, refl, sym, ap, _∙_}
 use mathlib.Core.Bool.{Bool, true, false, cond}
@@ -7,10 +7,11 @@ use native.Mathlib.Nat.{add-assoc, add-sub-cancel-left}
 use native.Mathlib.Omega.{arith}
 use lib.ListN.{length, take, drop, length-drop}
 use lib.Seq.{drop-drop, length-take-le}
-use Rattle.number.specs.NumberLaws.{Bytes, bytes-drop}
+use Rattle.number.proofs.NumberLaws.{bytes-drop}
+use Rattle.number.specs.Number.{AreBytes}
 use Rattle.row.specs.declared.Head.{Head}
 use Rattle.row.specs.Row.{Row, headAt, digestAt, pathAt, spanAt, rowAt, inside, headOf, good, numbersLength, headLength, span}
-use Rattle.row.specs.RowLaws.{Inside, inside-true, head-at}
+use Rattle.row.proofs.RowLaws.{Inside, inside-true, head-at}
 use Rattle.layout.specs.declared.Offset.{Offset}
 use Rattle.scan.specs.declared.Reading.the-variants.{Short, Fits}
 use Rattle.scan.specs.Scan.{readingOf, past, pastAll}
@@ -88,7 +89,7 @@ module _ (t a : List ℕ) (o : Offset) (h : Head) (f : readingOf (drop (o .at) t
   pub rest-arena : drop (o .base + h .size) a ≡ drop (headAt s .size) b
   rest-arena = rw (drop-drop, same-size)
 
-  module _ (bytes : Bytes t) where
+  module _ (bytes : AreBytes t) where
     pub head-of : headOf (rowAt s b) ≡ h
     head-of = head-at s b (bytes-drop (o .at) t bytes) room ∙ sym head-is
 

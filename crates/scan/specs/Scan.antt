@@ -15,22 +15,22 @@ use Rattle.scan.specs.declared.Reading.the-variants.{Short, Fits}
 use Rattle.scan.specs.declared.Scan.{Scan}
 use Rattle.scan.specs.declared.Scan.the-variants.{Bad, Good}
 use Rattle.layout.specs.Rules.{uploadKind, objectOk, objectNext, entryOk, entryNext, start}
-use Rattle.layout.specs.Memory.{opens}
+use Rattle.layout.specs.Memory.{uploadsAmong}
 
 -- the head of the row at the front of t, where the row is all in t and its data all in a
 unfoldable pub readingOf : (t a : List ℕ) → Reading
 readingOf t a = cond (inside t a) (Fits (headAt t)) Short
 
--- behind a row with this head
+-- after a row with this head
 abbrev pub past : Offset → Head → Offset
 past o h = record { at = o .at + headLength + h .pathlen; base = o .base + h .size }
 
--- behind n rows
+-- after n rows
 unfoldable pub pastAll : ℕ → Offset → (t : List ℕ) → Offset
 pastAll zero o t = o
 pastAll (suc n) o t = pastAll n (past o (headAt (drop (o .at) t))) t
 
--- where n rows of objects from o on, behind one whose path is `last`, end, if they stand there by the rule
+-- where n rows of objects from o on, after one whose path is `last`, end, if they stand there by the rule
 unfoldable pub objectScan : ℕ → (last : List ℕ) → Offset → (t a : List ℕ) → Scan
 objectScan n last o t a = cond (good (List ℕ) objectOk objectNext n last (drop (o .at) t) (drop (o .base) a)) (Good (pastAll n o t)) Bad
 
@@ -38,12 +38,12 @@ objectScan n last o t a = cond (good (List ℕ) objectOk objectNext n last (drop
 unfoldable pub opensOne : Head → ℕ
 opensOne h = cond (eqb (h .kind) uploadKind) 1 0
 
--- n rows of uploads and parts from o on, behind m, stand by the rule and make, with `opened`, `uploads` uploads
+-- n rows of uploads and parts from o on, after m, stand by the rule and make, with `opened`, `uploads` uploads
 unfoldable pub entriesOk : (N uploads opened n : ℕ) → Mark → Offset → (t a : List ℕ) → Bool
 entriesOk N uploads opened n m o t a =
-    good Mark (entryOk N) entryNext n m (drop (o .at) t) (drop (o .base) a) && eqb (opened + opens (rowsAt n (drop (o .at) t) (drop (o .base) a))) uploads
+    good Mark (entryOk N) entryNext n m (drop (o .at) t) (drop (o .base) a) && eqb (opened + uploadsAmong (rowsAt n (drop (o .at) t) (drop (o .base) a))) uploads
 
--- the first row stands behind the header
+-- the first row stands after the header
 abbrev pub first : Offset
 first = record { at = headerLength; base = 0 }
 

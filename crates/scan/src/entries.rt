@@ -3,7 +3,7 @@ ghost use mathlib.Core.Path.{_≡_};
 ghost use Prim.Native.Nat.{_+_, _≤_};
 ghost use lib.ListN.{length};
 ghost use Rattle.order.specs.Order.{same};
-ghost use Rattle.layout.specs.Rules.{entryRule, zeros, uploadRule, partRule, markAfter, start};
+ghost use Rattle.layout.specs.Rules.{entryRule, noDigest, uploadRule, partRule, markAfter, start};
 ghost use Rattle.scan.specs.Scan.{opensOne, entriesOk};
 use crate::Reading;
 use crate::rows;
@@ -14,7 +14,7 @@ use row::Head;
 // Whether 16 bytes are 0.
 fn is_zero(d: &[u8]) -> bool
     requires { ⌜ length (now d) ≡ 16 ⌝ }
-    ensures { λ r. ⌜ r ≡ same (now (d .entry)) zeros ⌝ }
+    ensures { λ r. ⌜ r ≡ same (now (d .entry)) noDigest ⌝ }
 {
     if number::get_u64(d, 0) != 0 {
         return false;
@@ -22,7 +22,7 @@ fn is_zero(d: &[u8]) -> bool
     number::get_u64(d, 8) == 0
 }
 
-// Whether the row of an upload may stand behind m, where `next` is the number of the coming upload.
+// Whether the row of an upload may stand after m, where `next` is the number of the next upload.
 fn upload_ok(next: u64, m: Mark, h: Head, digest: &[u8], path: &[u8]) -> bool
     requires { ⌜ length (now digest) ≡ 16 ⌝ }
     ensures { λ r. ⌜ r ≡ uploadRule next m h (now (digest .entry)) (now (path .entry)) ⌝ }
@@ -48,7 +48,7 @@ fn upload_ok(next: u64, m: Mark, h: Head, digest: &[u8], path: &[u8]) -> bool
     is_zero(digest)
 }
 
-// Whether the row of a part may stand behind m.
+// Whether the row of a part may stand after m.
 fn part_ok(m: Mark, h: Head) -> bool
     ensures { λ r. ⌜ r ≡ partRule m h ⌝ }
 {
@@ -73,7 +73,7 @@ fn part_ok(m: Mark, h: Head) -> bool
     names::stored_part_ok(h.number)
 }
 
-// Whether the row of an upload or a part may stand behind m.
+// Whether the row of an upload or a part may stand after m.
 fn entry_ok(next: u64, m: Mark, h: Head, digest: &[u8], path: &[u8]) -> bool
     requires { ⌜ length (now digest) ≡ 16 ⌝ }
     ensures { λ r. ⌜ r ≡ entryRule next m h (now (digest .entry)) (now (path .entry)) ⌝ }
@@ -92,7 +92,7 @@ fn opening(h: Head) -> usize
     if h.kind == layout::UPLOAD_KIND { 1 } else { 0 }
 }
 
-// The mark behind a row with head h.
+// The mark after a row with head h.
 fn mark_after(m: Mark, h: Head) -> Mark
     ensures { λ r. ⌜ r ≡ markAfter m h ⌝ }
 {

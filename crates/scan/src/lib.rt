@@ -26,7 +26,7 @@ pub enum Scan {
     Good(Offset),
 }
 
-// Whether all rows stand behind a header.
+// Whether all rows stand after a header.
 fn rows_ok(tables: &[u8], arena: &[u8], h: Header) -> bool
     requires { ⌜ headerLength ≤ length (now tables) ⌝ }
     ensures { λ r. ⌜ r ≡ rowsOk h (now (tables .entry)) (now (arena .entry)) ⌝ }

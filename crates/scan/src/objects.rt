@@ -37,7 +37,7 @@ fn ascend(a: &[u8], b: &[u8]) -> bool
     }
 }
 
-// Whether the row of an object may stand behind one whose path is `last`.
+// Whether the row of an object may stand after one whose path is `last`.
 fn object_ok(last: &[u8], h: Head, path: &[u8]) -> bool
     ensures { λ r. ⌜ r ≡ objectRule (now (last .entry)) h (now (path .entry)) ⌝ }
 {

@@ -58,7 +58,7 @@ fn get_list_or_uploads(
     }
 }
 
-// The same, and the buffer behind the answer: GET's as text.
+// The same, and the buffer after the answer: GET's as text.
 fn call_and_show(tables: &[u8], arena: &[u8], word: usize, line: &[u8], answer: &mut [u8]) {
     get_list_or_uploads(tables, arena, word, field(line, 2), field(line, 3), answer);
     print_buffer(answer, word == GET);

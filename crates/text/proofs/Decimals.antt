@@ -8,7 +8,7 @@ use lib.Dec.{lit≤}
 use lib.ListN.{length, take, drop, length-append, length-drop}
 use lib.Seq.{take-all, drop-at, drop-append-le}
 use Rattle.text.specs.Text.{digits, decimal}
-use Rattle.text.specs.TextLaws.{digits-one, digits-more, length-digits-one, length-digits-more, one-or-more}
+use Rattle.text.proofs.TextLaws.{digits-one, digits-more, length-digits-one, length-digits-more, one-or-more}
 
 -- the last k digits of n
 unfoldable pub padded : (k n : ℕ) → List ℕ

@@ -10,7 +10,7 @@ use lib.Seq.{paste, take-length}
 use Rattle.number.proofs.Halves.{write-next}
 use Rattle.buffer.proofs.Copying.{copy-step}
 use Rattle.text.specs.Text.{hexDigit, hex}
-use Rattle.text.specs.TextLaws.{length-hex}
+use Rattle.text.proofs.TextLaws.{length-hex}
 
 two-more : (i : ℕ) → 2 * suc i ≡ suc (suc (2 * i))
 two-more i = omega arith

@@ -7,7 +7,7 @@ use native.Mathlib.Nat.{mod-eq-of-lt}
 use native.Mathlib.Omega.{arith}
 use lib.ListN.{length, take, drop, length-append, take-append-drop}
 use Rattle.number.specs.Number.{le}
-use Rattle.number.specs.NumberLaws.{length-le}
+use Rattle.number.proofs.NumberLaws.{length-le}
 use Rattle.number.proofs.Fields.{over}
 use Rattle.number.proofs.Halves.{write-next}
 use Rattle.order.specs.Order.{begins}
@@ -26,7 +26,7 @@ length-under prefix u p t n = go (begins prefix p)
     go true = length-record u p t n
     go false = refl
 
--- y is written behind x
+-- y is written after x
 behind : (b b₁ b₂ x y : List ℕ) (at k j place : ℕ) → length x ≡ k → at + k ≤ length b → place ≡ at + k → b₁ ≡ over b at x k → b₂ ≡ over b₁ place y j → b₂ ≡ over b at (x ++ y) (k + j)
 behind b b₁ b₂ x y at k j place n room e one two = two ∙ ap₂ (λ (c : List ℕ) (i : ℕ). over c i y j) one e ∙ write-next b at x y k j n room
 
@@ -34,7 +34,7 @@ byte : (m : ℕ) → m < 256 → le 1 m ≡ m ∷ []
 unfolding le
 byte m h = ap (λ (k : ℕ). k ∷ []) (mod-eq-of-lt h)
 
--- five fields, one behind the other
+-- five fields, one after the other
 pub record-written : (b b₁ b₂ b₃ b₄ b₅ p : List ℕ) (at u t n : ℕ) → length p ≤ 128 → at + (15 + length p) ≤ length b
     → b₁ ≡ over b at (le 4 u) 4 → b₂ ≡ over b₁ (at + 4) (le 1 (length p)) 1 → b₃ ≡ over b₂ (at + 5) p (length p)
     → b₄ ≡ over b₃ (at + 5 + length p) (le 8 t) 8 → b₅ ≡ over b₄ (at + 13 + length p) (le 2 n) 2

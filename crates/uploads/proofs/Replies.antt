@@ -5,7 +5,7 @@ use mathlib.Core.Bool.{true}
 use mathlib.Core.List.{List, _++_}
 use native.Mathlib.Omega.{arith}
 use lib.ListN.{length, drop}
-use Rattle.number.specs.NumberLaws as number
+use Rattle.number.specs.Number.{AreBytes}
 use Rattle.types.specs.declared.Counts.{Counts}
 use Rattle.types.specs.declared.ListAnswer.the-variants.{Refused, Written}
 use Rattle.machine.specs.Map.{Map, records}
@@ -15,7 +15,7 @@ use Rattle.machine.specs.Calls.{UPLOADS, counts, Reply}
 use Rattle.machine.specs.Steps.{openUnder, uploadRecord, act, replyOf}
 use Rattle.machine.proofs.Records.{write-fits, write-short}
 use Rattle.layout.specs.Memory.{whole, stateOf}
-use Rattle.layout.specs.WholeLaws.{whole-stands}
+use Rattle.layout.proofs.WholeLaws.{whole-stands}
 use Rattle.calls.specs.Answers.{listReply, success}
 use Rattle.calls.specs.Made.{memory, outcome, Made}
 use Rattle.calls.proofs.Reading.{reads, write-keeps}
@@ -48,6 +48,6 @@ module _ (t a : List ℕ) (prefix b : Bytes) where
       ∙ sym (write-fits (counts (length l) (length out)) out b s (omega arith))
 
   -- the contract
-  pub made-uploads : number.Bytes t → whole t a ≡ true → (r : Reply) → r ≡ replyOf b (outcome (UPLOADS prefix b) (memory t a)) → Made (UPLOADS prefix b) (memory t a) r (memory t a)
+  pub made-uploads : AreBytes t → whole t a ≡ true → (r : Reply) → r ≡ replyOf b (outcome (UPLOADS prefix b) (memory t a)) → Made (UPLOADS prefix b) (memory t a) r (memory t a)
   unfolding outcome act
   made-uploads bytes w r e = reads (UPLOADS prefix b) (memory t a) r w (whole-stands t a bytes w) (write-keeps (counts (length l) (length out)) out b s) e

@@ -9,7 +9,7 @@ use native.Mathlib.Numerals.{add-one}
 use native.Mathlib.Omega.{arith}
 use lib.ListN.{length, getD, take, drop}
 use lib.Seq.{take-suc}
-use Rattle.order.specs.OrderLaws.{numbers, cases, above}
+use Rattle.order.proofs.OrderLaws.{numbers, cases, above}
 use Rattle.machine.specs.Map.{isSome, Map, byNumber, lookup, place}
 use Rattle.machine.specs.State.{Upload, State, partsIn}
 use Rattle.machine.specs.Valid.{UploadOk}
@@ -20,7 +20,7 @@ use Rattle.row.specs.declared.Head.{Head}
 use Rattle.row.specs.Row.{Row, encodeRows, headAt, headOf, headLength, span}
 use Rattle.layout.specs.Header.{headerLength}
 use Rattle.layout.specs.Memory.{objectRows, uploadRow, partRows, uploadRows, rowsOf, Stands}
-use Rattle.layout.specs.TestLaws.{stored-path-length}
+use Rattle.layout.proofs.TestLaws.{stored-path-length}
 use Rattle.find.specs.declared.RowPlace.{RowPlace}
 use Rattle.find.specs.declared.PassedParts.{PassedParts}
 use Rattle.find.specs.Places.{beforeUpload, beforeParts, throughParts, afterUpload, passedParts}

@@ -11,7 +11,7 @@ use Rattle.find.specs.Places.{passedParts}
 use Rattle.find.specs.Search.{rowPlaceAt}
 use Rattle.uploads.specs.declared.rows.OpenUpload.{OpenUpload}
 
--- the place of the row of the upload that has i before it: behind the objects, and those i with their parts
+-- the place of the row of the upload that has i before it: after the objects, and those i with their parts
 unfoldable pub uploadRowPlace : State → ℕ → RowPlace
 uploadRowPlace s i = rowPlaceAt (rowsOf s) (length (objectRows (s .O) ++ uploadRows (take i (s .U))))
 

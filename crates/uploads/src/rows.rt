@@ -12,7 +12,7 @@ ghost use Rattle.find.specs.Places.{beforeUpload};
 ghost use Rattle.find.specs.Search.{rowPlaceAt};
 ghost use Rattle.uploads.specs.Rows.{uploadRowPlace, RowRead};
 
-// An open upload: its path stands in the tables from `from` to `to`, and `next` is the row behind its parts.
+// An open upload: its path stands in the tables from `from` to `to`, and `next` is the row after its parts.
 pub struct OpenUpload {
     pub number: u32,
     pub from: usize,

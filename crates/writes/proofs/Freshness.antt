@@ -11,7 +11,7 @@ use Rattle.machine.specs.Steps.{FRESH}
 use Rattle.machine.proofs.KeepsValid.{fresh-valid}
 use Rattle.row.specs.Row.{encodeRows, contentsOf}
 use Rattle.layout.specs.Memory.{objectRows, uploadRows, rowsOf, Stands, tablesLength, arenaMost}
-use Rattle.layout.specs.StandsLaws.{stands-state, stands-whole}
+use Rattle.layout.proofs.StandsLaws.{stands-state, stands-whole}
 use Rattle.layout.specs.Header.{headerBytes, headed, encodeHeader, headerLength}
 use Rattle.calls.specs.Made.{memory, freshResult, MadeFresh}
 

@@ -4,7 +4,7 @@ use mathlib.Core.Path.{_≡_, sym, ap, _∙_, subst}
 use mathlib.Core.Bool.{true, false, _&&_}
 use mathlib.Core.List.{List, []}
 use lib.ListN.{length}
-use Rattle.number.specs.NumberLaws as bytes
+use Rattle.number.specs.Number.{AreBytes}
 use Rattle.md5.specs.declared.words.Digest.{Digest}
 use Rattle.md5.specs.Md5.{md5}
 use Rattle.machine.specs.Names.{Bytes, stampOk, newPathOk}
@@ -14,7 +14,7 @@ use Rattle.machine.specs.Steps.{plainObject, putAt, act, after}
 use Rattle.machine.specs.Valid.{Valid}
 use Rattle.machine.proofs.KeepsValid.{next-valid}
 use Rattle.layout.specs.Memory.{whole, stateOf, Stands}
-use Rattle.layout.specs.WholeLaws.{whole-stands}
+use Rattle.layout.proofs.WholeLaws.{whole-stands}
 use Rattle.edit.specs.Objects.{plainWith}
 use Rattle.room.proofs.PutAt.{put-at-accepted, plain-is}
 use Rattle.calls.specs.Made.{Memory, memory, stateIn, outcome, resultOf}
@@ -49,7 +49,7 @@ module _ (m : Memory) (t : ℕ) (p d : Bytes) where
 
 -- the object that is put, by the digest of its data
 module _ (t : ℕ) (p d : Bytes) (digest : Digest) (e : digest ≡ md5 d) where
-  pub put-ready : (tables arena : List ℕ) → bytes.Bytes tables → whole tables arena ≡ true → resultOf (outcome (PUT t p d) (memory tables arena)) ≡ 0
+  pub put-ready : (tables arena : List ℕ) → AreBytes tables → whole tables arena ≡ true → resultOf (outcome (PUT t p d) (memory tables arena)) ≡ 0
       → Valid (length arena) (withObject (stateOf tables arena) p (plainWith t digest d))
   put-ready tables arena b w j =
       subst (λ (y : Object). Valid (length arena) (withObject (stateOf tables arena) p y)) (sym (plain-is t d digest e)) (put-valid (memory tables arena) t p d (whole-stands tables arena b w .valid) j)

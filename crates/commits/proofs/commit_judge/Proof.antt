@@ -1,7 +1,7 @@
 -- `commits::commit_judge` meets its contract: one law for each check. Assumes nothing.
 use mathlib.Core.Bool.{true}
 use borrow.Author.Tests.{not-true, not-false}
-use Rattle.number.specs.NumberLaws.{Bytes}
+use Rattle.number.specs.Number.{AreBytes}
 use Rattle.commits.proofs.Committing.{open-found, missing-judged, unfit-judged, room-judged}
 use borrow.Author.Needs.{needs}
 use Rattle.commits.proofs.commit_judge.Statement.{statement}
@@ -25,7 +25,7 @@ list-fits-requires c κs =
 returns-2 : tie.Need-returns-2
 returns-2 c =
     let a = c .before .before .before .before .before .before .before .before .args in
-    let b : Bytes (a .tables .now) = λ j. c .before .before .before .before .before .before .before .shared-slice-known .given j .fits in
+    let b : AreBytes (a .tables .now) = λ j. c .before .before .before .before .before .before .before .shared-slice-known .given j .fits in
     let f = c .before .before .before .before .find-upload in
     let l = c .before .list-fits in
     unfit-judged (a .tables .now) (a .arena .now) (a .upload .0) (a .list .now) (f .result) (f .ensures) b (c .before .before .before .before .before .before .before .before .pre) (not-false _ (c .before .before .if1 .left)) (l .result) (l .ensures) (not-true _ (c .if2 .taken))
@@ -39,7 +39,7 @@ commit-room-requires c κs =
 returns-3 : tie.Need-returns-3
 returns-3 c =
     let a = c .before .before .before .before .before .before .before .before .before .args in
-    let b : Bytes (a .tables .now) = λ j. c .before .before .before .before .before .before .before .before .shared-slice-known .given j .fits in
+    let b : AreBytes (a .tables .now) = λ j. c .before .before .before .before .before .before .before .before .shared-slice-known .given j .fits in
     let f = c .before .before .before .before .before .find-upload in
     let l = c .before .before .list-fits in
     room-judged (a .tables .now) (a .arena .now) (a .upload .0) (a .list .now) (f .result) (f .ensures) b (c .before .before .before .before .before .before .before .before .before .pre) (not-false _ (c .before .before .before .if1 .left)) (l .result) (l .ensures) (not-false _ (c .before .if2 .left)) (c .commit-room .result) (c .commit-room .ensures)

@@ -1,7 +1,7 @@
 -- `commits::commit_room` meets its contract: PUT of no bytes at the path in the upload's row. Assumes nothing.
 use Prim.Native.Nat.{_+_, _≤_}
 use lib.ListN.{length}
-use Rattle.number.specs.NumberLaws.{Bytes}
+use Rattle.number.specs.Number.{AreBytes}
 use Rattle.row.specs.Row.{span}
 use Rattle.commits.proofs.PathRoom.{row-inside, path-ends, path-room}
 use native.Mathlib.Omega.{arith}
@@ -15,7 +15,7 @@ find-upload-requires c κs = search needs
 read-head-requires : tie.Need-read-head-requires
 read-head-requires c κs =
     let a = c .before .before .before .args in
-    let b : Bytes (a .tables .now) = λ j. c .before .before .shared-slice-known .given j .fits in
+    let b : AreBytes (a .tables .now) = λ j. c .before .before .shared-slice-known .given j .fits in
     let p = c .before .before .before .pre in
     let f = c .find-upload in
     omega (arith, row-inside (a .tables .now) (a .arena .now) b (p .0) (a .upload .0) (f .result) (f .ensures) (p .1))
@@ -25,7 +25,7 @@ module _ (c : tie.After-read-head) where
   abbrev start : tie.Start
   start = c .before .before .before .before
 
-  bytes : Bytes (start .args .tables .now)
+  bytes : AreBytes (start .args .tables .now)
   bytes = λ j. c .before .before .before .shared-slice-known .given j .fits
 
   ends : c .before .find-upload .result .at + span (c .read-head .result) ≤ length (start .args .tables .now)

@@ -2,7 +2,7 @@
 use mathlib.Core.Path.{refl, sym, _∙_}
 use mathlib.Core.List.{[]}
 use borrow.Author.Needs.{needs}
-use Rattle.number.specs.NumberLaws.{Bytes}
+use Rattle.number.specs.Number.{AreBytes}
 use Rattle.machine.specs.Calls.{nothing}
 use Rattle.calls.proofs.MadeLaws.{judged, done}
 use Rattle.commits.proofs.Committing.{commit-ready, commit-done}
@@ -25,7 +25,7 @@ join-requires : tie.Need-join-requires
 join-requires c κs =
     let k = c .before .before in
     let s = k .before .before .before .before .before .before .before in
-    let b : Bytes (s .args .tables .now) = λ i. k .before .before .before .before .before .before .slice-known .given i .fits in
+    let b : AreBytes (s .args .tables .now) = λ i. k .before .before .before .before .before .before .slice-known .given i .fits in
     commit-ready (s .args .tables .now) (s .args .arena .now) (s .args .upload .0) (s .args .list .now) (s .pre) (sym (k .before .commit-judge .ensures) ∙ k .if1 .left) b
 
 same-length-3 : tie.Need-same-length-3
@@ -38,7 +38,7 @@ returns-2 : tie.Need-returns-2
 returns-2 c =
     let k = c .before .before .before .before .before .before .before in
     let s = k .before .before .before .before .before .before .before in
-    let b : Bytes (s .args .tables .now) = λ i. k .before .before .before .before .before .before .slice-known .given i .fits in
+    let b : AreBytes (s .args .tables .now) = λ i. k .before .before .before .before .before .before .slice-known .given i .fits in
     let z = sym (k .before .commit-judge .ensures) ∙ k .if1 .left in
     let ready = commit-ready (s .args .tables .now) (s .args .arena .now) (s .args .upload .0) (s .args .list .now) (s .pre) z b in
     let o = c .before .before .before .before .join in

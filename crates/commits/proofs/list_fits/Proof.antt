@@ -6,7 +6,7 @@ use native.Mathlib.Omega.{arith}
 use borrow.Author.Needs.{needs}
 use borrow.Author.Tests.{not-true, not-false}
 use lib.ListN.{length}
-use Rattle.number.specs.NumberLaws.{Bytes}
+use Rattle.number.specs.Number.{AreBytes}
 use Rattle.machine.specs.Map.{byNumber, lookup}
 use Rattle.machine.specs.State.{Upload}
 use Rattle.layout.specs.Memory.{stateOf, rowsOf}
@@ -31,7 +31,7 @@ parts-end-requires c κs = search needs
 mul-if1 : tie.Need-mul-if1 Inv-loop μ-loop
 mul-if1 c =
     let a = c .before .before .before .before .args in
-    let b : Bytes (a .tables .now) = λ j. c .before .before .before .shared-slice-known .given j .fits in
+    let b : AreBytes (a .tables .now) = λ j. c .before .before .before .shared-slice-known .given j .fits in
     let p = c .before .before .before .before .pre in
     let f = c .parts-end in
     omega (arith, count-few (a .tables .now) (a .arena .now) b (p .0) (a .upload .0) (f .result) (p .1) (f .ensures))
@@ -39,7 +39,7 @@ mul-if1 c =
 returns : tie.Need-returns Inv-loop μ-loop
 returns c =
     let a = c .before .before .before .before .before .args in
-    let b : Bytes (a .tables .now) = λ j. c .before .before .before .before .shared-slice-known .given j .fits in
+    let b : AreBytes (a .tables .now) = λ j. c .before .before .before .before .shared-slice-known .given j .fits in
     let p = c .before .before .before .before .before .pre in
     let f = c .before .parts-end in
     λ x e. unfit-list (a .tables .now) (a .arena .now) b (p .0) (a .upload .0) (f .result) x e (f .ensures x e) (a .list .now) (omega (arith, c .if1 .taken))
@@ -82,7 +82,7 @@ returns-3 c =
     let l = c .before in
     let k = l .before .before .before .before .before .before .before in
     let a = k .args in
-    let b : Bytes (a .tables .now) = λ j. l .before .before .before .before .before .before .shared-slice-known .given j .fits in
+    let b : AreBytes (a .tables .now) = λ j. l .before .before .before .before .before .before .shared-slice-known .given j .fits in
     let r = l .before .parts-row in
     let f = l .before .before .before .parts-end in
     let end : l .loop .i ≡ f .result .count = omega arith in

@@ -3,7 +3,7 @@ use Prim.Native.Nat.{ℕ}
 use mathlib.Core.Path.{_≡_, refl, sym, _∙_}
 use mathlib.Core.List.{List, []}
 use borrow.Author.Needs.{needs}
-use Rattle.number.specs.NumberLaws.{Bytes}
+use Rattle.number.specs.Number.{AreBytes}
 use Rattle.machine.specs.Calls.{COPY, nothing}
 use Rattle.calls.specs.Made.{memory, outcome, resultOf}
 use Rattle.calls.proofs.MadeLaws.{judged, done}
@@ -40,7 +40,7 @@ module _ (c : tie.Else1) where
   abbrev q : List ℕ
   q = start .args .destination .now
 
-  bytes : Bytes t
+  bytes : AreBytes t
   bytes = λ j. c .before .before .before .before .before .before .before .slice-known .given j .fits
 
   zero-result : resultOf (outcome (COPY (start .args .stamp .0) p q) (memory t a)) ≡ 0

@@ -1,5 +1,5 @@
 -- `copies::source_digest` meets its contract: the digest of the part of the arena that holds the data. Assumes nothing.
-use Rattle.number.specs.NumberLaws.{Bytes}
+use Rattle.number.specs.Number.{AreBytes}
 use mathlib.Core.Path.{refl, ap, _∙_}
 use Rattle.md5.specs.Md5.{md5}
 use Rattle.copies.proofs.Sources.{head-inside, data-inside, data-small, data-read}
@@ -14,7 +14,7 @@ find-object-requires c κs = search needs
 read-head-requires : tie.Need-read-head-requires
 read-head-requires c κs =
     let a = c .before .before .before .before .args in
-    let b : Bytes (a .tables .now) = λ j. c .before .before .before .shared-slice-known .given j .fits in
+    let b : AreBytes (a .tables .now) = λ j. c .before .before .before .shared-slice-known .given j .fits in
     let p = c .before .before .before .before .pre in
     let f = c .find-object in
     head-inside (a .tables .now) (a .arena .now) (a .source .now) b (p .0) (f .result) (f .ensures) (p .1)
@@ -25,7 +25,7 @@ cast-to c = search needs
 add-to : tie.Need-add-to
 add-to c =
     let a = c .before .before .before .before .before .before .args in
-    let b : Bytes (a .tables .now) = λ j. c .before .before .before .before .before .shared-slice-known .given j .fits in
+    let b : AreBytes (a .tables .now) = λ j. c .before .before .before .before .before .shared-slice-known .given j .fits in
     let p = c .before .before .before .before .before .before .pre in
     let f = c .before .before .find-object in
     let h = c .before .read-head in
@@ -40,7 +40,7 @@ part-digest-start c = search needs
 part-digest-end : tie.Need-part-digest-end
 part-digest-end c =
     let a = c .before .before .before .before .before .before .args in
-    let b : Bytes (a .tables .now) = λ j. c .before .before .before .before .before .shared-slice-known .given j .fits in
+    let b : AreBytes (a .tables .now) = λ j. c .before .before .before .before .before .shared-slice-known .given j .fits in
     let p = c .before .before .before .before .before .before .pre in
     let f = c .before .before .find-object in
     let h = c .before .read-head in
@@ -52,7 +52,7 @@ digest-requires c κs = search needs
 returns : tie.Need-returns
 returns c =
     let a = c .before .before .before .before .before .before .before .before .args in
-    let b : Bytes (a .tables .now) = λ j. c .before .before .before .before .before .before .before .shared-slice-known .given j .fits in
+    let b : AreBytes (a .tables .now) = λ j. c .before .before .before .before .before .before .before .shared-slice-known .given j .fits in
     let p = c .before .before .before .before .before .before .before .before .pre in
     let f = c .before .before .before .before .find-object in
     let h = c .before .before .before .read-head in

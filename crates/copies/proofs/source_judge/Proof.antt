@@ -1,5 +1,5 @@
 -- `copies::source_judge` meets its contract: the source is missing, or its length is put at the destination. Assumes nothing.
-use Rattle.number.specs.NumberLaws.{Bytes}
+use Rattle.number.specs.Number.{AreBytes}
 use mathlib.Core.Bool.{true, false}
 use borrow.Author.Tests.{not-true, not-false}
 use lib.ListN.{length}
@@ -16,7 +16,7 @@ find-object-requires c κs = search needs
 returns : tie.Need-returns
 returns c =
     let a = c .before .before .before .before .before .before .before .args in
-    let b : Bytes (a .tables .now) = λ j. c .before .before .before .before .before .before .shared-slice-known .given j .fits in
+    let b : AreBytes (a .tables .now) = λ j. c .before .before .before .before .before .before .shared-slice-known .given j .fits in
     let w = c .before .before .before .before .before .before .before .pre in
     let f = c .before .before .find-object in
     judged-missing (length (a .arena .now)) (stateOf (a .tables .now) (a .arena .now)) (a .stamp .0) (a .source .now) (a .destination .now) (place-found (stateOf (a .tables .now) (a .arena .now)) (a .source .now) (f .result) false (f .ensures) (not-true _ (c .if1 .taken)))
@@ -24,7 +24,7 @@ returns c =
 read-head-requires : tie.Need-read-head-requires
 read-head-requires c κs =
     let a = c .before .before .before .before .before .before .before .args in
-    let b : Bytes (a .tables .now) = λ j. c .before .before .before .before .before .before .shared-slice-known .given j .fits in
+    let b : AreBytes (a .tables .now) = λ j. c .before .before .before .before .before .before .shared-slice-known .given j .fits in
     let w = c .before .before .before .before .before .before .before .pre in
     let f = c .before .before .find-object in
     head-inside (a .tables .now) (a .arena .now) (a .source .now) b w (f .result) (f .ensures) (place-found (stateOf (a .tables .now) (a .arena .now)) (a .source .now) (f .result) true (f .ensures) (not-false _ (c .if1 .left)))
@@ -38,7 +38,7 @@ object-judge-requires c κs = search needs
 returns-2 : tie.Need-returns-2
 returns-2 c =
     let a = c .before .before .before .before .before .before .before .before .before .before .args in
-    let b : Bytes (a .tables .now) = λ j. c .before .before .before .before .before .before .before .before .before .shared-slice-known .given j .fits in
+    let b : AreBytes (a .tables .now) = λ j. c .before .before .before .before .before .before .before .before .before .shared-slice-known .given j .fits in
     let w = c .before .before .before .before .before .before .before .before .before .before .pre in
     let f = c .before .before .before .before .before .find-object in
     let h = c .before .before .read-head in

@@ -1,9 +1,9 @@
--- `edit_copy::copy_across` meets its contract: the path is freed, the data copied behind the last byte held, and the object put in. Assumes nothing.
+-- `edit_copy::copy_across` meets its contract: the path is freed, the data copied after the last byte held, and the object put in. Assumes nothing.
 use mathlib.Core.Path.{_∙_}
-use Rattle.number.specs.NumberLaws.{Bytes}
+use Rattle.number.specs.Number.{AreBytes}
 use Rattle.machine.specs.State.{withoutObject}
 use Rattle.layout.specs.Memory.{stateOf}
-use Rattle.layout.specs.StandsLaws.{stands-whole}
+use Rattle.layout.proofs.StandsLaws.{stands-whole}
 use Rattle.edit_copy.proofs.Copying.{source-inside, copy-inside, copy-addable, copy-stands}
 use native.Mathlib.Omega.{arith}
 use borrow.Author.Needs.{needs}
@@ -16,7 +16,7 @@ free-path-requires c κs = search needs
 rows-end-requires : tie.Need-rows-end-requires
 rows-end-requires c κs =
     let a = c .before .before .before .before .before .before .before .before .before .before .before .before .before .args in
-    let b : Bytes (a .tables .now) = λ j. c .before .before .before .before .before .before .before .before .before .before .before .before .slice-known .given j .fits in
+    let b : AreBytes (a .tables .now) = λ j. c .before .before .before .before .before .before .before .before .before .before .before .before .slice-known .given j .fits in
     let p = c .before .before .before .before .before .before .before .before .before .before .before .before .before .pre in
     let f = c .before .before .before .before .before .before .free-path in
     stands-whole (f .last .0) (f .last .1 .0) (withoutObject (stateOf (a .tables .now) (a .arena .now)) (a .destination .now)) (f .ensures)
@@ -24,7 +24,7 @@ rows-end-requires c κs =
 find-object-requires : tie.Need-find-object-requires
 find-object-requires c κs =
     let a = c .before .before .before .before .before .before .before .before .before .before .before .before .before .before .before .before .args in
-    let b : Bytes (a .tables .now) = λ j. c .before .before .before .before .before .before .before .before .before .before .before .before .before .before .before .slice-known .given j .fits in
+    let b : AreBytes (a .tables .now) = λ j. c .before .before .before .before .before .before .before .before .before .before .before .before .before .before .before .slice-known .given j .fits in
     let p = c .before .before .before .before .before .before .before .before .before .before .before .before .before .before .before .before .pre in
     let f = c .before .before .before .before .before .before .before .before .before .free-path in
     stands-whole (f .last .0) (f .last .1 .0) (withoutObject (stateOf (a .tables .now) (a .arena .now)) (a .destination .now)) (f .ensures)
@@ -32,7 +32,7 @@ find-object-requires c κs =
 read-head-requires : tie.Need-read-head-requires
 read-head-requires c κs =
     let a = c .before .before .before .before .before .before .before .before .before .before .before .before .before .before .before .before .before .before .args in
-    let b : Bytes (a .tables .now) = λ j. c .before .before .before .before .before .before .before .before .before .before .before .before .before .before .before .before .before .slice-known .given j .fits in
+    let b : AreBytes (a .tables .now) = λ j. c .before .before .before .before .before .before .before .before .before .before .before .before .before .before .before .before .before .slice-known .given j .fits in
     let p = c .before .before .before .before .before .before .before .before .before .before .before .before .before .before .before .before .before .before .pre in
     let f = c .before .before .before .before .before .before .before .before .before .before .before .free-path in
     let e = c .before .before .before .before .rows-end in
@@ -45,7 +45,7 @@ cast-size c = search needs
 copy-within-requires : tie.Need-copy-within-requires
 copy-within-requires c κs =
     let a = c .before .before .before .before .before .before .before .before .before .before .before .before .before .before .before .before .before .before .before .before .before .args in
-    let b : Bytes (a .tables .now) = λ j. c .before .before .before .before .before .before .before .before .before .before .before .before .before .before .before .before .before .before .before .before .slice-known .given j .fits in
+    let b : AreBytes (a .tables .now) = λ j. c .before .before .before .before .before .before .before .before .before .before .before .before .before .before .before .before .before .before .before .before .slice-known .given j .fits in
     let p = c .before .before .before .before .before .before .before .before .before .before .before .before .before .before .before .before .before .before .before .before .before .pre in
     let f = c .before .before .before .before .before .before .before .before .before .before .before .before .before .before .free-path in
     let e = c .before .before .before .before .before .before .before .rows-end in
@@ -55,7 +55,7 @@ copy-within-requires c κs =
 add-object-requires : tie.Need-add-object-requires
 add-object-requires c κs =
     let a = c .before .before .before .before .before .before .before .before .before .before .before .before .before .before .before .before .before .before .before .before .before .before .before .before .before .before .args in
-    let b : Bytes (a .tables .now) = λ j. c .before .before .before .before .before .before .before .before .before .before .before .before .before .before .before .before .before .before .before .before .before .before .before .before .before .slice-known .given j .fits in
+    let b : AreBytes (a .tables .now) = λ j. c .before .before .before .before .before .before .before .before .before .before .before .before .before .before .before .before .before .before .before .before .before .before .before .before .before .slice-known .given j .fits in
     let p = c .before .before .before .before .before .before .before .before .before .before .before .before .before .before .before .before .before .before .before .before .before .before .before .before .before .before .pre in
     let f = c .before .before .before .before .before .before .before .before .before .before .before .before .before .before .before .before .before .before .before .free-path in
     let e = c .before .before .before .before .before .before .before .before .before .before .before .before .rows-end in
@@ -79,7 +79,7 @@ same-length-2 c =
 returns : tie.Need-returns
 returns c =
     let a = c .before .before .before .before .before .before .before .before .before .before .before .before .before .before .before .before .before .before .before .before .before .before .before .before .before .before .before .before .before .before .before .args in
-    let b : Bytes (a .tables .now) = λ j. c .before .before .before .before .before .before .before .before .before .before .before .before .before .before .before .before .before .before .before .before .before .before .before .before .before .before .before .before .before .before .slice-known .given j .fits in
+    let b : AreBytes (a .tables .now) = λ j. c .before .before .before .before .before .before .before .before .before .before .before .before .before .before .before .before .before .before .before .before .before .before .before .before .before .before .before .before .before .before .slice-known .given j .fits in
     let p = c .before .before .before .before .before .before .before .before .before .before .before .before .before .before .before .before .before .before .before .before .before .before .before .before .before .before .before .before .before .before .before .pre in
     let f = c .before .before .before .before .before .before .before .before .before .before .before .before .before .before .before .before .before .before .before .before .before .before .before .before .free-path in
     let e = c .before .before .before .before .before .before .before .before .before .before .before .before .before .before .before .before .before .rows-end in

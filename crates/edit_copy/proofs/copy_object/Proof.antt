@@ -2,7 +2,7 @@
 use mathlib.Core.Path.{sym, _∙_, subst}
 use mathlib.Core.List.{List}
 use Prim.Native.Nat.{ℕ}
-use Rattle.order.specs.OrderLaws.{same-true}
+use Rattle.order.proofs.OrderLaws.{same-true}
 use Rattle.machine.specs.State.{withObject}
 use Rattle.layout.specs.Memory.{stateOf, Stands}
 use Rattle.edit.specs.Objects.{plainWith}

@@ -1,6 +1,6 @@
 -- `edit_copy::restamp` meets its contract: the row is cut out, and another put in its place. Assumes nothing.
 use mathlib.Core.Path.{_∙_}
-use Rattle.number.specs.NumberLaws.{Bytes}
+use Rattle.number.specs.Number.{AreBytes}
 use Rattle.edit_copy.proofs.Restamping.{header-inside, head-inside, path-most, rows-inside, again-inside, restamped}
 use native.Mathlib.Omega.{arith}
 use borrow.Author.Needs.{needs}
@@ -16,7 +16,7 @@ rows-end-requires c κs = search needs
 read-header-requires : tie.Need-read-header-requires
 read-header-requires c κs =
     let a = c .before .before .before .before .before .before .before .before .args in
-    let b : Bytes (a .tables .now) = λ j. c .before .before .before .before .before .before .before .slice-known .given j .fits in
+    let b : AreBytes (a .tables .now) = λ j. c .before .before .before .before .before .before .before .slice-known .given j .fits in
     let p = c .before .before .before .before .before .before .before .before .pre in
     let f = c .before .before .before .find-object in
     let e = c .before .rows-end in
@@ -25,7 +25,7 @@ read-header-requires c κs =
 read-head-requires : tie.Need-read-head-requires
 read-head-requires c κs =
     let a = c .before .before .before .before .before .before .before .before .before .before .args in
-    let b : Bytes (a .tables .now) = λ j. c .before .before .before .before .before .before .before .before .before .slice-known .given j .fits in
+    let b : AreBytes (a .tables .now) = λ j. c .before .before .before .before .before .before .before .before .before .slice-known .given j .fits in
     let p = c .before .before .before .before .before .before .before .before .before .before .pre in
     let f = c .before .before .before .before .before .find-object in
     let e = c .before .before .before .rows-end in
@@ -34,7 +34,7 @@ read-head-requires c κs =
 add-n : tie.Need-add-n
 add-n c =
     let a = c .before .before .before .before .before .before .before .before .before .before .before .args in
-    let b : Bytes (a .tables .now) = λ j. c .before .before .before .before .before .before .before .before .before .before .slice-known .given j .fits in
+    let b : AreBytes (a .tables .now) = λ j. c .before .before .before .before .before .before .before .before .before .before .slice-known .given j .fits in
     let p = c .before .before .before .before .before .before .before .before .before .before .before .pre in
     let f = c .before .before .before .before .before .before .find-object in
     let e = c .before .before .before .before .rows-end in
@@ -43,7 +43,7 @@ add-n c =
 cast-t23 : tie.Need-cast-t23
 cast-t23 c =
     let a = c .before .before .before .before .before .before .before .before .before .before .before .args in
-    let b : Bytes (a .tables .now) = λ j. c .before .before .before .before .before .before .before .before .before .before .slice-known .given j .fits in
+    let b : AreBytes (a .tables .now) = λ j. c .before .before .before .before .before .before .before .before .before .before .slice-known .given j .fits in
     let p = c .before .before .before .before .before .before .before .before .before .before .before .pre in
     let f = c .before .before .before .before .before .before .find-object in
     let e = c .before .before .before .before .rows-end in
@@ -52,7 +52,7 @@ cast-t23 c =
 remove-rows-requires : tie.Need-remove-rows-requires
 remove-rows-requires c κs =
     let a = c .before .before .before .before .before .before .before .before .before .before .before .before .args in
-    let b : Bytes (a .tables .now) = λ j. c .before .before .before .before .before .before .before .before .before .before .before .slice-known .given j .fits in
+    let b : AreBytes (a .tables .now) = λ j. c .before .before .before .before .before .before .before .before .before .before .before .slice-known .given j .fits in
     let p = c .before .before .before .before .before .before .before .before .before .before .before .before .pre in
     let f = c .before .before .before .before .before .before .before .find-object in
     let e = c .before .before .before .before .before .rows-end in
@@ -61,7 +61,7 @@ remove-rows-requires c κs =
 sub-insert-row : tie.Need-sub-insert-row
 sub-insert-row c =
     let a = c .before .before .before .before .before .before .before .before .before .before .before .before .before .before .before .before .args in
-    let b : Bytes (a .tables .now) = λ j. c .before .before .before .before .before .before .before .before .before .before .before .before .before .before .before .slice-known .given j .fits in
+    let b : AreBytes (a .tables .now) = λ j. c .before .before .before .before .before .before .before .before .before .before .before .before .before .before .before .slice-known .given j .fits in
     let p = c .before .before .before .before .before .before .before .before .before .before .before .before .before .before .before .before .pre in
     let f = c .before .before .before .before .before .before .before .before .before .before .before .find-object in
     let e = c .before .before .before .before .before .before .before .before .before .rows-end in
@@ -70,7 +70,7 @@ sub-insert-row c =
 insert-row-requires : tie.Need-insert-row-requires
 insert-row-requires c κs =
     let a = c .before .before .before .before .before .before .before .before .before .before .before .before .before .before .before .before .args in
-    let b : Bytes (a .tables .now) = λ j. c .before .before .before .before .before .before .before .before .before .before .before .before .before .before .before .slice-known .given j .fits in
+    let b : AreBytes (a .tables .now) = λ j. c .before .before .before .before .before .before .before .before .before .before .before .before .before .before .before .slice-known .given j .fits in
     let p = c .before .before .before .before .before .before .before .before .before .before .before .before .before .before .before .before .pre in
     let f = c .before .before .before .before .before .before .before .before .before .before .before .find-object in
     let e = c .before .before .before .before .before .before .before .before .before .rows-end in
@@ -83,7 +83,7 @@ same-length c = search needs
 returns : tie.Need-returns
 returns c =
     let a = c .before .before .before .before .before .before .before .before .before .before .before .before .before .before .before .before .before .before .before .args in
-    let b : Bytes (a .tables .now) = λ j. c .before .before .before .before .before .before .before .before .before .before .before .before .before .before .before .before .before .before .slice-known .given j .fits in
+    let b : AreBytes (a .tables .now) = λ j. c .before .before .before .before .before .before .before .before .before .before .before .before .before .before .before .before .before .before .slice-known .given j .fits in
     let p = c .before .before .before .before .before .before .before .before .before .before .before .before .before .before .before .before .before .before .before .pre in
     let f = c .before .before .before .before .before .before .before .before .before .before .before .before .before .before .find-object in
     let e = c .before .before .before .before .before .before .before .before .before .before .before .before .rows-end in

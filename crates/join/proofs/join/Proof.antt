@@ -10,7 +10,7 @@ use lib.Seq.{length-take-le}
 use Rattle.machine.specs.State.{State}
 use Rattle.row.specs.Row.{headLength, span}
 use Rattle.layout.specs.Memory.{stateOf, Stands}
-use Rattle.layout.specs.WholeLaws.{whole-stands}
+use Rattle.layout.proofs.WholeLaws.{whole-stands}
 use Rattle.join.specs.Joined.{Joinable, JoinableAt}
 use Rattle.join.proofs.PathRead.{head-inside, path-inside, path-small, stamp-read, path-copied}
 use Rattle.join.proofs.join.Statement.{statement}

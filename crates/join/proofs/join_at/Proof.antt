@@ -7,8 +7,8 @@ use borrow.Author.Needs.{needs}
 use lib.ListN.{length}
 use Rattle.machine.specs.State.{State}
 use Rattle.layout.specs.Memory.{stateOf, Stands}
-use Rattle.layout.specs.StandsLaws.{stands-whole}
-use Rattle.layout.specs.WholeLaws.{whole-stands}
+use Rattle.layout.proofs.StandsLaws.{stands-whole}
+use Rattle.layout.proofs.WholeLaws.{whole-stands}
 use Rattle.calls.specs.Answers.{partList}
 use Rattle.join.specs.Joined.{Listed, JoinableAt}
 use Rattle.join.proofs.Joining.{listed₁, addable, state-is}

@@ -10,8 +10,8 @@ use Rattle.machine.specs.State.{State}
 use Rattle.layout.specs.declared.Header.{Header}
 use Rattle.layout.specs.Rules.{partsMost}
 use Rattle.layout.specs.Memory.{stateOf, Stands}
-use Rattle.layout.specs.StandsLaws.{header-back}
-use Rattle.layout.specs.WholeLaws.{whole-stands}
+use Rattle.layout.proofs.StandsLaws.{header-back}
+use Rattle.layout.proofs.WholeLaws.{whole-stands}
 use Rattle.layout.specs.Header.{headerOf, headerAt}
 use Rattle.calls.specs.Answers.{partList}
 use Rattle.join.specs.declared.Bounds.{Bounds}

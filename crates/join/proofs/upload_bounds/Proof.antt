@@ -10,7 +10,7 @@ use Rattle.machine.specs.State.{Upload, State}
 use Rattle.row.specs.Row.{headLength}
 use Rattle.layout.specs.Rules.{partsMost}
 use Rattle.layout.specs.Memory.{stateOf, Stands}
-use Rattle.layout.specs.WholeLaws.{whole-stands}
+use Rattle.layout.proofs.WholeLaws.{whole-stands}
 use Rattle.find.proofs.Found.{is-some}
 use Rattle.join.proofs.UploadBounds.{count-small, rows-behind, base-behind, bounds-are}
 use Rattle.join.proofs.upload_bounds.Statement.{statement}

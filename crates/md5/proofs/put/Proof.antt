@@ -1,4 +1,4 @@
--- `md5::put` meets its contract: four words, each written behind the one before (`Fields.puts`). Assumes nothing.
+-- `md5::put` meets its contract: four words, each written after the one before (`Fields.puts`). Assumes nothing.
 use Rattle.md5.proofs.Fields.{puts}
 use borrow.Author.Needs.{needs}
 use Rattle.md5.proofs.put.Statement.{statement}

@@ -1,4 +1,4 @@
--- `md5::tail` meets its contract: the rest copied over zeros, the byte 128 behind it, the length over the last eight (`LastBlocks.tailed`). Assumes nothing.
+-- `md5::tail` meets its contract: the rest copied over zeros, the byte 128 after it, the length over the last eight (`LastBlocks.tailed`). Assumes nothing.
 use mathlib.Core.Path.{refl}
 use native.Mathlib.Omega.{arith}
 use lib.ListN.{length-set}

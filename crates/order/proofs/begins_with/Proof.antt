@@ -4,7 +4,7 @@ use lib.ListN.{length, length-take}
 use native.Mathlib.Omega.{arith}
 use borrow.Author.Needs.{needs}
 use Rattle.order.specs.Order.{begins}
-use Rattle.order.specs.AffixLaws.{begins-short}
+use Rattle.order.proofs.AffixLaws.{begins-short}
 use Rattle.order.proofs.begins_with.Statement.{statement}
 use Rattle.order.proofs.begins_with.Tie as tie
 

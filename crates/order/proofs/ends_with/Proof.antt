@@ -7,7 +7,7 @@ use lib.Seq.{take-all}
 use native.Mathlib.Omega.{arith}
 use borrow.Author.Needs.{needs}
 use Rattle.order.specs.Order.{same, ends}
-use Rattle.order.specs.AffixLaws.{ends-short}
+use Rattle.order.proofs.AffixLaws.{ends-short}
 use Rattle.order.proofs.ends_with.Statement.{statement}
 use Rattle.order.proofs.ends_with.Tie as tie
 

@@ -2,7 +2,7 @@
 use Prim.Native.Nat.{ℕ}
 use mathlib.Core.List.{List}
 use borrow.Author.Needs.{needs}
-use Rattle.number.specs.NumberLaws.{Bytes}
+use Rattle.number.specs.Number.{AreBytes}
 use Rattle.reads.proofs.Replies.{head-refused, head-root, row-inside, head-found}
 use Rattle.reads.proofs.head_whole.Statement.{statement}
 use Rattle.reads.proofs.head_whole.Tie as tie
@@ -36,7 +36,7 @@ module _ (c : tie.After-look-up) where
   abbrev p : List ℕ
   p = start .args .path .now
 
-  bytes : Bytes t
+  bytes : AreBytes t
   bytes = λ j. c .before .before .before .shared-slice-known .given j .fits
 
 metadata-requires : tie.Need-metadata-requires

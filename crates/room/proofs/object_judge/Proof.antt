@@ -1,5 +1,5 @@
 -- `room::object_judge` meets its contract: the readers say what the checks ask. Assumes nothing.
-use Rattle.number.specs.NumberLaws.{Bytes}
+use Rattle.number.specs.Number.{AreBytes}
 use Rattle.room.proofs.Room.{held-inside, head-inside, old-inside, judged-old, judged-full, judged-new}
 use native.Mathlib.Omega.{arith}
 use borrow.Author.Needs.{needs}
@@ -15,7 +15,7 @@ held-requires c κs = search needs
 read-head-requires : tie.Need-read-head-requires
 read-head-requires c κs =
     let a = c .before .before .before .before .before .before .args in
-    let b : Bytes (a .tables .now) = λ j. c .before .before .before .before .before .shared-slice-known .given j .fits in
+    let b : AreBytes (a .tables .now) = λ j. c .before .before .before .before .before .shared-slice-known .given j .fits in
     let f = c .before .before .find-object in
     let e = c .before .held in
     head-inside (a .tables .now) (a .arena .now) b (c .before .before .before .before .before .before .pre) (a .path .now) (f .result) (f .ensures) (e .result) (e .ensures) (c .if1 .taken)
@@ -26,7 +26,7 @@ cast-arena-judge c = search needs
 sub-arena-judge : tie.Need-sub-arena-judge
 sub-arena-judge c =
     let a = c .before .before .before .before .before .before .before .before .args in
-    let b : Bytes (a .tables .now) = λ j. c .before .before .before .before .before .before .before .shared-slice-known .given j .fits in
+    let b : AreBytes (a .tables .now) = λ j. c .before .before .before .before .before .before .before .shared-slice-known .given j .fits in
     let f = c .before .before .before .before .find-object in
     let e = c .before .before .before .held in
     let h = c .before .read-head in
@@ -36,7 +36,7 @@ sub-arena-judge c =
 arena-judge-requires : tie.Need-arena-judge-requires
 arena-judge-requires c κs =
     let a = c .before .before .before .before .before .before .before .before .args in
-    let b : Bytes (a .tables .now) = λ j. c .before .before .before .before .before .before .before .shared-slice-known .given j .fits in
+    let b : AreBytes (a .tables .now) = λ j. c .before .before .before .before .before .before .before .shared-slice-known .given j .fits in
     let f = c .before .before .before .before .find-object in
     let e = c .before .before .before .held in
     let i = held-inside (a .tables .now) (a .arena .now) b (c .before .before .before .before .before .before .before .before .pre) (a .path .now) (f .result) (f .ensures) (e .result) (e .ensures) in
@@ -45,7 +45,7 @@ arena-judge-requires c κs =
 returns : tie.Need-returns
 returns c =
     let a = c .before .before .before .before .before .before .before .before .before .args in
-    let b : Bytes (a .tables .now) = λ j. c .before .before .before .before .before .before .before .before .shared-slice-known .given j .fits in
+    let b : AreBytes (a .tables .now) = λ j. c .before .before .before .before .before .before .before .before .shared-slice-known .given j .fits in
     let f = c .before .before .before .before .before .find-object in
     let e = c .before .before .before .before .held in
     let h = c .before .before .read-head in
@@ -57,7 +57,7 @@ object-count-requires c κs = search needs
 returns-2 : tie.Need-returns-2
 returns-2 c =
     let a = c .before .before .before .before .before .before .before .before .args in
-    let b : Bytes (a .tables .now) = λ j. c .before .before .before .before .before .before .before .shared-slice-known .given j .fits in
+    let b : AreBytes (a .tables .now) = λ j. c .before .before .before .before .before .before .before .shared-slice-known .given j .fits in
     let f = c .before .before .before .before .find-object in
     let e = c .before .before .before .held in
     let o = c .before .object-count in
@@ -66,7 +66,7 @@ returns-2 c =
 arena-judge-requires-2 : tie.Need-arena-judge-requires-2
 arena-judge-requires-2 c κs =
     let a = c .before .before .before .before .before .before .before .before .args in
-    let b : Bytes (a .tables .now) = λ j. c .before .before .before .before .before .before .before .shared-slice-known .given j .fits in
+    let b : AreBytes (a .tables .now) = λ j. c .before .before .before .before .before .before .before .shared-slice-known .given j .fits in
     let f = c .before .before .before .before .find-object in
     let e = c .before .before .before .held in
     let i = held-inside (a .tables .now) (a .arena .now) b (c .before .before .before .before .before .before .before .before .pre) (a .path .now) (f .result) (f .ensures) (e .result) (e .ensures) in
@@ -75,7 +75,7 @@ arena-judge-requires-2 c κs =
 returns-3 : tie.Need-returns-3
 returns-3 c =
     let a = c .before .before .before .before .before .before .before .before .before .args in
-    let b : Bytes (a .tables .now) = λ j. c .before .before .before .before .before .before .before .before .shared-slice-known .given j .fits in
+    let b : AreBytes (a .tables .now) = λ j. c .before .before .before .before .before .before .before .before .shared-slice-known .given j .fits in
     let f = c .before .before .before .before .before .find-object in
     let e = c .before .before .before .before .held in
     let o = c .before .before .object-count in

@@ -5,7 +5,7 @@ use native.Mathlib.Nat.{add-zero}
 use native.Mathlib.Omega.{arith}
 use lib.Dec.{lit<}
 use Rattle.number.proofs.Halves.{get-byte}
-use Rattle.row.specs.FieldLaws.{number-at}
+use Rattle.row.proofs.FieldLaws.{number-at}
 use Rattle.row.specs.Row.{widths, headAt}
 use borrow.Author.Needs.{needs}
 use Rattle.row.proofs.read_head.Statement.{statement}

@@ -1,4 +1,4 @@
--- `row::write_numbers` meets its contract: five writes, one behind the other. Assumes nothing.
+-- `row::write_numbers` meets its contract: five writes, one after the other. Assumes nothing.
 use Rattle.row.proofs.RowFields.{number-fields}
 use mathlib.Core.Path.{refl}
 use borrow.Author.Needs.{needs}

@@ -1,4 +1,4 @@
--- `row::write_row` meets its contract: numbers, digest and path, one behind the other. Assumes nothing.
+-- `row::write_row` meets its contract: numbers, digest and path, one after the other. Assumes nothing.
 use Rattle.row.proofs.RowFields.{row-fields}
 use Rattle.md5.specs.Md5Laws.{length-bytesOf}
 use Rattle.md5.specs.Md5.{bytesOf}

@@ -1,4 +1,4 @@
--- `scan::rows_ok` meets its contract: the scans of objects and of uploads with their parts, one behind the other. Assumes nothing.
+-- `scan::rows_ok` meets its contract: the scans of objects and of uploads with their parts, one after the other. Assumes nothing.
 use mathlib.Core.Path.{sym}
 use Rattle.scan.proofs.Ends.{rows-bad, rows-end, rows-good}
 use borrow.Author.Needs.{needs}

@@ -1,4 +1,4 @@
--- `script::each_line` is safe and ends. The invariant: both slices keep their lengths, n bytes are within the arena, and the place is at most one behind the text. Assumes nothing.
+-- `script::each_line` is safe and ends. The invariant: both slices keep their lengths, n bytes are within the arena, and the place is at most one past the text. Assumes nothing.
 use borrow.Author.Needs.{needs}
 use lib.ListN.{length}
 use mathlib.Core.Path.{_≡_}

@@ -2,7 +2,7 @@
 use mathlib.Core.Path.{sym}
 use native.Mathlib.Omega.{arith}
 use Rattle.text.specs.Text.{decimal}
-use Rattle.text.specs.TextLaws.{length-digits-one, length-digits}
+use Rattle.text.proofs.TextLaws.{length-digits-one, length-digits}
 use Rattle.text.proofs.decimal_length.Statement.{statement}
 use Rattle.text.proofs.decimal_length.Tie as tie
 

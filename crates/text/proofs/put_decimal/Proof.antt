@@ -1,4 +1,4 @@
--- `text::put_decimal` meets its contract: of the last five digits, those are copied that stand behind the zeros. Assumes nothing.
+-- `text::put_decimal` meets its contract: of the last five digits, those are copied that stand after the zeros. Assumes nothing.
 use native.Mathlib.Omega.{arith}
 use Rattle.text.proofs.Decimals.{padded, decimal-written}
 use borrow.Author.Needs.{needs}

@@ -3,7 +3,7 @@ use Prim.Native.Nat.{ℕ}
 use mathlib.Core.List.{_++_}
 use lib.ListN.{replicate, length-replicate}
 use Rattle.number.specs.Number.{le}
-use Rattle.number.specs.NumberLaws.{length-le}
+use Rattle.number.proofs.NumberLaws.{length-le}
 use Rattle.text.proofs.Hexes.{four-words, digest-written}
 use native.Mathlib.Omega.{arith}
 use borrow.Author.Needs.{needs}

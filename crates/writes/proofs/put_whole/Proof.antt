@@ -2,7 +2,7 @@
 use mathlib.Core.Path.{refl, sym, _∙_}
 use mathlib.Core.List.{[]}
 use borrow.Author.Needs.{needs}
-use Rattle.number.specs.NumberLaws.{Bytes}
+use Rattle.number.specs.Number.{AreBytes}
 use Rattle.machine.specs.Calls.{nothing}
 use Rattle.layout.specs.Memory.{stateOf}
 use Rattle.calls.specs.Made.{memory}
@@ -31,7 +31,7 @@ put-object-requires c κs =
     let k = c .before .before .before in
     let s = k .before .before .before .before .before .before .before .before in
     let a = s .args in
-    let b : Bytes (a .tables .now) = λ j. k .before .before .before .before .before .before .before .slice-known .given j .fits in
+    let b : AreBytes (a .tables .now) = λ j. k .before .before .before .before .before .before .before .slice-known .given j .fits in
     let d = c .before .before .digest in
     (s .pre, put-ready (a .stamp .0) (a .path .now) (a .content .now) (d .result) (d .ensures) (a .tables .now) (a .arena .now) b (s .pre) (sym (k .before .put-judge .ensures) ∙ k .if1 .left))
 

@@ -1,5 +1,5 @@
 -- `edit::objects::add_object` meets its contract: one row is put in, and its data turned into place. Assumes nothing.
-use Rattle.number.specs.NumberLaws.{Bytes}
+use Rattle.number.specs.Number.{AreBytes}
 use mathlib.Core.Path.{ap}
 use Rattle.layout.specs.declared.Header.{Header}
 use Rattle.edit.proofs.ObjectEdits.{header-inside, path-most, size-small, some-room, add-row, add-base, add-data, add-stands}
@@ -17,13 +17,13 @@ rows-end-requires c κs = search needs
 read-header-requires : tie.Need-read-header-requires
 read-header-requires c κs =
     let a = c .before .before .before .before .before .before .before .before .before .before .args in
-    let b : Bytes (a .tables .now) = λ j. c .before .before .before .before .before .before .before .before .before .slice-known .given j .fits in
+    let b : AreBytes (a .tables .now) = λ j. c .before .before .before .before .before .before .before .before .before .slice-known .given j .fits in
     header-inside (a .tables .now) (a .arena .now) b (c .before .before .before .before .before .before .before .before .before .before .pre .is-whole)
 
 cast-t26 : tie.Need-cast-t26
 cast-t26 c =
     let a = c .before .before .before .before .before .before .before .before .before .before .before .args in
-    let b : Bytes (a .tables .now) = λ j. c .before .before .before .before .before .before .before .before .before .before .slice-known .given j .fits in
+    let b : AreBytes (a .tables .now) = λ j. c .before .before .before .before .before .before .before .before .before .before .slice-known .given j .fits in
     let p = c .before .before .before .before .before .before .before .before .before .before .before .pre in
     let f = c .before .before .before .before .before .find-object in
     let e = c .before .before .rows-end in
@@ -32,7 +32,7 @@ cast-t26 c =
 cast-t28 : tie.Need-cast-t28
 cast-t28 c =
     let a = c .before .before .before .before .before .before .before .before .before .before .before .args in
-    let b : Bytes (a .tables .now) = λ j. c .before .before .before .before .before .before .before .before .before .before .slice-known .given j .fits in
+    let b : AreBytes (a .tables .now) = λ j. c .before .before .before .before .before .before .before .before .before .before .slice-known .given j .fits in
     let p = c .before .before .before .before .before .before .before .before .before .before .before .pre in
     let f = c .before .before .before .before .before .find-object in
     let e = c .before .before .rows-end in
@@ -41,7 +41,7 @@ cast-t28 c =
 add-t29 : tie.Need-add-t29
 add-t29 c =
     let a = c .before .before .before .before .before .before .before .before .before .before .before .before .args in
-    let b : Bytes (a .tables .now) = λ j. c .before .before .before .before .before .before .before .before .before .before .before .slice-known .given j .fits in
+    let b : AreBytes (a .tables .now) = λ j. c .before .before .before .before .before .before .before .before .before .before .before .slice-known .given j .fits in
     let p = c .before .before .before .before .before .before .before .before .before .before .before .before .pre in
     let f = c .before .before .before .before .before .before .find-object in
     let e = c .before .before .before .rows-end in
@@ -51,7 +51,7 @@ add-t29 c =
 insert-row-requires : tie.Need-insert-row-requires
 insert-row-requires c κs =
     let a = c .before .before .before .before .before .before .before .before .before .before .before .before .before .args in
-    let b : Bytes (a .tables .now) = λ j. c .before .before .before .before .before .before .before .before .before .before .before .before .slice-known .given j .fits in
+    let b : AreBytes (a .tables .now) = λ j. c .before .before .before .before .before .before .before .before .before .before .before .before .slice-known .given j .fits in
     let p = c .before .before .before .before .before .before .before .before .before .before .before .before .before .pre in
     let f = c .before .before .before .before .before .before .before .find-object in
     let e = c .before .before .before .before .rows-end in
@@ -60,7 +60,7 @@ insert-row-requires c κs =
 sub-rotate : tie.Need-sub-rotate
 sub-rotate c =
     let a = c .before .before .before .before .before .before .before .before .before .before .before .before .before .before .before .before .before .args in
-    let b : Bytes (a .tables .now) = λ j. c .before .before .before .before .before .before .before .before .before .before .before .before .before .before .before .before .slice-known .given j .fits in
+    let b : AreBytes (a .tables .now) = λ j. c .before .before .before .before .before .before .before .before .before .before .before .before .before .before .before .before .slice-known .given j .fits in
     let p = c .before .before .before .before .before .before .before .before .before .before .before .before .before .before .before .before .before .pre in
     let f = c .before .before .before .before .before .before .before .before .before .before .before .find-object in
     let e = c .before .before .before .before .before .before .before .before .rows-end in
@@ -69,7 +69,7 @@ sub-rotate c =
 rotate-requires : tie.Need-rotate-requires
 rotate-requires c κs =
     let a = c .before .before .before .before .before .before .before .before .before .before .before .before .before .before .before .before .before .args in
-    let b : Bytes (a .tables .now) = λ j. c .before .before .before .before .before .before .before .before .before .before .before .before .before .before .before .before .slice-known .given j .fits in
+    let b : AreBytes (a .tables .now) = λ j. c .before .before .before .before .before .before .before .before .before .before .before .before .before .before .before .before .slice-known .given j .fits in
     let p = c .before .before .before .before .before .before .before .before .before .before .before .before .before .before .before .before .before .pre in
     let f = c .before .before .before .before .before .before .before .before .before .before .before .find-object in
     let e = c .before .before .before .before .before .before .before .before .rows-end in
@@ -84,7 +84,7 @@ same-length-2 c = search needs
 returns : tie.Need-returns
 returns c =
     let a = c .before .before .before .before .before .before .before .before .before .before .before .before .before .before .before .before .before .before .before .before .args in
-    let b : Bytes (a .tables .now) = λ j. c .before .before .before .before .before .before .before .before .before .before .before .before .before .before .before .before .before .before .before .slice-known .given j .fits in
+    let b : AreBytes (a .tables .now) = λ j. c .before .before .before .before .before .before .before .before .before .before .before .before .before .before .before .before .before .before .before .slice-known .given j .fits in
     let p = c .before .before .before .before .before .before .before .before .before .before .before .before .before .before .before .before .before .before .before .before .pre in
     let f = c .before .before .before .before .before .before .before .before .before .before .before .before .before .before .find-object in
     let e = c .before .before .before .before .before .before .before .before .before .before .before .rows-end in

@@ -1,5 +1,5 @@
 -- `edit::objects::free_path` meets its contract: taken out where it is found. Assumes nothing.
-use Rattle.number.specs.NumberLaws.{Bytes}
+use Rattle.number.specs.Number.{AreBytes}
 use Rattle.edit.proofs.PutLaws.{place-found, free-already}
 use Rattle.layout.specs.Memory.{stateOf}
 use mathlib.Core.Bool.{true, false}
@@ -34,7 +34,7 @@ same-length-4 c = search needs
 returns-2 : tie.Need-returns-2
 returns-2 c =
     let a = c .before .before .before .before .before .before .before .args in
-    let b : Bytes (a .tables .now) = λ j. c .before .before .before .before .before .before .slice-known .given j .fits in
+    let b : AreBytes (a .tables .now) = λ j. c .before .before .before .before .before .before .slice-known .given j .fits in
     let f = c .before .find-object in
     free-already (a .tables .now) (a .arena .now) (a .path .now) b (c .before .before .before .before .before .before .before .pre) (place-found (stateOf (a .tables .now) (a .arena .now)) (a .path .now) (f .result) false (f .ensures) (c .if1 .left))
 

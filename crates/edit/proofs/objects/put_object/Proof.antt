@@ -1,10 +1,10 @@
--- `edit::objects::put_object` meets its contract: the path is freed, the data go behind the last byte held, and the object is put in. Assumes nothing.
-use Rattle.number.specs.NumberLaws.{Bytes}
+-- `edit::objects::put_object` meets its contract: the path is freed, the data go after the last byte held, and the object is put in. Assumes nothing.
+use Rattle.number.specs.Number.{AreBytes}
 use lib.ListN.{length}
 use Rattle.machine.specs.State.{withoutObject}
 use Rattle.layout.specs.Memory.{stateOf}
-use Rattle.layout.specs.WholeLaws.{whole-stands}
-use Rattle.layout.specs.StandsLaws.{stands-whole}
+use Rattle.layout.proofs.WholeLaws.{whole-stands}
+use Rattle.layout.proofs.StandsLaws.{stands-whole}
 use Rattle.edit.proofs.PutLaws.{put-room, put-addable, put-stands}
 use borrow.Author.Needs.{needs}
 use Rattle.edit.proofs.objects.put_object.Statement.{statement}
@@ -23,7 +23,7 @@ copy-at-requires : tie.Need-copy-at-requires
 copy-at-requires c κs =
     let a = c .before .before .before .before .before .before .before .before .before .before .before .before .before .before .before .args in
     let p = c .before .before .before .before .before .before .before .before .before .before .before .before .before .before .before .pre in
-    let b : Bytes (a .tables .now) = λ j. c .before .before .before .before .before .before .before .before .before .before .before .before .before .before .slice-known .given j .fits in
+    let b : AreBytes (a .tables .now) = λ j. c .before .before .before .before .before .before .before .before .before .before .before .before .before .before .slice-known .given j .fits in
     let s = stateOf (a .tables .now) (a .arena .now) in
     let v = whole-stands (a .tables .now) (a .arena .now) b (p .0) .valid in
     let f = c .before .before .before .before .before .before .before .before .free-path in
@@ -34,7 +34,7 @@ add-object-requires : tie.Need-add-object-requires
 add-object-requires c κs =
     let a = c .before .before .before .before .before .before .before .before .before .before .before .before .before .before .before .before .before .before .before .before .args in
     let p = c .before .before .before .before .before .before .before .before .before .before .before .before .before .before .before .before .before .before .before .before .pre in
-    let b : Bytes (a .tables .now) = λ j. c .before .before .before .before .before .before .before .before .before .before .before .before .before .before .before .before .before .before .before .slice-known .given j .fits in
+    let b : AreBytes (a .tables .now) = λ j. c .before .before .before .before .before .before .before .before .before .before .before .before .before .before .before .before .before .before .before .slice-known .given j .fits in
     let s = stateOf (a .tables .now) (a .arena .now) in
     let v = whole-stands (a .tables .now) (a .arena .now) b (p .0) .valid in
     let f = c .before .before .before .before .before .before .before .before .before .before .before .before .before .free-path in
@@ -52,7 +52,7 @@ returns : tie.Need-returns
 returns c =
     let a = c .before .before .before .before .before .before .before .before .before .before .before .before .before .before .before .before .before .before .before .before .before .before .before .before .before .args in
     let p = c .before .before .before .before .before .before .before .before .before .before .before .before .before .before .before .before .before .before .before .before .before .before .before .before .before .pre in
-    let b : Bytes (a .tables .now) = λ j. c .before .before .before .before .before .before .before .before .before .before .before .before .before .before .before .before .before .before .before .before .before .before .before .before .slice-known .given j .fits in
+    let b : AreBytes (a .tables .now) = λ j. c .before .before .before .before .before .before .before .before .before .before .before .before .before .before .before .before .before .before .before .before .before .before .before .before .slice-known .given j .fits in
     let s = stateOf (a .tables .now) (a .arena .now) in
     let v = whole-stands (a .tables .now) (a .arena .now) b (p .0) .valid in
     let f = c .before .before .before .before .before .before .before .before .before .before .before .before .before .before .before .before .before .before .free-path in

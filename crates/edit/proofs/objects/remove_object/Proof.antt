@@ -1,5 +1,5 @@
 -- `edit::objects::remove_object` meets its contract: one row and its data are cut out. Assumes nothing.
-use Rattle.number.specs.NumberLaws.{Bytes}
+use Rattle.number.specs.Number.{AreBytes}
 use Rattle.layout.specs.declared.Header.{Header}
 use Rattle.edit.proofs.ObjectEdits.{header-inside, remove-head, some-object, remove-rows, remove-data, remove-stands}
 use mathlib.Core.Path.{ap}
@@ -17,13 +17,13 @@ rows-end-requires c κs = search needs
 read-header-requires : tie.Need-read-header-requires
 read-header-requires c κs =
     let a = c .before .before .before .before .before .before .before .before .before .before .args in
-    let b : Bytes (a .tables .now) = λ j. c .before .before .before .before .before .before .before .before .before .slice-known .given j .fits in
+    let b : AreBytes (a .tables .now) = λ j. c .before .before .before .before .before .before .before .before .before .slice-known .given j .fits in
     header-inside (a .tables .now) (a .arena .now) b (c .before .before .before .before .before .before .before .before .before .before .pre .0)
 
 read-head-requires : tie.Need-read-head-requires
 read-head-requires c κs =
     let a = c .before .before .before .before .before .before .before .before .before .before .before .before .args in
-    let b : Bytes (a .tables .now) = λ j. c .before .before .before .before .before .before .before .before .before .before .before .slice-known .given j .fits in
+    let b : AreBytes (a .tables .now) = λ j. c .before .before .before .before .before .before .before .before .before .before .before .slice-known .given j .fits in
     let p = c .before .before .before .before .before .before .before .before .before .before .before .before .pre in
     let f = c .before .before .before .before .before .before .find-object in
     let e = c .before .before .before .rows-end in
@@ -38,7 +38,7 @@ cast-m c = search needs
 sub-t25 : tie.Need-sub-t25
 sub-t25 c =
     let a = c .before .before .before .before .before .before .before .before .before .before .before .before .before .before .before .before .args in
-    let b : Bytes (a .tables .now) = λ j. c .before .before .before .before .before .before .before .before .before .before .before .before .before .before .before .slice-known .given j .fits in
+    let b : AreBytes (a .tables .now) = λ j. c .before .before .before .before .before .before .before .before .before .before .before .before .before .before .before .slice-known .given j .fits in
     let p = c .before .before .before .before .before .before .before .before .before .before .before .before .before .before .before .before .pre in
     let f = c .before .before .before .before .before .before .before .before .before .before .find-object in
     let e = c .before .before .before .before .before .before .before .rows-end in
@@ -49,7 +49,7 @@ sub-t25 c =
 remove-rows-requires : tie.Need-remove-rows-requires
 remove-rows-requires c κs =
     let a = c .before .before .before .before .before .before .before .before .before .before .before .before .before .before .before .before .before .args in
-    let b : Bytes (a .tables .now) = λ j. c .before .before .before .before .before .before .before .before .before .before .before .before .before .before .before .before .slice-known .given j .fits in
+    let b : AreBytes (a .tables .now) = λ j. c .before .before .before .before .before .before .before .before .before .before .before .before .before .before .before .before .slice-known .given j .fits in
     let p = c .before .before .before .before .before .before .before .before .before .before .before .before .before .before .before .before .before .pre in
     let f = c .before .before .before .before .before .before .before .before .before .before .before .find-object in
     let e = c .before .before .before .before .before .before .before .before .rows-end in
@@ -61,7 +61,7 @@ remove-rows-requires c κs =
 remove-requires : tie.Need-remove-requires
 remove-requires c κs =
     let a = c .before .before .before .before .before .before .before .before .before .before .before .before .before .before .before .before .before .before .before .before .before .args in
-    let b : Bytes (a .tables .now) = λ j. c .before .before .before .before .before .before .before .before .before .before .before .before .before .before .before .before .before .before .before .before .slice-known .given j .fits in
+    let b : AreBytes (a .tables .now) = λ j. c .before .before .before .before .before .before .before .before .before .before .before .before .before .before .before .before .before .before .before .before .slice-known .given j .fits in
     let p = c .before .before .before .before .before .before .before .before .before .before .before .before .before .before .before .before .before .before .before .before .before .pre in
     let f = c .before .before .before .before .before .before .before .before .before .before .before .before .before .before .before .find-object in
     let e = c .before .before .before .before .before .before .before .before .before .before .before .before .rows-end in
@@ -77,7 +77,7 @@ same-length-2 c = search needs
 returns : tie.Need-returns
 returns c =
     let a = c .before .before .before .before .before .before .before .before .before .before .before .before .before .before .before .before .before .before .before .before .before .before .before .before .args in
-    let b : Bytes (a .tables .now) = λ j. c .before .before .before .before .before .before .before .before .before .before .before .before .before .before .before .before .before .before .before .before .before .before .before .slice-known .given j .fits in
+    let b : AreBytes (a .tables .now) = λ j. c .before .before .before .before .before .before .before .before .before .before .before .before .before .before .before .before .before .before .before .before .before .before .before .slice-known .given j .fits in
     let p = c .before .before .before .before .before .before .before .before .before .before .before .before .before .before .before .before .before .before .before .before .before .before .before .before .pre in
     let f = c .before .before .before .before .before .before .before .before .before .before .before .before .before .before .before .before .before .before .find-object in
     let e = c .before .before .before .before .before .before .before .before .before .before .before .before .before .before .before .rows-end in

@@ -1,4 +1,4 @@
--- `edit_uploads::parts::put_part` meets its contract: the old part goes, the data come behind the last byte held, and the part is put in.
+-- `edit_uploads::parts::put_part` meets its contract: the old part goes, the data come after the last byte held, and the part is put in.
 -- Assumes nothing.
 use mathlib.Core.Path.{ap}
 use mathlib.Core.Option.{Option}
@@ -6,8 +6,8 @@ use lib.ListN.{length}
 use Rattle.machine.specs.Map.{isSome}
 use Rattle.machine.specs.State.{Upload, withUpload}
 use Rattle.layout.specs.Memory.{stateOf}
-use Rattle.layout.specs.WholeLaws.{whole-stands}
-use Rattle.layout.specs.StandsLaws.{stands-whole}
+use Rattle.layout.proofs.WholeLaws.{whole-stands}
+use Rattle.layout.proofs.StandsLaws.{stands-whole}
 use Rattle.edit_uploads.specs.Parts.{withoutPart}
 use Rattle.edit_uploads.proofs.PartPuts.{put-room, Putting, putting}
 use borrow.Author.Needs.{needs}

@@ -1,4 +1,4 @@
--- `edit_uploads::uploads::open_upload` meets its contract: one row without data is put behind all rows. Assumes nothing.
+-- `edit_uploads::uploads::open_upload` meets its contract: one row without data is put after all rows. Assumes nothing.
 use Rattle.edit.proofs.ObjectEdits.{header-inside}
 use Rattle.edit_uploads.proofs.UploadEdits.{Opening, opening}
 use native.Mathlib.Omega.{arith}

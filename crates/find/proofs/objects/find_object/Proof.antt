@@ -13,7 +13,7 @@ use Rattle.order.proofs.Answers.{answer-less, answer-equal, answer-greater}
 use Rattle.machine.specs.State.{State}
 use Rattle.row.specs.Row.{headLength, span}
 use Rattle.layout.specs.Memory.{stateOf, Stands}
-use Rattle.layout.specs.WholeLaws.{whole-stands}
+use Rattle.layout.proofs.WholeLaws.{whole-stands}
 use Rattle.find.proofs.ObjectSearch.{Passed, Turn, passed-none, passed-all, object-inside, object-turn}
 use Rattle.find.proofs.objects.find_object.Statement.{statement}
 use Rattle.find.proofs.objects.find_object.Tie as tie

@@ -7,7 +7,7 @@ use lib.ListN.{length}
 use Rattle.machine.specs.State.{State}
 use Rattle.row.specs.Row.{headLength}
 use Rattle.layout.specs.Memory.{stateOf, rowsOf, Stands}
-use Rattle.layout.specs.WholeLaws.{whole-stands}
+use Rattle.layout.proofs.WholeLaws.{whole-stands}
 use Rattle.find.proofs.Walk.{Reached, Turn, reached-place, place-reached, rows-few, row-inside, row-turn}
 use Rattle.find.proofs.search.row_behind.Statement.{statement}
 use Rattle.find.proofs.search.row_behind.Tie as tie

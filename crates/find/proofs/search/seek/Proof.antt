@@ -8,7 +8,7 @@ use lib.ListN.{length}
 use Rattle.machine.specs.State.{State}
 use Rattle.row.specs.Row.{headOf}
 use Rattle.layout.specs.Memory.{stateOf, rowsOf, Stands}
-use Rattle.layout.specs.WholeLaws.{whole-stands}
+use Rattle.layout.proofs.WholeLaws.{whole-stands}
 use Rattle.find.specs.Search.{sought, stopsAt}
 use Rattle.find.proofs.Walk.{Reached, Turn, reached-place, place-reached, row-inside, row-turn, sought-end, sought-here, sought-on}
 use Rattle.find.proofs.search.seek.Statement.{statement}

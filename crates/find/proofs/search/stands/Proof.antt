@@ -12,7 +12,7 @@ use Rattle.machine.specs.State.{State}
 use Rattle.row.specs.declared.Head.{Head}
 use Rattle.row.specs.Row.{headLength}
 use Rattle.layout.specs.Memory.{stateOf, rowsOf, Stands}
-use Rattle.layout.specs.WholeLaws.{whole-stands}
+use Rattle.layout.proofs.WholeLaws.{whole-stands}
 use Rattle.find.specs.Search.{leads}
 use Rattle.find.proofs.Walk.{Reached, place-reached, row-inside, row-turn, leads-none, leads-row}
 use Rattle.find.proofs.search.stands.Statement.{statement}

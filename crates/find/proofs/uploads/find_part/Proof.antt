@@ -1,4 +1,4 @@
--- `find::uploads::find_part` meets its contract: the row behind the upload's, and the search from there. Assumes nothing.
+-- `find::uploads::find_part` meets its contract: the row after the upload's, and the search from there. Assumes nothing.
 use borrow.Author.Needs.{needs}
 use Rattle.layout.specs.Memory.{stateOf}
 use Rattle.find.proofs.Answers.{parts-row-place}

@@ -1,8 +1,8 @@
--- `find::uploads::held` meets its contract: the data stand one behind the other, and end where the rows do. Assumes nothing.
+-- `find::uploads::held` meets its contract: the data stand one after the other, and end where the rows do. Assumes nothing.
 use mathlib.Core.Path.{ap, _∙_}
 use borrow.Author.Needs.{needs}
 use Rattle.layout.specs.declared.Offset.{Offset}
-use Rattle.layout.specs.RowCounts.{length-contents}
+use Rattle.layout.proofs.RowCounts.{length-contents}
 use Rattle.find.proofs.uploads.held.Statement.{statement}
 use Rattle.find.proofs.uploads.held.Tie as tie
 

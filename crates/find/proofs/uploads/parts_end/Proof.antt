@@ -1,4 +1,4 @@
--- `find::uploads::parts_end` meets its contract: the upload's row, and the parts behind it. Assumes nothing.
+-- `find::uploads::parts_end` meets its contract: the upload's row, and the parts after it. Assumes nothing.
 use borrow.Author.Needs.{needs}
 use Rattle.machine.specs.State.{State}
 use Rattle.layout.specs.Memory.{stateOf}

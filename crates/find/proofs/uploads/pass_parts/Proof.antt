@@ -1,4 +1,4 @@
--- `find::uploads::pass_parts` meets its contract: the search passes the parts behind the upload's row. Assumes nothing.
+-- `find::uploads::pass_parts` meets its contract: the search passes the parts after the upload's row. Assumes nothing.
 use Prim.Native.Nat.{_+_}
 use native.Mathlib.Omega.{arith}
 use borrow.Author.Needs.{needs}
@@ -12,7 +12,7 @@ use Rattle.find.proofs.uploads.pass_parts.Tie as tie
 row-behind-requires : tie.Need-row-behind-requires
 row-behind-requires c κs = search needs
 
--- the row behind the upload's is one of the rows, or their end
+-- the row after the upload's is one of the rows, or their end
 module _ (c : tie.After-row-behind) where
   abbrev start : tie.Start
   start = c .before .before .before

@@ -1,7 +1,7 @@
 -- `layout::headers::read_header` meets its contract: each number is read at its place. Assumes nothing.
 use mathlib.Core.Path.{refl, _∙_}
 use lib.Dec.{lit<}
-use Rattle.row.specs.FieldLaws.{number-at}
+use Rattle.row.proofs.FieldLaws.{number-at}
 use Rattle.layout.specs.Header.{headerWidths, headerAt}
 use borrow.Author.Needs.{needs}
 use Rattle.layout.proofs.headers.read_header.Statement.{statement}

@@ -1,4 +1,4 @@
--- `layout::headers::write_header` meets its contract: five fields, one behind the other. Assumes nothing.
+-- `layout::headers::write_header` meets its contract: five fields, one after the other. Assumes nothing.
 use Rattle.layout.proofs.HeaderFields.{header-fields}
 use borrow.Author.Needs.{needs}
 use Rattle.layout.proofs.headers.write_header.Statement.{statement}

@@ -1,4 +1,4 @@
--- `lines::fields::part_list` meets its contract. The invariant: the place is at most one behind the list, and the bytes fit. Assumes nothing.
+-- `lines::fields::part_list` meets its contract. The invariant: the place is at most one past the list, and the bytes fit. Assumes nothing.
 use lib.ListN.{length, length-take}
 use mathlib.Core.Path.{_≡_}
 use Prim.Native.Nat.{_-_, _≤_, _+_}

@@ -7,7 +7,7 @@ use Rattle.names.proofs.Tests.{said-no, said-yes}
 use Rattle.machine.specs.Etags.{text}
 use Rattle.row.specs.declared.Head.{Head}
 use Rattle.row.specs.Row.{digestAt}
-use Rattle.layout.specs.Memory.{etagOf}
+use Rattle.layout.specs.Memory.{rowEtag}
 use Rattle.lists.proofs.RowLengths.{digest-length, measured-length, none-measured, one-measured}
 use Rattle.lists.proofs.measuring.measure_row.Statement.{statement}
 use Rattle.lists.proofs.measuring.measure_row.Tie as tie
@@ -45,7 +45,7 @@ returns-2 c =
     let a = k .args in
     let h = c .before .before .read-head in
     let x = c .text-length .ensures .1 (digestAt (drop (a .at) (a .tables .now))) (digest-length (a .tables .now) (a .at) (k .pre)) in
-    let y = ap (λ (q : Head). length (text (etagOf (q .kind) (digestAt (drop (a .at) (a .tables .now))) (q .count)))) (h .ensures) in
+    let y = ap (λ (q : Head). length (text (rowEtag (q .kind) (digestAt (drop (a .at) (a .tables .now))) (q .count)))) (h .ensures) in
     let w = c .before .wide .ensures in
     let l = measured-length (a .tables .now) (a .at) (k .pre) (h .result .pathlen) (c .before .wide .result) (c .text-length .result) (ap (λ (q : Head). q .pathlen) (h .ensures)) (w .0) (x ∙ y) in
     let m = one-measured (a .prefix .now) (a .suffix .now) (drop (a .at) (a .tables .now)) _ (said-yes (c .before .before .before .before .has-row .ensures) (c .before .before .before .if1 .left)) l in

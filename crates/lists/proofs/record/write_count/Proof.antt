@@ -1,4 +1,4 @@
--- `lists::record::write_count` meets its contract: a byte, and the digits behind it. Assumes nothing.
+-- `lists::record::write_count` meets its contract: a byte, and the digits after it. Assumes nothing.
 use mathlib.Core.Path.{_∙_}
 use lib.ListN.{length, length-set}
 use Rattle.text.specs.Text.{decimal}

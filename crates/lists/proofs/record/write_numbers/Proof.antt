@@ -1,4 +1,4 @@
--- `lists::record::write_numbers` meets its contract: three numbers, one behind the other. Assumes nothing.
+-- `lists::record::write_numbers` meets its contract: three numbers, one after the other. Assumes nothing.
 use Prim.Native.Nat.{_+_}
 use mathlib.Core.Path.{_∙_}
 use lib.ListN.{length-set}

@@ -1,4 +1,4 @@
--- `lists::record::write_path` meets its contract: a byte, and the path behind it. Assumes nothing.
+-- `lists::record::write_path` meets its contract: a byte, and the path after it. Assumes nothing.
 use mathlib.Core.Path.{_∙_}
 use lib.ListN.{length-set}
 use Rattle.lists.proofs.RecordBytes.{path-fits, path-written}

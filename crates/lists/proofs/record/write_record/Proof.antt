@@ -1,4 +1,4 @@
--- `lists::record::write_record` meets its contract: the path, the numbers and the text, one behind the other. Assumes nothing.
+-- `lists::record::write_record` meets its contract: the path, the numbers and the text, one after the other. Assumes nothing.
 use Prim.Native.Nat.{ℕ}
 use mathlib.Core.Path.{_≡_, _∙_}
 use mathlib.Core.List.{List}
@@ -6,7 +6,7 @@ use lib.ListN.{length, drop}
 use Rattle.machine.specs.Etags.{text}
 use Rattle.row.specs.declared.Head.{Head}
 use Rattle.row.specs.Row.{digestAt}
-use Rattle.layout.specs.Memory.{etagOf}
+use Rattle.layout.specs.Memory.{rowEtag}
 use Rattle.lists.proofs.RowLengths.{digest-length}
 use Rattle.lists.proofs.RecordBytes.{path-inside, path-room, numbers-room, etag-room, record-long, record-written}
 use native.Mathlib.Omega.{arith}
@@ -46,7 +46,7 @@ module _ (c : tie.After-text-length) where
   abbrev h : Head
   h = c .before .read-head .result
 
-  measured : c .text-length .result ≡ length (text (etagOf (h .kind) (digestAt (drop (start .args .at) t)) (h .count)))
+  measured : c .text-length .result ≡ length (text (rowEtag (h .kind) (digestAt (drop (start .args .at) t)) (h .count)))
   measured = c .text-length .ensures .1 (digestAt (drop (start .args .at) t)) (digest-length t (start .args .at) (start .pre .0))
 
 write-path-requires : tie.Need-write-path-requires

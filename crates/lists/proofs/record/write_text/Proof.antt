@@ -1,4 +1,4 @@
--- `lists::record::write_text` meets its contract: the digits, and a joined etag's count behind them. Assumes nothing.
+-- `lists::record::write_text` meets its contract: the digits, and a joined etag's count after them. Assumes nothing.
 use Rattle.lists.proofs.RecordBytes.{text-room, count-room, plain-written, joined-written}
 use borrow.Author.Needs.{needs}
 use Rattle.lists.proofs.record.write_text.Statement.{statement}

@@ -1,5 +1,5 @@
 -- `multipart::initiate::initiate_judge` meets its contract: one law for each check. Assumes nothing.
-use Rattle.number.specs.NumberLaws.{Bytes}
+use Rattle.number.specs.Number.{AreBytes}
 use mathlib.Core.Path.{sym, _∙_}
 use borrow.Author.Tests.{not-true, not-false}
 use Rattle.multipart.proofs.Initiating.{header-inside, bad-stamp, bad-path, full, used-up, opened}
@@ -13,7 +13,7 @@ stamp-ok-requires c κs = search needs
 returns : tie.Need-returns
 returns c =
     let a = c .before .before .before .before .before .args in
-    let b : Bytes (a .tables .now) = λ j. c .before .before .before .before .shared-slice-known .given j .fits in
+    let b : AreBytes (a .tables .now) = λ j. c .before .before .before .before .shared-slice-known .given j .fits in
     let w = c .before .before .before .before .before .pre in
     bad-stamp (a .tables .now) (a .arena .now) (a .path .now) b w (a .stamp .0) (sym (c .before .stamp-ok .ensures) ∙ not-true _ (c .if1 .taken))
 
@@ -23,7 +23,7 @@ new-path-ok-requires c κs = search needs
 returns-2 : tie.Need-returns-2
 returns-2 c =
     let a = c .before .before .before .before .before .before .before .args in
-    let b : Bytes (a .tables .now) = λ j. c .before .before .before .before .before .before .shared-slice-known .given j .fits in
+    let b : AreBytes (a .tables .now) = λ j. c .before .before .before .before .before .before .shared-slice-known .given j .fits in
     let w = c .before .before .before .before .before .before .before .pre in
     bad-path (a .tables .now) (a .arena .now) (a .path .now) b w (a .stamp .0) (sym (c .before .before .before .stamp-ok .ensures) ∙ not-false _ (c .before .before .if1 .left)) (sym (c .before .new-path-ok .ensures) ∙ not-true _ (c .if2 .taken))
 
@@ -33,7 +33,7 @@ upload-count-requires c κs = search needs
 returns-3 : tie.Need-returns-3
 returns-3 c =
     let a = c .before .before .before .before .before .before .before .before .before .args in
-    let b : Bytes (a .tables .now) = λ j. c .before .before .before .before .before .before .before .before .shared-slice-known .given j .fits in
+    let b : AreBytes (a .tables .now) = λ j. c .before .before .before .before .before .before .before .before .shared-slice-known .given j .fits in
     let w = c .before .before .before .before .before .before .before .before .before .pre in
     let n = c .before .upload-count in
     full (a .tables .now) (a .arena .now) (a .path .now) b w (a .stamp .0) (sym (c .before .before .before .before .before .stamp-ok .ensures) ∙ not-false _ (c .before .before .before .before .if1 .left)) (sym (c .before .before .before .new-path-ok .ensures) ∙ not-false _ (c .before .before .if2 .left)) (n .result) (n .ensures) (c .if3 .taken)
@@ -41,14 +41,14 @@ returns-3 c =
 read-header-requires : tie.Need-read-header-requires
 read-header-requires c κs =
     let a = c .before .before .before .before .before .before .before .before .before .args in
-    let b : Bytes (a .tables .now) = λ j. c .before .before .before .before .before .before .before .before .shared-slice-known .given j .fits in
+    let b : AreBytes (a .tables .now) = λ j. c .before .before .before .before .before .before .before .before .shared-slice-known .given j .fits in
     let w = c .before .before .before .before .before .before .before .before .before .pre in
     header-inside (a .tables .now) (a .arena .now) (a .path .now) b w (a .stamp .0)
 
 returns-4 : tie.Need-returns-4
 returns-4 c =
     let a = c .before .before .before .before .before .before .before .before .before .before .before .before .args in
-    let b : Bytes (a .tables .now) = λ j. c .before .before .before .before .before .before .before .before .before .before .before .shared-slice-known .given j .fits in
+    let b : AreBytes (a .tables .now) = λ j. c .before .before .before .before .before .before .before .before .before .before .before .shared-slice-known .given j .fits in
     let w = c .before .before .before .before .before .before .before .before .before .before .before .before .pre in
     let n = c .before .before .before .before .upload-count in
     let h = c .before .before .read-header in
@@ -57,7 +57,7 @@ returns-4 c =
 returns-5 : tie.Need-returns-5
 returns-5 c =
     let a = c .before .before .before .before .before .before .before .before .before .before .before .before .args in
-    let b : Bytes (a .tables .now) = λ j. c .before .before .before .before .before .before .before .before .before .before .before .shared-slice-known .given j .fits in
+    let b : AreBytes (a .tables .now) = λ j. c .before .before .before .before .before .before .before .before .before .before .before .shared-slice-known .given j .fits in
     let w = c .before .before .before .before .before .before .before .before .before .before .before .before .pre in
     let n = c .before .before .before .before .upload-count in
     let h = c .before .before .read-header in

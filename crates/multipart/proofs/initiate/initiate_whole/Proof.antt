@@ -4,7 +4,7 @@ use mathlib.Core.Path.{_≡_, refl, sym, ap, _∙_}
 use mathlib.Core.List.{List, []}
 use native.Mathlib.Omega.{arith}
 use borrow.Author.Needs.{needs}
-use Rattle.number.specs.NumberLaws.{Bytes}
+use Rattle.number.specs.Number.{AreBytes}
 use Rattle.machine.specs.Calls.{INITIATE, number}
 use Rattle.calls.specs.Answers.{success}
 use Rattle.calls.specs.Made.{memory, outcome, resultOf}
@@ -36,7 +36,7 @@ module _ (c : tie.Else1) where
   abbrev p : List ℕ
   p = start .args .path .now
 
-  bytes : Bytes t
+  bytes : AreBytes t
   bytes = λ j. c .before .before .before .before .before .slice-known .given j .fits
 
   zero-result : resultOf (outcome (INITIATE (start .args .stamp .0) p) (memory t a)) ≡ 0

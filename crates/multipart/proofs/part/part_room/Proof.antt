@@ -3,7 +3,7 @@ use Prim.Native.Nat.{ℕ}
 use mathlib.Core.List.{List}
 use native.Mathlib.Omega.{arith}
 use borrow.Author.Needs.{needs}
-use Rattle.number.specs.NumberLaws.{Bytes}
+use Rattle.number.specs.Number.{AreBytes}
 use Rattle.multipart.proofs.Parting.{held-inside, old-inside, old-held, judged-old, judged-full, judged-new}
 use Rattle.multipart.proofs.part.part_room.Statement.{statement}
 use Rattle.multipart.proofs.part.part_room.Tie as tie
@@ -28,7 +28,7 @@ module _ (c : tie.After-held) where
   abbrev d : List ℕ
   d = start .args .content .now
 
-  bytes : Bytes t
+  bytes : AreBytes t
   bytes = λ j. c .before .before .before .before .shared-slice-known .given j .fits
 
 read-head-requires : tie.Need-read-head-requires

@@ -3,7 +3,7 @@ use Prim.Native.Nat.{ℕ}
 use mathlib.Core.Path.{sym, ap, _∙_}
 use mathlib.Core.List.{List, []}
 use borrow.Author.Needs.{needs}
-use Rattle.number.specs.NumberLaws.{Bytes}
+use Rattle.number.specs.Number.{AreBytes}
 use Rattle.machine.specs.Etags.{plain}
 use Rattle.machine.specs.Calls.{etag}
 use Rattle.calls.specs.Answers.{success}
@@ -33,7 +33,7 @@ put-part-requires c κs =
     let k = c .before .before .before in
     let s = k .before .before .before .before .before .before .before in
     let a = s .args in
-    let b : Bytes (a .tables .now) = λ j. k .before .before .before .before .before .before .slice-known .given j .fits in
+    let b : AreBytes (a .tables .now) = λ j. k .before .before .before .before .before .before .slice-known .given j .fits in
     let d = c .before .before .digest in
     part-ready (a .tables .now) (a .arena .now) (a .content .now) (a .upload .0) (a .number .0) (d .result) (sym (k .before .part-judge .ensures) ∙ k .if1 .left) (d .ensures) b (s .pre)
 

@@ -1,4 +1,4 @@
--- `reply::fields::write_fields` meets its contract: nine writes, one behind the other. Assumes nothing.
+-- `reply::fields::write_fields` meets its contract: nine writes, one after the other. Assumes nothing.
 use Rattle.md5.specs.Md5.{bytesOf}
 use Rattle.md5.specs.Md5Laws.{length-bytesOf}
 use Rattle.reply.proofs.Places.{written}

@@ -1,4 +1,4 @@
--- `uploads::rows::read_upload` meets its contract: the row's head, and the search behind the parts. Assumes nothing.
+-- `uploads::rows::read_upload` meets its contract: the row's head, and the search after the parts. Assumes nothing.
 use Prim.Native.Nat.{ℕ, _+_, _≤_, _<_}
 use mathlib.Core.Path.{_≡_}
 use mathlib.Core.List.{List}
@@ -8,7 +8,7 @@ use lib.ListN.{length, drop}
 use Rattle.machine.specs.State.{State}
 use Rattle.row.specs.Row.{headAt, headLength, span}
 use Rattle.layout.specs.Memory.{stateOf, rowsOf, Stands}
-use Rattle.layout.specs.WholeLaws.{whole-stands}
+use Rattle.layout.proofs.WholeLaws.{whole-stands}
 use Rattle.find.specs.declared.RowPlace.{RowPlace}
 use Rattle.find.specs.Search.{rowPlaceAt}
 use Rattle.find.proofs.Answers.{open-row-place}

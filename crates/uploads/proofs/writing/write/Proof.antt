@@ -7,7 +7,7 @@ use borrow.Author.Needs.{needs}
 use lib.ListN.{length}
 use Rattle.machine.specs.State.{State}
 use Rattle.layout.specs.Memory.{stateOf, Stands}
-use Rattle.layout.specs.WholeLaws.{whole-stands}
+use Rattle.layout.proofs.WholeLaws.{whole-stands}
 use Rattle.uploads.proofs.UploadRows.{Entry, row-open, row-place, entry}
 use Rattle.uploads.proofs.Written.{Written, written-none, written-fits, written-next, written-all}
 use Rattle.uploads.proofs.writing.write.Statement.{statement}

@@ -1,4 +1,4 @@
--- `uploads::writing::write_record` meets its contract: five writes, one behind the other. Assumes nothing.
+-- `uploads::writing::write_record` meets its contract: five writes, one after the other. Assumes nothing.
 use borrow.Author.Needs.{needs}
 use Rattle.uploads.proofs.RecordBytes.{record-written}
 use Rattle.uploads.proofs.writing.write_record.Statement.{statement}

@@ -8,7 +8,7 @@ use borrow.Author.Tests.{leb-true, le-leb}
 use lib.Dec.{leb}
 use lib.ListN.{length}
 use Rattle.machine.specs.Names.{Bytes, pathOk, storedPathOk, stampOk, numberOk, storedPartOk}
-use Rattle.row.specs.RowLaws.{and-left, and-right, and-both}
+use Rattle.row.proofs.RowLaws.{and-left, and-right, and-both}
 use Rattle.layout.specs.Rules.{all}
 
 abbrev pub AllTrue : List Bool → Type 0

@@ -6,7 +6,7 @@ use mathlib.Core.List.{List, _++_}
 use native.Mathlib.Omega.{arith}
 use lib.ListN.{length, take, drop, length-take, length-drop, take-append-drop}
 use Rattle.order.specs.Order.{begins, ends}
-use Rattle.order.specs.OrderLaws.{same-true, same-false}
+use Rattle.order.proofs.OrderLaws.{same-true, same-false}
 
 pub begins-true : (p s : List ℕ) → begins p s ≡ true → s ≡ p ++ drop (length p) s
 unfolding begins

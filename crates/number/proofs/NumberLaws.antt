@@ -8,22 +8,18 @@ use lib.Dec.{lit<}
 use lib.Arith.{mod-mul, digits-div, digits-mod}
 use lib.ListN.{length, take, drop, getD}
 use lib.Seq.{getD-drop}
-use Rattle.number.specs.Number.{le, fromLe}
+use Rattle.number.specs.Number.{le, fromLe, AreBytes}
 
--- each element is a byte
-abbrev pub Bytes : List ℕ → Type 0
-Bytes xs = (i : ℕ) → getD xs i 0 < 256
-
-pub bytes-take : (k : ℕ) (xs : List ℕ) → Bytes xs → Bytes (take k xs)
+pub bytes-take : (k : ℕ) (xs : List ℕ) → AreBytes xs → AreBytes (take k xs)
 bytes-take zero xs h i = lit< tt
 bytes-take (suc k) [] h i = lit< tt
 bytes-take (suc k) (x ∷ xs) h zero = h 0
 bytes-take (suc k) (x ∷ xs) h (suc i) = bytes-take k xs (λ j. h (suc j)) i
 
-pub bytes-drop : (k : ℕ) (xs : List ℕ) → Bytes xs → Bytes (drop k xs)
+pub bytes-drop : (k : ℕ) (xs : List ℕ) → AreBytes xs → AreBytes (drop k xs)
 bytes-drop k xs h i = rw (getD-drop k xs i 0) (h (k + i))
 
-pub bytes-append : (xs ys : List ℕ) → Bytes xs → Bytes ys → Bytes (xs ++ ys)
+pub bytes-append : (xs ys : List ℕ) → AreBytes xs → AreBytes ys → AreBytes (xs ++ ys)
 bytes-append [] ys h k i = k i
 bytes-append (x ∷ xs) ys h k zero = h 0
 bytes-append (x ∷ xs) ys h k (suc i) = bytes-append xs ys (λ j. h (suc j)) k i
@@ -41,7 +37,7 @@ fromLe-le (suc k) n h =
     ap (λ (m : ℕ). n % 256 + 256 * m) (fromLe-le k (n / 256) (div-lt-iff-lt-mul (lit< tt) .1 (rw pow-suc at h)))
     ∙ mod-add-div n 256
 
-le-fromLe-length : (xs : List ℕ) → Bytes xs → le (length xs) (fromLe xs) ≡ xs
+le-fromLe-length : (xs : List ℕ) → AreBytes xs → le (length xs) (fromLe xs) ≡ xs
 unfolding le fromLe
 le-fromLe-length [] h = refl
 le-fromLe-length (x ∷ xs) h =
@@ -53,19 +49,19 @@ le-fromLe-length (x ∷ xs) h =
     ∙ ap (λ (l : List ℕ). x ∷ l) (le-fromLe-length xs (λ i. h (suc i)))
 
 -- what is read was written so
-pub le-fromLe : (width : ℕ) (xs : List ℕ) → Bytes xs → length xs ≡ width → le width (fromLe xs) ≡ xs
+pub le-fromLe : (width : ℕ) (xs : List ℕ) → AreBytes xs → length xs ≡ width → le width (fromLe xs) ≡ xs
 le-fromLe k xs h l = ap (λ (j : ℕ). le j (fromLe xs)) (sym l) ∙ le-fromLe-length xs h
 
-fromLe-below : (xs : List ℕ) → Bytes xs → fromLe xs < 256 ^ length xs
+fromLe-below : (xs : List ℕ) → AreBytes xs → fromLe xs < 256 ^ length xs
 unfolding fromLe
 fromLe-below [] h = rw pow-zero (lit< tt)
 fromLe-below (x ∷ xs) h = rw pow-succ' (omega (arith, h 0, fromLe-below xs (λ i. h (suc i))))
 
-pub fromLe-lt : (width : ℕ) (xs : List ℕ) → Bytes xs → length xs ≡ width → fromLe xs < 256 ^ width
+pub fromLe-lt : (width : ℕ) (xs : List ℕ) → AreBytes xs → length xs ≡ width → fromLe xs < 256 ^ width
 fromLe-lt k xs h l = rw l at (fromLe-below xs h)
 
 -- bytes that stand for one number are the same bytes
-pub fromLe-same : (xs ys : List ℕ) → Bytes xs → Bytes ys → length xs ≡ length ys → fromLe xs ≡ fromLe ys → xs ≡ ys
+pub fromLe-same : (xs ys : List ℕ) → AreBytes xs → AreBytes ys → length xs ≡ length ys → fromLe xs ≡ fromLe ys → xs ≡ ys
 fromLe-same xs ys hx hy l e = sym (le-fromLe (length ys) xs hx l) ∙ ap (le (length ys)) e ∙ le-fromLe-length ys hy
 
 pub fromLe-append : (xs ys : List ℕ) → fromLe (xs ++ ys) ≡ fromLe xs + 256 ^ length xs * fromLe ys

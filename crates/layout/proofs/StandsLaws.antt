@@ -10,18 +10,18 @@ use lib.Seq.{drop-at}
 use Rattle.machine.specs.State.{State, held}
 use Rattle.machine.specs.Valid.{Valid}
 use Rattle.row.specs.Fields.{numbersAt, Fit}
-use Rattle.row.specs.FieldLaws.{length-fields, numbers-fields}
-use Rattle.row.specs.Row.{Row, encodeRows, contentsOf, rowsAt, pastRows, pastData, good}
-use Rattle.row.specs.RowLaws.{EncodableAll, encode-append, contents-append, encodable-append, rows-complete, rows-back, past-back, past-data-back}
+use Rattle.row.proofs.FieldLaws.{length-fields, numbers-fields}
+use Rattle.row.specs.Row.{Row, encodeRows, contentsOf, rowsAt, pastRows, pastData, good, EncodableAll}
+use Rattle.row.proofs.RowLaws.{encode-append, contents-append, encodable-append, rows-complete, rows-back, past-back, past-data-back}
 use Rattle.layout.specs.declared.Mark.{Mark}
 use Rattle.layout.specs.declared.Header.{Header}
 use Rattle.layout.specs.Rules.{objectOk, objectNext, entryOk, entryNext, start}
 use Rattle.layout.specs.Header.{headerWidths, headerLength, headerNumbers, headerBytes, headerOf, encodeHeader, headerFrom, headerAt}
-use Rattle.layout.specs.Memory.{objectRows, uploadRows, rowsOf, arenaMost, objectsOf, nest, Nest, opens, objectRowsAt, uploadTables, uploadArena, uploadRowsAt, stateOf, headerOk, objectsGood, uploadsGood, wholeOf, StandsOf}
-use Rattle.layout.specs.TestLaws.{true-all}
-use Rattle.layout.specs.ObjectLaws.{objects-back, length-object-rows, object-rows-encodable, object-rows-follow, objects-first}
-use Rattle.layout.specs.UploadLaws.{length-upload-rows, opens-uploads, nest-back, upload-rows-encodable, upload-rows-follow, uploads-first}
-use Rattle.layout.specs.RowCounts.{length-object-contents, length-upload-contents}
+use Rattle.layout.specs.Memory.{objectRows, uploadRows, rowsOf, arenaMost, objectsOf, nest, Nest, uploadsAmong, objectRowsAt, uploadTables, uploadArena, uploadRowsAt, stateOf, headerOk, objectsGood, uploadsGood, wholeOf, StandsOf}
+use Rattle.layout.proofs.TestLaws.{true-all}
+use Rattle.layout.proofs.ObjectLaws.{objects-back, length-object-rows, object-rows-encodable, object-rows-follow, objects-first}
+use Rattle.layout.proofs.UploadLaws.{length-upload-rows, opens-uploads, nest-back, upload-rows-encodable, upload-rows-follow, uploads-first}
+use Rattle.layout.proofs.RowCounts.{length-object-contents, length-upload-contents}
 
 pub rows-encodable : (A : ℕ) (s : State) → A ≤ arenaMost → Valid A s → EncodableAll (rowsOf s)
 unfolding rowsOf held
@@ -175,7 +175,7 @@ module _ {T : ℕ} (t a : List ℕ) (s : State) (h : StandsOf T t a s) where
   pub stands-whole : wholeOf T t a ≡ true
   unfolding wholeOf
   stands-whole =
-      let c : opens (uploadRowsAt t a) ≡ headerAt t .uploads = ap opens uploads-are ∙ opens-uploads (s .U) ∙ sym (ap (λ (x : Header). x .uploads) header-back) in
+      let c : uploadsAmong (uploadRowsAt t a) ≡ headerAt t .uploads = ap uploadsAmong uploads-are ∙ opens-uploads (s .U) ∙ sym (ap (λ (x : Header). x .uploads) header-back) in
       true-all _ (header-ok, (objects-ok-back, (uploads-ok-back, (eq-eqb _ _ c, tt))))
 
 -- memory stands for one state only

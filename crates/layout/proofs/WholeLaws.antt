@@ -7,23 +7,24 @@ use native.Mathlib.Omega.{arith}
 use borrow.Author.Tests.{leb-true, eqb-true}
 use lib.ListN.{length, drop, length-append}
 use lib.Seq.{drop-at}
-use Rattle.number.specs.NumberLaws.{Bytes, bytes-drop}
+use Rattle.number.proofs.NumberLaws.{bytes-drop}
+use Rattle.number.specs.Number.{AreBytes}
 use Rattle.machine.specs.Map.{Map, total}
 use Rattle.machine.specs.State.{Part, partsIn}
 use Rattle.machine.specs.Valid.{Valid}
 use Rattle.row.specs.Fields.{fields, numbersAt}
-use Rattle.row.specs.FieldLaws.{fields-numbers}
-use Rattle.row.specs.Row.{Row, encodeRows, contentsOf, pastRows, pastData, good}
-use Rattle.row.specs.RowLaws.{EncodableAll, Follows, encode-append, contents-append, rows-sound, contents-sound, follows-sound, encodable-sound, length-rowsAt}
+use Rattle.row.proofs.FieldLaws.{fields-numbers}
+use Rattle.row.specs.Row.{Row, encodeRows, contentsOf, pastRows, pastData, good, EncodableAll}
+use Rattle.row.proofs.RowLaws.{Follows, encode-append, contents-append, rows-sound, contents-sound, follows-sound, encodable-sound, length-rowsAt}
 use Rattle.layout.specs.declared.Mark.{Mark}
 use Rattle.layout.specs.declared.Header.{Header}
 use Rattle.layout.specs.Rules.{objectsMost, uploadsMost, partsMost, objectOk, objectNext, entryOk, entryNext, start}
 use Rattle.layout.specs.Header.{headerWidths, headerLength, headerNumbers, headerBytes, encodeHeader, headerAt}
-use Rattle.layout.specs.Memory.{partRows, uploadRows, rowsOf, tablesLength, arenaMost, nest, opens, objectRowsAt, uploadTables, uploadArena, uploadRowsAt, stateOf, headerOk, objectsGood, uploadsGood, wholeOf, whole, StandsOf, Stands}
-use Rattle.layout.specs.TestLaws.{all-true}
-use Rattle.layout.specs.ObjectLaws.{object-rows-same, objects-ascending, objects-ok, length-objects}
-use Rattle.layout.specs.UploadLaws.{Nested, nested, length-uploads, length-upload-rows}
-use Rattle.layout.specs.RowCounts.{length-contents}
+use Rattle.layout.specs.Memory.{partRows, uploadRows, rowsOf, tablesLength, arenaMost, nest, uploadsAmong, objectRowsAt, uploadTables, uploadArena, uploadRowsAt, stateOf, headerOk, objectsGood, uploadsGood, wholeOf, whole, StandsOf, Stands}
+use Rattle.layout.proofs.TestLaws.{all-true}
+use Rattle.layout.proofs.ObjectLaws.{object-rows-same, objects-ascending, objects-ok, length-objects}
+use Rattle.layout.proofs.UploadLaws.{Nested, nested, length-uploads, length-upload-rows}
+use Rattle.layout.proofs.RowCounts.{length-contents}
 
 pub record HeaderIs (T tables A : ℕ) (h : Header) : Type 0 where
   pub size : tables ≡ T
@@ -54,7 +55,7 @@ header-numbers : (t : List ℕ) → numbersAt headerWidths t ≡ headerNumbers (
 unfolding headerAt numbersAt
 header-numbers t = refl
 
-module _ (T : ℕ) (room : headerLength ≤ T) (t a : List ℕ) (b : Bytes t) (w : wholeOf T t a ≡ true) where
+module _ (T : ℕ) (room : headerLength ≤ T) (t a : List ℕ) (b : AreBytes t) (w : wholeOf T t a ≡ true) where
   header : HeaderIs T (length t) (length a) (headerAt t)
   unfolding wholeOf
   header = header-is _ _ _ _ (all-true _ w .0)
@@ -70,11 +71,11 @@ module _ (T : ℕ) (room : headerLength ≤ T) (t a : List ℕ) (b : Bytes t) (w
   unfolding wholeOf uploadsGood
   uploads-good = all-true _ w .1 .1 .0
 
-  counted-opens : opens (uploadRowsAt t a) ≡ headerAt t .uploads
+  counted-opens : uploadsAmong (uploadRowsAt t a) ≡ headerAt t .uploads
   unfolding wholeOf
   counted-opens = eqb-true _ _ (all-true _ w .1 .1 .1 .0)
 
-  b₁ : Bytes t₁
+  b₁ : AreBytes t₁
   b₁ = bytes-drop headerLength t b
 
   tables₁ : encodeRows (objectRowsAt t a) ++ uploadTables t a ≡ t₁
@@ -85,8 +86,8 @@ module _ (T : ℕ) (room : headerLength ≤ T) (t a : List ℕ) (b : Bytes t) (w
   unfolding objectRowsAt uploadArena
   arena₁ = contents-sound (List ℕ) objectOk objectNext (headerAt t .objects) [] t₁ a b₁ objects-good
 
-  b₂ : Bytes (uploadTables t a)
-  b₂ = subst Bytes (sym (ap (drop (length (encodeRows (objectRowsAt t a)))) tables₁) ∙ drop-at (encodeRows (objectRowsAt t a)) (uploadTables t a) (length (encodeRows (objectRowsAt t a))) refl) (bytes-drop (length (encodeRows (objectRowsAt t a))) t₁ b₁)
+  b₂ : AreBytes (uploadTables t a)
+  b₂ = subst AreBytes (sym (ap (drop (length (encodeRows (objectRowsAt t a)))) tables₁) ∙ drop-at (encodeRows (objectRowsAt t a)) (uploadTables t a) (length (encodeRows (objectRowsAt t a))) refl) (bytes-drop (length (encodeRows (objectRowsAt t a))) t₁ b₁)
 
   follows₁ : Follows (List ℕ) objectOk objectNext [] (objectRowsAt t a)
   unfolding objectRowsAt
@@ -181,5 +182,5 @@ module _ (T : ℕ) (room : headerLength ≤ T) (t a : List ℕ) (b : Bytes t) (w
         arena = arena-same;
       }
 
-pub whole-stands : (t a : List ℕ) → Bytes t → whole t a ≡ true → Stands t a (stateOf t a)
+pub whole-stands : (t a : List ℕ) → AreBytes t → whole t a ≡ true → Stands t a (stateOf t a)
 whole-stands = wholeOf-stands tablesLength (omega arith)

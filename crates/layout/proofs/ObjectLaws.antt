@@ -13,11 +13,11 @@ use Rattle.machine.specs.Names.{Bytes, storedPathOk}
 use Rattle.machine.specs.Etags.{Etag, absent, plain, joined, countOf, digestOf}
 use Rattle.machine.specs.State.{Object}
 use Rattle.machine.specs.Valid.{EtagOk, ObjectOk}
-use Rattle.row.specs.Row.{Row, contentsOf}
-use Rattle.row.specs.RowLaws.{Encodable, EncodableAll, Follows}
+use Rattle.row.specs.Row.{Row, contentsOf, Encodable, EncodableAll}
+use Rattle.row.proofs.RowLaws.{Follows}
 use Rattle.layout.specs.Rules.{plainKind, joinedKind, partsMost, isLess, objectRule, objectOk, objectNext}
-use Rattle.layout.specs.Memory.{objectRow, objectRows, objectOf, objectsOf, etagOf, kindOf}
-use Rattle.layout.specs.TestLaws.{all-true, true-all, stored-path-length, stamp-range, stamp-ok}
+use Rattle.layout.specs.Memory.{objectRow, objectRows, objectOf, objectsOf, rowEtag, rowKind}
+use Rattle.layout.proofs.TestLaws.{all-true, true-all, stored-path-length, stamp-range, stamp-ok}
 
 is-less : (o : Ordering) → isLess o ≡ true → o ≡ Ordering·lt
 is-less Ordering·lt e = refl
@@ -28,10 +28,10 @@ is-less Ordering·gt e = absurd (false≢true e)
 
 -- the kind, digest and count of a row's etag are the row's
 pub record Etagged (kind count : ℕ) (digest : Bytes) : Type 0 where
-  pub same-kind : kindOf (etagOf kind digest count) ≡ kind
-  pub same-digest : digestOf (etagOf kind digest count) ≡ digest
-  pub same-count : countOf (etagOf kind digest count) ≡ count
-  pub ok : length digest ≡ 16 → EtagOk (etagOf kind digest count)
+  pub same-kind : rowKind (rowEtag kind digest count) ≡ kind
+  pub same-digest : digestOf (rowEtag kind digest count) ≡ digest
+  pub same-count : countOf (rowEtag kind digest count) ≡ count
+  pub ok : length digest ≡ 16 → EtagOk (rowEtag kind digest count)
 
 pub etagged : (kind count : ℕ) (digest : Bytes) → kind ≤ joinedKind → count ≤ cond (eqb kind plainKind) 0 partsMost → Etagged kind count digest
 etagged kind count digest k c = go (eqb kind plainKind) refl c
@@ -116,11 +116,11 @@ length-objects (r ∷ rs) = rw (length-objects rs)
 -- Complete ---------------------------------------------------------------------------------------------------------------
 
 record EtagIs (e : Etag) : Type 0 where
-  kind : kindOf e ≤ joinedKind
-  count : countOf e ≤ cond (eqb (kindOf e) plainKind) 0 partsMost
+  kind : rowKind e ≤ joinedKind
+  count : countOf e ≤ cond (eqb (rowKind e) plainKind) 0 partsMost
   most : countOf e ≤ partsMost
   digest : length (digestOf e) ≡ 16
-  same : etagOf (kindOf e) (digestOf e) (countOf e) ≡ e
+  same : rowEtag (rowKind e) (digestOf e) (countOf e) ≡ e
 
 etag-is : (e : Etag) → EtagOk e → EtagIs e
 etag-is absent o = absurd o
@@ -185,7 +185,7 @@ object-rows-follow last (e ∷ m) h a v =
       object-rows-follow (e .0) m (a .0) (a .1) (v .1),
     )
 
--- the first object stands behind no other
+-- the first object stands after no other
 pub objects-first : (m : Map Bytes Object) → Every ObjectOk m → Above byBytes [] m
 objects-first [] v = tt
 objects-first (e ∷ m) v = path-later (e .0) (stored-path-length (e .0) (v .0 .path) .above)

@@ -8,19 +8,11 @@ use borrow.Author.Tests.{le-leb, leb-true}
 use lib.Dec.{leb}
 use lib.ListN.{length, take, drop, length-take, length-drop, length-append, take-append-drop}
 use lib.Seq.{drop-drop, take-at, drop-at, length-take-le}
-use Rattle.number.specs.NumberLaws.{Bytes, bytes-drop}
+use Rattle.number.proofs.NumberLaws.{bytes-drop}
+use Rattle.number.specs.Number.{AreBytes}
 use Rattle.row.specs.Fields.{fields, numbersAt, Fit}
-use Rattle.row.specs.FieldLaws.{length-fields, fields-numbers, numbers-fit, numbers-fields}
-use Rattle.row.specs.Row.{Row, widths, numbersOf, numbersLength, headLength, span, rowBytes, encodeRow, encodeRows, contentsOf, headFrom, headAt, digestAt, pathAt, spanAt, rowAt, inside, headOf, rowsAt, pastRows, pastData, good}
-
--- a row that its bytes can hold
-pub record Encodable (r : Row) : Type 0 where
-  pub fits : Fit widths (numbersOf (headOf r))
-  pub digest : length (r .digest) ≡ 16
-
-abbrev pub EncodableAll : List Row → Type 0
-EncodableAll [] = Unit {0}
-EncodableAll (r ∷ rs) = Encodable r × EncodableAll rs
+use Rattle.row.proofs.FieldLaws.{length-fields, fields-numbers, numbers-fit, numbers-fields}
+use Rattle.row.specs.Row.{Row, widths, numbersOf, numbersLength, headLength, span, rowBytes, encodeRow, encodeRows, contentsOf, headFrom, headAt, digestAt, pathAt, spanAt, rowAt, inside, headOf, rowsAt, pastRows, pastData, good, Encodable, EncodableAll}
 
 pub and-left : (a b : Bool) → (a && b) ≡ true → a ≡ true
 and-left true b e = refl
@@ -82,7 +74,7 @@ length-row r f = rw (length-append, length-append, length-fields widths (numbers
 
 -- Sound ------------------------------------------------------------------------------------------------------------------
 
-module _ (t a : List ℕ) (b : Bytes t) (h : Inside t a) where
+module _ (t a : List ℕ) (b : AreBytes t) (h : Inside t a) where
   length-pathAt : length (pathAt t) ≡ headAt t .pathlen
   unfolding pathAt spanAt
   length-pathAt = rw (length-take, length-drop) (omega (arith, h .row))
@@ -200,7 +192,7 @@ module _ (S : Type 0) (ok : S → Row → Bool) (next : S → Row → S) where
     unfolding good
     rest-good = and-right (ok σ (rowAt t a)) _ (and-right (inside t a) _ g)
 
-  pub rows-sound : (n : ℕ) (σ : S) (t a : List ℕ) → Bytes t → good S ok next n σ t a ≡ true → encodeRows (rowsAt n t a) ++ pastRows n t ≡ t
+  pub rows-sound : (n : ℕ) (σ : S) (t a : List ℕ) → AreBytes t → good S ok next n σ t a ≡ true → encodeRows (rowsAt n t a) ++ pastRows n t ≡ t
   unfolding rowsAt encodeRows pastRows
   rows-sound zero σ t a b g = refl
   rows-sound (suc n) σ t a b g =
@@ -210,7 +202,7 @@ module _ (S : Type 0) (ok : S → Row → Bool) (next : S → Row → S) where
       )
       (row-sound t a b (here-inside n σ t a g))
 
-  pub contents-sound : (n : ℕ) (σ : S) (t a : List ℕ) → Bytes t → good S ok next n σ t a ≡ true → contentsOf (rowsAt n t a) ++ pastData n t a ≡ a
+  pub contents-sound : (n : ℕ) (σ : S) (t a : List ℕ) → AreBytes t → good S ok next n σ t a ≡ true → contentsOf (rowsAt n t a) ++ pastData n t a ≡ a
   unfolding rowsAt contentsOf pastData
   contents-sound zero σ t a b g = refl
   contents-sound (suc n) σ t a b g =
@@ -225,7 +217,7 @@ module _ (S : Type 0) (ok : S → Row → Bool) (next : S → Row → S) where
   follows-sound zero σ t a g = tt
   follows-sound (suc n) σ t a g = (here-ok n σ t a g, follows-sound n (next σ (rowAt t a)) (drop (spanAt t) t) (drop (headAt t .size) a) (rest-good n σ t a g))
 
-  pub encodable-sound : (n : ℕ) (σ : S) (t a : List ℕ) → Bytes t → good S ok next n σ t a ≡ true → EncodableAll (rowsAt n t a)
+  pub encodable-sound : (n : ℕ) (σ : S) (t a : List ℕ) → AreBytes t → good S ok next n σ t a ≡ true → EncodableAll (rowsAt n t a)
   unfolding rowsAt
   encodable-sound zero σ t a b g = tt
   encodable-sound (suc n) σ t a b g = (

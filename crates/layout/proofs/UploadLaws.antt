@@ -8,17 +8,17 @@ use native.Mathlib.Omega.{arith}
 use borrow.Author.Tests.{leb-true, le-leb, ltb-true, lt-ltb, eqb-true}
 use lib.Dec.{eqb}
 use lib.ListN.{length, length-append}
-use Rattle.order.specs.OrderLaws.{compare-below, below, same-true, same-self}
+use Rattle.order.proofs.OrderLaws.{compare-below, below, same-true, same-self}
 use Rattle.machine.specs.Map.{Map, byNumber, Above, Ascending, Every, total}
 use Rattle.machine.specs.Names.{storedPathOk, storedPartOk}
 use Rattle.machine.specs.State.{Part, Upload, partsIn}
 use Rattle.machine.specs.Valid.{PartOk, UploadOk}
-use Rattle.row.specs.Row.{Row, contentsOf}
-use Rattle.row.specs.RowLaws.{Encodable, EncodableAll, Follows, encodable-append, contents-append}
+use Rattle.row.specs.Row.{Row, contentsOf, Encodable, EncodableAll}
+use Rattle.row.proofs.RowLaws.{Follows, encodable-append, contents-append}
 use Rattle.layout.specs.declared.Mark.{Mark}
-use Rattle.layout.specs.Rules.{uploadKind, zeros, uploadRule, partRule, entryRule, entryOk, markAfter, entryNext}
-use Rattle.layout.specs.Memory.{uploadRow, partRow, partRows, uploadRows, Nest, partOf, uploadOf, nest, opens}
-use Rattle.layout.specs.TestLaws.{all-true, true-all, stored-path-length, stamp-range, stamp-ok, stored-part-range}
+use Rattle.layout.specs.Rules.{uploadKind, noDigest, uploadRule, partRule, entryRule, entryOk, markAfter, entryNext}
+use Rattle.layout.specs.Memory.{uploadRow, partRow, partRows, uploadRows, Nest, rowPart, uploadOf, nest, uploadsAmong}
+use Rattle.layout.proofs.TestLaws.{all-true, true-all, stored-path-length, stamp-range, stamp-ok, stored-part-range}
 
 -- Sound ------------------------------------------------------------------------------------------------------------------
 
@@ -34,7 +34,7 @@ record UploadIs (N : ℕ) (m : Mark) (r : Row) : Type 0 where
   later : m .upload < r .number
   given : r .number < N
   path : storedPathOk (r .path) ≡ true
-  digest : zeros ≡ r .digest
+  digest : noDigest ≡ r .digest
 
 record PartIs (m : Mark) (r : Row) : Type 0 where
   kind : 3 ≡ r .kind
@@ -79,11 +79,11 @@ upload-row-same : (N : ℕ) (m : Mark) (r : Row) (ps : Map ℕ Part) → UploadI
 upload-row-same N m r ps h =
     λ i. record { number = r .number; stamp = r .stamp; kind = h .kind i; count = h .count i; digest = h .digest i; path = r .path; content = h .content i }
 
-part-row-same : (m : Mark) (r : Row) → PartIs m r → partRow (r .number) (partOf r) ≡ r
+part-row-same : (m : Mark) (r : Row) → PartIs m r → partRow (r .number) (rowPart r) ≡ r
 part-row-same m r h =
     λ i. record { number = r .number; stamp = h .stamp i; kind = h .kind i; count = h .count i; digest = r .digest; path = h .path i; content = r .content }
 
--- what rows behind the mark m stand for: parts that wait for the upload m .upload, and later uploads
+-- what rows after the mark m stand for: parts that wait for the upload m .upload, and later uploads
 pub record Nested (N : ℕ) (m : Mark) (rs : List Row) (k : Nest) : Type 0 where
   pub same : partRows (k .waiting) ++ uploadRows (k .uploads) ≡ rs
   pub parts-above : Above byNumber (m .part) (k .waiting)
@@ -100,7 +100,7 @@ nested N m [] f v = record { same = refl; parts-above = tt; parts-ascending = tt
 nested N m (r ∷ rs) f v = go (eqb (r .kind) uploadKind) refl (nested N (entryNext m r) rs (f .1) (v .1))
   where
     go : (b : Bool) → eqb (r .kind) uploadKind ≡ b → Nested N (entryNext m r) rs (nest rs)
-        → Nested N m (r ∷ rs) (cond b (record { waiting = []; uploads = (r .number, uploadOf r (nest rs .waiting)) ∷ nest rs .uploads }) (record { waiting = (r .number, partOf r) ∷ nest rs .waiting; uploads = nest rs .uploads }))
+        → Nested N m (r ∷ rs) (cond b (record { waiting = []; uploads = (r .number, uploadOf r (nest rs .waiting)) ∷ nest rs .uploads }) (record { waiting = (r .number, rowPart r) ∷ nest rs .waiting; uploads = nest rs .uploads }))
     go true k ih =
         let h = upload-is N m r (v .0) k in
         let mark : entryNext m r ≡ record { upload = r .number; part = 0 } = simp k in
@@ -140,12 +140,12 @@ nested N m (r ∷ rs) f v = go (eqb (r .kind) uploadKind) refl (nested N (entryN
 
 -- Counts -----------------------------------------------------------------------------------------------------------------
 
-pub length-uploads : (rs : List Row) → length (nest rs .uploads) ≡ opens rs
-unfolding nest opens
+pub length-uploads : (rs : List Row) → length (nest rs .uploads) ≡ uploadsAmong rs
+unfolding nest uploadsAmong
 length-uploads [] = refl
 length-uploads (r ∷ rs) = go (eqb (r .kind) uploadKind) (length-uploads rs)
   where
-    go : (b : Bool) → length (nest rs .uploads) ≡ opens rs → length (cond {A = Nest} b (record { waiting = []; uploads = (r .number, uploadOf r (nest rs .waiting)) ∷ nest rs .uploads }) (record { waiting = (r .number, partOf r) ∷ nest rs .waiting; uploads = nest rs .uploads }) .uploads) ≡ cond b 1 0 + opens rs
+    go : (b : Bool) → length (nest rs .uploads) ≡ uploadsAmong rs → length (cond {A = Nest} b (record { waiting = []; uploads = (r .number, uploadOf r (nest rs .waiting)) ∷ nest rs .uploads }) (record { waiting = (r .number, rowPart r) ∷ nest rs .waiting; uploads = nest rs .uploads }) .uploads) ≡ cond b 1 0 + uploadsAmong rs
     go true h = omega arith
     go false h = omega arith
 
@@ -160,13 +160,13 @@ length-upload-rows [] = refl
 length-upload-rows (e ∷ us) =
     omega (arith, length-append (partRows (e .1 .parts)) (uploadRows us), length-part-rows (e .1 .parts), length-upload-rows us)
 
-opens-parts : (ps : Map ℕ Part) (rs : List Row) → opens (partRows ps ++ rs) ≡ opens rs
-unfolding opens partRows
+opens-parts : (ps : Map ℕ Part) (rs : List Row) → uploadsAmong (partRows ps ++ rs) ≡ uploadsAmong rs
+unfolding uploadsAmong partRows
 opens-parts [] rs = refl
 opens-parts (e ∷ ps) rs = omega (arith, opens-parts ps rs)
 
-pub opens-uploads : (us : Map ℕ Upload) → opens (uploadRows us) ≡ length us
-unfolding opens uploadRows
+pub opens-uploads : (us : Map ℕ Upload) → uploadsAmong (uploadRows us) ≡ length us
+unfolding uploadsAmong uploadRows
 opens-uploads [] = refl
 opens-uploads (e ∷ us) = omega (arith, opens-parts (e .1 .parts) (uploadRows us), opens-uploads us)
 
@@ -256,7 +256,7 @@ upload-rows-follow N m (e ∷ us) h a v =
                 lt-ltb _ _ (o .high),
                 (
                   o .path,
-                  (same-self zeros, tt),
+                  (same-self noDigest, tt),
                 ),
               ),
             ),

@@ -6,8 +6,8 @@ use native.Mathlib.Nat.{add-zero, add-assoc, le-of-suc-le-suc, not-suc-le-zero}
 use native.Mathlib.Omega.{arith}
 use lib.ListN.{length, getD, take, drop, length-drop, length-append, take-append-drop}
 use lib.Seq.{drop-drop, take-at, drop-at, length-take-le}
-use Rattle.number.specs.Number.{le, fromLe}
-use Rattle.number.specs.NumberLaws.{Bytes, bytes-take, bytes-drop, length-le, fromLe-le, le-fromLe, fromLe-lt}
+use Rattle.number.specs.Number.{le, fromLe, AreBytes}
+use Rattle.number.proofs.NumberLaws.{bytes-take, bytes-drop, length-le, fromLe-le, le-fromLe, fromLe-lt}
 use Rattle.row.specs.Fields.{width, fields, numbersAt, Fit}
 
 pub length-fields : (ws vs : List ℕ) → Fit ws vs → length (fields ws vs) ≡ width ws
@@ -18,7 +18,7 @@ length-fields (w ∷ ws) [] f = absurd f
 length-fields (w ∷ ws) (v ∷ vs) f = rw (length-append, length-le w v, length-fields ws vs (f .1))
 
 -- what is read was written so
-pub fields-numbers : (ws s : List ℕ) → Bytes s → width ws ≤ length s → fields ws (numbersAt ws s) ++ drop (width ws) s ≡ s
+pub fields-numbers : (ws s : List ℕ) → AreBytes s → width ws ≤ length s → fields ws (numbersAt ws s) ++ drop (width ws) s ≡ s
 unfolding fields numbersAt
 fields-numbers [] s b h = refl
 fields-numbers (w ∷ ws) s b h =
@@ -32,7 +32,7 @@ fields-numbers (w ∷ ws) s b h =
     )
     (take-append-drop w s)
 
-pub numbers-fit : (ws s : List ℕ) → Bytes s → width ws ≤ length s → Fit ws (numbersAt ws s)
+pub numbers-fit : (ws s : List ℕ) → AreBytes s → width ws ≤ length s → Fit ws (numbersAt ws s)
 unfolding numbersAt
 numbers-fit [] s b h = tt
 numbers-fit (w ∷ ws) s b h =

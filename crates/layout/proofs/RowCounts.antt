@@ -7,10 +7,10 @@ use lib.ListN.{length, length-append}
 use Rattle.machine.specs.Map.{Map, total}
 use Rattle.machine.specs.State.{Object, Part, Upload, State, objectLength, partLength, uploadLength, partsIn, held}
 use Rattle.row.specs.Row.{contentsOf}
-use Rattle.row.specs.RowLaws.{contents-append}
+use Rattle.row.proofs.RowLaws.{contents-append}
 use Rattle.layout.specs.Memory.{objectRows, partRows, uploadRows, rowsOf}
-use Rattle.layout.specs.ObjectLaws.{length-object-rows}
-use Rattle.layout.specs.UploadLaws.{length-upload-rows}
+use Rattle.layout.proofs.ObjectLaws.{length-object-rows}
+use Rattle.layout.proofs.UploadLaws.{length-upload-rows}
 
 pub length-object-contents : (m : Map (List ℕ) Object) → length (contentsOf (objectRows m)) ≡ total objectLength m
 unfolding objectRows contentsOf

@@ -4,7 +4,7 @@ use mathlib.Core.Path.{_≡_, refl, subst}
 use mathlib.Core.List.{List}
 use lib.ListN.{length}
 use Rattle.number.specs.Number.{AreBytes}
-use Rattle.calls.specs.Made.{Memory, MadeFresh}
+use Rattle.contract.specs.Made.{Memory, MadeFresh}
 use Rattle.history.specs.Runs.{Run, FromFresh}
 use Rattle.history.specs.Demand3.{Demand3}
 use Rattle.history.proofs.Demand3 as history

@@ -10,7 +10,7 @@ use Rattle.machine.specs.Names.{Bytes}
 use Rattle.machine.specs.Calls.{Call, Answer, Reply, Outcome, refuse, accept, lent}
 use Rattle.machine.specs.Steps.{act, replyOf}
 use Rattle.machine.proofs.Outcome.{refused-not-accepted, Then}
-use Rattle.calls.specs.Made.{Memory, wholeMemory, stateIn, meantReply, Made}
+use Rattle.contract.specs.Made.{Memory, wholeMemory, stateIn, meantReply, Made}
 use Rattle.history.specs.Runs.{Run}
 use Rattle.history.specs.Runs as runs
 use Rattle.reply.specs.Reply.{replyLength}

@@ -11,7 +11,7 @@ use Rattle.machine.specs.Names.{Bytes}
 use Rattle.machine.specs.Calls.{ABORT, Reply}
 use Rattle.machine.specs.Lists.{Trace}
 use Rattle.machine.specs.Demand3.{accepted}
-use Rattle.calls.specs.Made.{Memory}
+use Rattle.contract.specs.Made.{Memory}
 use Rattle.history.specs.Questions.{ChangesNone, SameReads, StaysOut}
 use Rattle.history.specs.LastWrites.{Consistent}
 use Rattle.history.proofs.LastWrites as history

@@ -7,7 +7,7 @@ use Rattle.number.specs.Number.{AreBytes}
 use Rattle.machine.specs.Calls.{Call, Reply}
 use Rattle.layout.specs.Memory.{Stands}
 use Rattle.layout.proofs.WholeLaws.{whole-stands}
-use Rattle.calls.specs.Made.{Memory, wholeMemory, stateIn, meantReply, Made, MadeFresh}
+use Rattle.contract.specs.Made.{Memory, wholeMemory, stateIn, meantReply, Made, MadeFresh}
 use Rattle.reply.specs.Reply.{replyLength}
 use Rattle.rathnodi.specs.Exported.{numbered, Exported}
 use Rattle.c_history.specs.Events.{Event, alone, replied}

@@ -5,8 +5,8 @@ use mathlib.Core.List.{List, [], _∷_}
 use lib.ListN.{length}
 use Rattle.machine.specs.Names.{Bytes}
 use Rattle.machine.specs.Calls.{PUT, GET, HEAD, DELETE, COPY, LIST, INITIATE, PART, COMMIT, ABORT, UPLOADS}
-use Rattle.calls.specs.Answers.{partList}
-use Rattle.calls.specs.Made.{Memory, Made, MadeFresh}
+use Rattle.contract.specs.Answers.{partList}
+use Rattle.contract.specs.Made.{Memory, Made, MadeFresh}
 use Rattle.rathnodi.specs.Exported.{numbered, Exported}
 use Rattle.c_history.specs.Events.{Event, alone, replied}
 

@@ -5,7 +5,7 @@ use mathlib.Core.Bool.{true}
 use Rattle.machine.specs.Names.{Bytes}
 use Rattle.machine.specs.Calls.{Call}
 use Rattle.machine.specs.Demand3.{kind, isLook}
-use Rattle.calls.specs.Made.{Memory}
+use Rattle.contract.specs.Made.{Memory}
 use Rattle.rathnodi.specs.Exported.{Exported}
 
 -- C reads the same by GET, HEAD or LIST, over the one memory and over the other: the number, the answer buffer and the reply slice

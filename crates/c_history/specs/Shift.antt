@@ -5,8 +5,8 @@ use mathlib.Core.List.{List, [], _∷_}
 use lib.ListN.{length}
 use Rattle.machine.specs.Names.{Bytes}
 use Rattle.machine.specs.Calls.{PUT, GET, HEAD, DELETE, COPY, LIST, INITIATE, PART, COMMIT, ABORT, UPLOADS}
-use Rattle.calls.specs.Answers.{partList}
-use Rattle.calls.specs.Made.{Memory, freshResult}
+use Rattle.contract.specs.Answers.{partList}
+use Rattle.contract.specs.Made.{Memory, freshResult}
 use Rattle.history.specs.Demand3.{Demand3}
 use Rattle.c_history.specs.declared.shift.Shelf.{Shelf}
 use Rattle.c_history.specs.declared.shift.Weighed.{Weighed}

@@ -1,5 +1,5 @@
 // The exported functions, each called as C calls it.
-ghost use Rattle.calls.specs.Made.{memory};
+ghost use Rattle.contract.specs.Made.{memory};
 ghost use Rattle.c_history.specs.Lists.{CRun};
 ghost use Rattle.c_history.specs.Shift.{shelfEvents, weighEvents, Concluded};
 

@@ -20,9 +20,9 @@ use Rattle.layout.proofs.WholeLaws.{whole-stands}
 use Rattle.find.specs.declared.Place.{Place}
 use Rattle.find.specs.Places.{uploadPlace}
 use Rattle.find.proofs.Found.{is-some, is-none}
-use Rattle.calls.specs.Answers.{partList}
-use Rattle.calls.specs.Made.{Memory, memory, stateIn, outcome, resultOf}
-use Rattle.calls.proofs.Judging.{result-pass, result-stop, result-last, passed, result-found, result-missing, was-found}
+use Rattle.contract.specs.Answers.{partList}
+use Rattle.contract.specs.Made.{Memory, memory, stateIn, outcome, resultOf}
+use Rattle.contract.proofs.Judging.{result-pass, result-stop, result-last, passed, result-found, result-missing, was-found}
 use Rattle.join.specs.Joined.{Listed, joinedState, Joinable}
 use Rattle.commits.proofs.Fitting.{upload-ok}
 

@@ -24,7 +24,7 @@ use Rattle.find.specs.declared.Place.{Place}
 use Rattle.find.specs.declared.Parts.{Parts}
 use Rattle.find.specs.Places.{partPlace, partsOf}
 use Rattle.find.proofs.Found.{is-some}
-use Rattle.calls.specs.Answers.{partList}
+use Rattle.contract.specs.Answers.{partList}
 use Rattle.join_order.proofs.Listed.{fit-count}
 use Rattle.join.proofs.UploadBounds.{few-parts}
 use Rattle.join.proofs.Taking.{fit-even}

@@ -11,7 +11,7 @@ use lib.ListN.{length, take, drop}
 use Rattle.number.specs.Number.{fromLe}
 use Rattle.machine.specs.Fits.{member}
 use Rattle.machine.proofs.Fit.{member-snoc}
-use Rattle.calls.specs.Answers.{partList}
+use Rattle.contract.specs.Answers.{partList}
 use Rattle.commits.specs.Numbers.{numberAt, firstNumbers}
 
 -- the bytes of i numbers

@@ -28,8 +28,8 @@ use Rattle.layout.proofs.WholeLaws.{whole-stands}
 use Rattle.find.specs.declared.Place.{Place}
 use Rattle.find.specs.Places.{uploadPlace}
 use Rattle.find.proofs.Found.{is-some}
-use Rattle.calls.specs.Made.{resultOf}
-use Rattle.calls.proofs.Judging.{pass, result-last}
+use Rattle.contract.specs.Made.{resultOf}
+use Rattle.contract.proofs.Judging.{pass, result-last}
 use Rattle.join.proofs.PathRead.{head-inside, path-inside, path-copied}
 
 -- The room for the object: what PUT of no bytes asks -------------------------------------------------------------------

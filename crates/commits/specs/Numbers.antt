@@ -8,7 +8,7 @@ use Rattle.machine.specs.Map.{isSome, Map, byNumber, lookup}
 use Rattle.machine.specs.Names.{Bytes}
 use Rattle.machine.specs.State.{Part}
 use Rattle.machine.specs.Fits.{member}
-use Rattle.calls.specs.Answers.{partList}
+use Rattle.contract.specs.Answers.{partList}
 
 -- the number at i, counted from 0
 abbrev pub numberAt : (list : Bytes) (i : ℕ) → ℕ

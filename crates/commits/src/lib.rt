@@ -14,8 +14,8 @@ ghost use Rattle.machine.specs.Fits.{member, fits};
 ghost use Rattle.layout.specs.Memory.{whole, stateOf, rowsOf};
 ghost use Rattle.find.specs.Places.{beforeUpload};
 ghost use Rattle.find.specs.Search.{rowPlaceAt, IsRowPlace};
-ghost use Rattle.calls.specs.Answers.{WellNumbered, doneReply, partList};
-ghost use Rattle.calls.specs.Made.{memory, outcome, resultOf, Made, MadeWhole};
+ghost use Rattle.contract.specs.Answers.{WellNumbered, doneReply, partList};
+ghost use Rattle.contract.specs.Made.{memory, outcome, resultOf, Made, MadeWhole};
 ghost use Rattle.commits.specs.Numbers.{firstNumbers, numberFits};
 
 // Whether a number is one of the list's first i.

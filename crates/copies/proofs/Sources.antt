@@ -30,8 +30,8 @@ use Rattle.find.proofs.Found.{is-some, is-none}
 use Rattle.edit.specs.Objects.{plainWith}
 use Rattle.edit_copy.specs.Copy.{contentIn, contentAt, Copiable}
 use Rattle.room.proofs.PutAt.{put-at-accepted, plain-is}
-use Rattle.calls.specs.Made.{Memory, memory, stateIn, outcome, resultOf}
-use Rattle.calls.proofs.Judging.{result-pass, result-stop, passed, result-found, result-missing, was-found}
+use Rattle.contract.specs.Made.{Memory, memory, stateIn, outcome, resultOf}
+use Rattle.contract.proofs.Judging.{result-pass, result-stop, passed, result-found, result-missing, was-found}
 use Rattle.copies.specs.Source.{sourceOutcome}
 
 -- the source, read off whole memory

@@ -11,9 +11,9 @@ ghost use Rattle.machine.specs.Map.{isSome, lookup};
 ghost use Rattle.machine.specs.Calls.{COPY};
 ghost use Rattle.layout.specs.Memory.{whole, stateOf};
 ghost use Rattle.edit_copy.specs.Copy.{contentAt};
-ghost use Rattle.calls.specs.Answers.{WellNumbered, doneReply};
+ghost use Rattle.contract.specs.Answers.{WellNumbered, doneReply};
 ghost use Rattle.copies.specs.Source.{sourceOutcome};
-ghost use Rattle.calls.specs.Made.{memory, outcome, resultOf, Made, MadeWhole};
+ghost use Rattle.contract.specs.Made.{memory, outcome, resultOf, Made, MadeWhole};
 
 // The refusal of COPY whose arguments keep their rules: not found, table full, arena full or 0.
 fn source_judge(tables: &[u8], arena: &[u8], stamp: Stamp, source: &[u8], destination: &[u8]) -> u8

@@ -20,7 +20,7 @@ use Rattle.machine.proofs.MapLaws.{ascending-remove, lookup-insert-other, looku
 use Rattle.machine.proofs.Effects.{Effects, stop, sets, removes, closes, Does, opens-upload, sets-part, has-effects, step-does}
 use Rattle.machine.proofs.KeepsValid.{next-valid, fresh-valid, final-valid}
 use Rattle.machine.proofs.Traces.{cut}
-use Rattle.calls.specs.Made.{Memory}
+use Rattle.contract.specs.Made.{Memory}
 use Rattle.history.specs.Runs.{FromFresh}
 use Rattle.history.specs.Questions.{names, Shut, StaysOut}
 use Rattle.history.proofs.Running.{from-fresh}

@@ -4,7 +4,7 @@ use mathlib.Core.Path.{_≡_, refl, _∙_, subst}
 use lib.ListN.{length}
 use Rattle.machine.specs.Names.{Bytes}
 use Rattle.machine.specs.Lists.{Trace}
-use Rattle.calls.specs.Made.{Memory, freshResult, MadeFresh}
+use Rattle.contract.specs.Made.{Memory, freshResult, MadeFresh}
 use Rattle.history.specs.declared.batch.BatchAnswer.{BatchAnswer}
 use Rattle.history.specs.declared.batch.BatchAnswer.the-variants as answer
 use Rattle.history.specs.Runs.{Run}

@@ -9,7 +9,7 @@ use Rattle.machine.specs.Lists.{Trace, trace, final}
 use Rattle.machine.specs.Demand3.{accepted, Leaves, calls, CommitsJoin, without, NeverCommitted, NoCommitAccepted, NeverFull, PartsUnseen, PartsUnseenUnlessCommitted, seen}
 use Rattle.machine.proofs.Demand3.{demand3 as machine-demand3}
 use Rattle.layout.proofs.StandsLaws.{stands-state, stands-whole}
-use Rattle.calls.specs.Made.{Memory, stateIn}
+use Rattle.contract.specs.Made.{Memory, stateIn}
 use Rattle.history.specs.Runs.{Run, FromFresh}
 use Rattle.history.specs.Demand3.{Committed, Demand3}
 use Rattle.history.proofs.Running.{Halves, halves, from-fresh}

@@ -14,7 +14,7 @@ use Rattle.consistency.specs.Origins.{origin}
 use Rattle.consistency.proofs.Shown.{consistent as machine-consistent, get-shows, head-shows, list-shows}
 use Rattle.consistency.proofs.Origins.{origins}
 use Rattle.layout.proofs.StandsLaws.{stands-state, stands-whole}
-use Rattle.calls.specs.Made.{Memory, stateIn, meantReply, Made}
+use Rattle.contract.specs.Made.{Memory, stateIn, meantReply, Made}
 use Rattle.history.specs.Runs.{FromFresh}
 use Rattle.history.specs.LastWrites.{Consistent}
 use Rattle.history.proofs.Running.{from-fresh}

@@ -18,7 +18,7 @@ use Rattle.consistency.specs.LastWrites.{Change, change}
 use Rattle.consistency.specs.Shown.{listShows}
 use Rattle.consistency.proofs.LastWrites.{Changed, act-changes}
 use Rattle.consistency.proofs.Shown.{get-shows, head-shows, list-shows}
-use Rattle.calls.specs.Made.{Memory, wholeMemory, stateIn, meantReply, meantState, Made}
+use Rattle.contract.specs.Made.{Memory, wholeMemory, stateIn, meantReply, meantState, Made}
 use Rattle.history.specs.Runs.{Run, stop, call}
 use Rattle.history.specs.Questions.{changesObjects, ChangesNone, SameReads}
 

@@ -12,7 +12,7 @@ use Rattle.machine.specs.Lists.{Trace, trace, final}
 use Rattle.machine.specs.Demand3.{calls}
 use Rattle.layout.specs.Memory.{Stands}
 use Rattle.layout.proofs.StandsLaws.{stands-state, stands-whole}
-use Rattle.calls.specs.Made.{Memory, wholeMemory, stateIn, meantReply, meantState, Made}
+use Rattle.contract.specs.Made.{Memory, wholeMemory, stateIn, meantReply, meantState, Made}
 use Rattle.history.specs.Runs.{Run, stop, call, FromFresh}
 
 -- one call over memory that stands for s

@@ -6,8 +6,8 @@ use lib.ListN.{length}
 use Rattle.machine.specs.Names.{Bytes}
 use Rattle.machine.specs.Calls.{GET, INITIATE, PART, COMMIT}
 use Rattle.machine.specs.Lists.{Trace}
-use Rattle.calls.specs.Answers.{doneReply, getReply, partReply, initiateReply}
-use Rattle.calls.specs.Made.{Memory, freshResult}
+use Rattle.contract.specs.Answers.{doneReply, getReply, partReply, initiateReply}
+use Rattle.contract.specs.Made.{Memory, freshResult}
 use Rattle.history.specs.declared.batch.Batch.{Batch}
 use Rattle.history.specs.declared.batch.BatchAnswer.{BatchAnswer}
 use Rattle.history.specs.declared.batch.BatchAnswer.the-variants as answer

@@ -8,7 +8,7 @@ use Rattle.machine.specs.Calls.{COMMIT, Reply}
 use Rattle.machine.specs.Lists.{Trace, trace, final}
 use Rattle.machine.specs.Demand3.{accepted, Leaves, calls, without, NeverCommitted, NoCommitAccepted, NeverFull, seen}
 use Rattle.layout.specs.Memory.{Stands}
-use Rattle.calls.specs.Made.{Memory, wholeMemory, stateIn}
+use Rattle.contract.specs.Made.{Memory, wholeMemory, stateIn}
 use Rattle.history.specs.Runs.{Run, FromFresh}
 
 -- Where the run came to this COMMIT: the memory that it left, from which the run goes on to m, and what stands at the upload's path there.

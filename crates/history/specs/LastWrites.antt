@@ -9,7 +9,7 @@ use Rattle.machine.specs.Lists.{Trace}
 use Rattle.consistency.specs.LastWrites.{lastWrite}
 use Rattle.consistency.specs.Shown.{getShows, headShows, listShows, Objects, ReadsLastWrites}
 use Rattle.consistency.specs.Origins.{origin}
-use Rattle.calls.specs.Made.{Memory, stateIn, Made}
+use Rattle.contract.specs.Made.{Memory, stateIn, Made}
 use Rattle.history.specs.Runs.{FromFresh}
 
 -- GET and HEAD of this path answer the same, whether they are made over the one memory or over the other

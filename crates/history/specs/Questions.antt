@@ -9,7 +9,7 @@ use Rattle.machine.specs.Calls.{Call, PUT, GET, HEAD, DELETE, COPY, LIST, INITI
 use Rattle.machine.specs.Lists.{Trace}
 use Rattle.machine.specs.Demand3.{kind, isLook, accepted}
 use Rattle.consistency.specs.LastWrites.{change}
-use Rattle.calls.specs.Made.{Memory, Made}
+use Rattle.contract.specs.Made.{Memory, Made}
 use Rattle.history.specs.Demand3.{Committed}
 
 -- "Can a batch record be read before its last weighing is committed?" -----------------------------------------------------

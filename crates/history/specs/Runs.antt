@@ -5,7 +5,7 @@ use mathlib.Core.List.{[], _∷_}
 use lib.ListN.{length}
 use Rattle.machine.specs.Calls.{Call, Reply}
 use Rattle.machine.specs.Lists.{Trace}
-use Rattle.calls.specs.Made.{Memory, Made, MadeFresh}
+use Rattle.contract.specs.Made.{Memory, Made, MadeFresh}
 
 -- "Every call is lent the tables and the arena as the one before left them, a refused one too, and nobody else writes in them meanwhile."
 -- The calls made, each with what it answered, from one memory to another.

@@ -6,7 +6,7 @@ use types::PartAnswer;
 use types::PartNumber;
 use types::Stamp;
 use types::UploadNumber;
-ghost use Rattle.calls.specs.Made.{memory};
+ghost use Rattle.contract.specs.Made.{memory};
 ghost use Rattle.history.specs.Runs.{Run};
 ghost use Rattle.history.specs.Batch.{batchTrace, Concluded};
 

@@ -17,7 +17,7 @@ use Rattle.layout.specs.Memory.{stateOf, Stands}
 use Rattle.layout.proofs.StandsLaws.{stands-state, stands-whole}
 use Rattle.edit.specs.Objects.{objectBehind, Addable}
 use Rattle.edit.proofs.MapEdits.{insert-removed}
-use Rattle.calls.specs.Answers.{partList}
+use Rattle.contract.specs.Answers.{partList}
 use Rattle.join.specs.declared.Taken.{Taken}
 use Rattle.join.specs.Joined.{Listed, joinedState, TakenOut}
 use Rattle.join.proofs.UploadBounds.{few-parts}

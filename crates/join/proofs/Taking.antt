@@ -36,7 +36,7 @@ use Rattle.find.proofs.Splits.{parts-place, parts-behind}
 use Rattle.edit.proofs.Changes.{without-upload-rows}
 use Rattle.edit.proofs.Fit.{tables-fit}
 use Rattle.edit.proofs.RowLists.{rows-spliced, header-written}
-use Rattle.calls.specs.Answers.{partList}
+use Rattle.contract.specs.Answers.{partList}
 use Rattle.join_order.specs.Region.{listedRows, ListedAt, orderedTables, orderedArena, Arranged}
 use Rattle.join_order.proofs.Listed.{fit-count}
 use Rattle.join.specs.declared.Bounds.{Bounds}

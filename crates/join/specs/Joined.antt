@@ -13,7 +13,7 @@ use Rattle.machine.specs.State.{Part, Upload, State, held, withObject, withoutU
 use Rattle.machine.specs.Steps.{fit, contents, digests, joinedObject}
 use Rattle.machine.specs.Valid.{Valid}
 use Rattle.layout.specs.Memory.{whole, stateOf, Stands}
-use Rattle.calls.specs.Answers.{partList}
+use Rattle.contract.specs.Answers.{partList}
 use Rattle.join.specs.declared.Taken.{Taken}
 
 -- upload u is open, and the numbers name each of its parts one time

@@ -12,7 +12,7 @@ ghost use Rattle.machine.specs.Map.{isSome, byNumber, lookup};
 ghost use Rattle.machine.specs.State.{Upload};
 ghost use Rattle.layout.specs.Memory.{whole, stateOf, Stands};
 ghost use Rattle.layout.specs.Header.{headed, headerLength};
-ghost use Rattle.calls.specs.Answers.{partList};
+ghost use Rattle.contract.specs.Answers.{partList};
 ghost use Rattle.join.specs.Bounds.{boundsOf};
 ghost use Rattle.join.specs.Joined.{Listed, TakenOut, Joinable, JoinableAt, joinedState};
 

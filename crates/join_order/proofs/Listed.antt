@@ -14,7 +14,7 @@ use Rattle.machine.proofs.Options.{none-some}
 use Rattle.machine.proofs.MapPlaces.{split-found}
 use Rattle.machine.proofs.Fit.{fit-cons}
 use Rattle.layout.specs.Memory.{partRows}
-use Rattle.calls.specs.Answers.{partList}
+use Rattle.contract.specs.Answers.{partList}
 use Rattle.join_order.specs.Region.{listedRows, ListedAt, orderedTables}
 use Rattle.join_order.specs.Digests.{OrderedAt}
 use Rattle.join_order.proofs.Rows.{encodable-append-right, encodable-head}

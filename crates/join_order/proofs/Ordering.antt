@@ -17,7 +17,7 @@ use Rattle.machine.proofs.MapPlaces.{split-found, remove-old}
 use Rattle.machine.proofs.Fit.{fit-cons}
 use Rattle.row.specs.Row.{encodeRow, encodeRows, contentsOf, headLength, EncodableAll}
 use Rattle.layout.specs.Memory.{partRow, partRows}
-use Rattle.calls.specs.Answers.{partList}
+use Rattle.contract.specs.Answers.{partList}
 use Rattle.join_order.specs.Region.{Region, PartAt, Brought, listedRows, ListedAt, orderedTables, orderedArena}
 use Rattle.join_order.proofs.Rows.{row-here, encodable-without}
 

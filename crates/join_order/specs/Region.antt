@@ -11,7 +11,7 @@ use Rattle.md5.specs.declared.words.Digest.{Digest}
 use Rattle.md5.specs.Md5.{md5}
 use Rattle.row.specs.Row.{Row, encodeRow, encodeRows, contentsOf, EncodableAll}
 use Rattle.layout.specs.Memory.{partRow, partRows}
-use Rattle.calls.specs.Answers.{partList}
+use Rattle.contract.specs.Answers.{partList}
 use Rattle.join_order.specs.declared.Found.{Found}
 
 -- rows of parts at `at` in the tables, with their data at `base` in the arena

@@ -16,8 +16,8 @@ use Rattle.types.specs.declared.ListAnswer.{ListAnswer}
 use Rattle.types.specs.declared.ListAnswer.the-variants as list
 use Rattle.machine.specs.Names.{Bytes}
 use Rattle.machine.specs.Calls.{Call, Reply, lent}
-use Rattle.calls.specs.Answers.{doneReply, getReply, partReply, initiateReply, listReply}
-use Rattle.calls.specs.Made.{Memory, meantReply, Made}
+use Rattle.contract.specs.Answers.{doneReply, getReply, partReply, initiateReply, listReply}
+use Rattle.contract.specs.Made.{Memory, meantReply, Made}
 use Rattle.reply.specs.Reply.{replyOver}
 use Rattle.rathnodi.specs.Exported.{numbered, answerWith, replyAfter, Exported}
 use Rattle.rathnodi.proofs.Telling.{Telling, meant-over}

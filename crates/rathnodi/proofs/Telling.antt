@@ -8,7 +8,7 @@ use Rattle.machine.specs.State.{State}
 use Rattle.machine.specs.Calls.{Call, GET, HEAD, LIST, INITIATE, PART, UPLOADS, Answer, Outcome, refuse, accept, _else_then_, lent}
 use Rattle.machine.specs.Steps.{act, replyOf}
 use Rattle.machine.proofs.Outcome.{refused-not-accepted, Then, then-accept, then-else, then-given, then-object}
-use Rattle.calls.specs.Made.{Memory, wholeMemory, stateIn, meantReply}
+use Rattle.contract.specs.Made.{Memory, wholeMemory, stateIn, meantReply}
 use Rattle.reply.specs.Reply.{replyBytes, replyOver}
 use Rattle.rathnodi.specs.Exported.{replyAfter}
 

@@ -7,8 +7,8 @@ use lib.Dec.{eqb}
 use lib.ListN.{length}
 use Rattle.machine.specs.Names.{Bytes}
 use Rattle.machine.specs.Calls.{Call, Reply, nothing, lent}
-use Rattle.calls.specs.Answers.{refused}
-use Rattle.calls.specs.Made.{Memory, meantReply, Made}
+use Rattle.contract.specs.Answers.{refused}
+use Rattle.contract.specs.Made.{Memory, meantReply, Made}
 use Rattle.reply.specs.Reply.{replyLength, replyBytes}
 
 -- a call without a reply slice answers its number alone

@@ -1,7 +1,7 @@
 // An empty store.
 ghost use mathlib.Core.Path.{_≡_};
 ghost use Rattle.layout.specs.Memory.{tablesLength};
-ghost use Rattle.calls.specs.Made.{memory, MadeFresh};
+ghost use Rattle.contract.specs.Made.{memory, MadeFresh};
 
 // The one right length of the tables.
 #[no_mangle]

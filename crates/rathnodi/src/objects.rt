@@ -3,7 +3,7 @@ use crate::REPLY_LEN;
 use types::Stamp;
 ghost use mathlib.Core.List.{[]};
 ghost use Rattle.machine.specs.Calls.{PUT, GET, HEAD, DELETE, COPY, LIST};
-ghost use Rattle.calls.specs.Made.{memory, Made};
+ghost use Rattle.contract.specs.Made.{memory, Made};
 ghost use Rattle.rathnodi.specs.Exported.{numbered, Exported};
 
 // PUT: the object at path becomes the content, with this stamp.

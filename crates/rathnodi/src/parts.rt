@@ -5,8 +5,8 @@ use types::Stamp;
 use types::UploadNumber;
 ghost use mathlib.Core.List.{[]};
 ghost use Rattle.machine.specs.Calls.{INITIATE, PART, COMMIT, ABORT, UPLOADS};
-ghost use Rattle.calls.specs.Answers.{partList};
-ghost use Rattle.calls.specs.Made.{memory, Made};
+ghost use Rattle.contract.specs.Answers.{partList};
+ghost use Rattle.contract.specs.Made.{memory, Made};
 ghost use Rattle.rathnodi.specs.Exported.{numbered, Exported};
 
 // INITIATE: an upload to path is opened, its number to the reply.

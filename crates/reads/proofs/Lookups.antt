@@ -27,7 +27,7 @@ use Rattle.find.specs.declared.Place.{Place}
 use Rattle.find.specs.Places.{behind, beforeObject, afterObject, objectPlace}
 use Rattle.find.proofs.RowsAt.{At, row-at}
 use Rattle.find.proofs.Splits.{object-found}
-use Rattle.calls.specs.Answers.{refused}
+use Rattle.contract.specs.Answers.{refused}
 use Rattle.reads.specs.declared.Named.the-variants as named
 use Rattle.reads.specs.Named.{namedIn, storedAt}
 

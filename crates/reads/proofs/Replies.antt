@@ -17,9 +17,9 @@ use Rattle.machine.proofs.Records.{write-fits}
 use Rattle.row.specs.Row.{headAt, headLength}
 use Rattle.layout.specs.Memory.{whole, stateOf}
 use Rattle.layout.proofs.WholeLaws.{whole-stands}
-use Rattle.calls.specs.Answers.{metadataOf, getReply, success}
-use Rattle.calls.specs.Made.{memory, outcome, Made}
-use Rattle.calls.proofs.Reading.{reads, write-keeps}
+use Rattle.contract.specs.Answers.{metadataOf, getReply, success}
+use Rattle.contract.specs.Made.{memory, outcome, Made}
+use Rattle.contract.proofs.Reading.{reads, write-keeps}
 use Rattle.reads.specs.declared.Named.{Named}
 use Rattle.reads.specs.declared.Named.the-variants as named
 use Rattle.reads.specs.Named.{namedIn, metadataAt, storedAt}

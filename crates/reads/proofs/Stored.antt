@@ -23,7 +23,7 @@ use Rattle.machine.proofs.Records.{write-fits, write-short}
 use Rattle.row.specs.declared.Head.{Head}
 use Rattle.row.specs.Row.{headAt, digestAt, rowAt, numbersLength, headLength}
 use Rattle.layout.specs.Memory.{rowEtag}
-use Rattle.calls.specs.Answers.{etagOf, metadataOf, getReply, success}
+use Rattle.contract.specs.Answers.{etagOf, metadataOf, getReply, success}
 use Rattle.reads.specs.Named.{metadataAt, storedAt}
 
 -- the digest, read by its words

@@ -13,8 +13,8 @@ ghost use Rattle.machine.specs.Etags.{absent};
 ghost use Rattle.machine.specs.Steps.{about, write, replyOf};
 ghost use Rattle.row.specs.Row.{headAt, digestAt, headLength};
 ghost use Rattle.layout.specs.Memory.{whole, stateOf, rowEtag};
-ghost use Rattle.calls.specs.Answers.{etagOf, metadataOf, getReply};
-ghost use Rattle.calls.specs.Made.{memory, outcome, Made};
+ghost use Rattle.contract.specs.Answers.{etagOf, metadataOf, getReply};
+ghost use Rattle.contract.specs.Made.{memory, outcome, Made};
 ghost use Rattle.reads.specs.Named.{namedIn, metadataAt, storedAt};
 
 // What the path of a GET or HEAD names: nothing, with the refusal's number; the root; or an object, by the place of its row

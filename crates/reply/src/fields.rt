@@ -4,7 +4,7 @@ use types::Etag;
 ghost use mathlib.Core.Path.{_≡_};
 ghost use lib.ListN.{length};
 ghost use Rattle.md5.specs.Md5.{bytesOf};
-ghost use Rattle.calls.specs.Answers.{etagOf};
+ghost use Rattle.contract.specs.Answers.{etagOf};
 ghost use Rattle.reply.specs.Reply.{fieldBytes, fieldsWith};
 
 // The fields of a reply, each at its offset.

@@ -10,7 +10,7 @@ use types::PartAnswer;
 ghost use mathlib.Core.Path.{_≡_};
 ghost use mathlib.Core.List.{[]};
 ghost use lib.ListN.{length};
-ghost use Rattle.calls.specs.Answers.{doneReply, getReply, partReply, initiateReply, listReply};
+ghost use Rattle.contract.specs.Answers.{doneReply, getReply, partReply, initiateReply, listReply};
 ghost use Rattle.reply.specs.Reply.{replyOver};
 
 // PUT, DELETE, COPY, COMMIT and ABORT: the number alone.

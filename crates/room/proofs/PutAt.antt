@@ -23,8 +23,8 @@ use Rattle.machine.specs.Valid.{Valid}
 use Rattle.machine.proofs.MapSums.{length-insert, total-share}
 use Rattle.machine.proofs.Counts.{put-counted, held-put}
 use Rattle.edit.specs.Objects.{plainWith}
-use Rattle.calls.specs.Made.{resultOf}
-use Rattle.calls.proofs.Judging.{result-pass, result-stop, result-last, passed}
+use Rattle.contract.specs.Made.{resultOf}
+use Rattle.contract.proofs.Judging.{result-pass, result-stop, result-last, passed}
 
 -- an object is a share of what is held
 pub object-share : (s : State) (p : Bytes) (x : Object) → lookup byBytes p (s .O) ≡ some x → objectLength x ≤ held s

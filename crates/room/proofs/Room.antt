@@ -23,7 +23,7 @@ use Rattle.find.proofs.Splits.{object-found}
 use Rattle.find.proofs.RowsAt.{row-at}
 use Rattle.find.proofs.Found.{is-some, is-none}
 use Rattle.edit.proofs.PutLaws.{place-found}
-use Rattle.calls.specs.Made.{resultOf}
+use Rattle.contract.specs.Made.{resultOf}
 use Rattle.room.proofs.PutAt.{object-share, room-old, room-new, room-none}
 
 module _ (t a : List ℕ) (b : AreBytes t) (w : whole t a ≡ true) (p : List ℕ) (place : Place) (place-is : place ≡ objectPlace (stateOf t a) p)

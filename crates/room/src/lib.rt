@@ -8,7 +8,7 @@ ghost use Rattle.machine.specs.Names.{Bytes};
 ghost use Rattle.machine.specs.Calls.{arenaFull, code};
 ghost use Rattle.machine.specs.Steps.{putAt};
 ghost use Rattle.layout.specs.Memory.{whole, stateOf};
-ghost use Rattle.calls.specs.Made.{resultOf};
+ghost use Rattle.contract.specs.Made.{resultOf};
 
 // Arena full where n bytes beside those held pass its length, or 0.
 pub fn arena_judge(held: usize, n: usize, arena: usize) -> u8

@@ -1,12 +1,12 @@
-// The store's calls: FRESH and document 01's eleven. Each promises `Made` (crate `calls`), FRESH `MadeFresh`, and none has a precondition.
+// The store's calls: FRESH and document 01's eleven. Each promises `Made` (crate `contract`), FRESH `MadeFresh`, and none has a precondition.
 pub use commits::commit;
 pub use copies::copy;
-pub use lists::list;
-pub use multipart::abort::abort;
-pub use multipart::initiate::initiate;
-pub use multipart::part::part;
+pub use listing::list;
 pub use reads::get;
 pub use reads::head;
+pub use uploading::abort::abort;
+pub use uploading::initiate::initiate;
+pub use uploading::part::part;
 pub use uploads::uploads;
 pub use writes::delete;
 pub use writes::fresh;

@@ -16,9 +16,9 @@ use Rattle.machine.specs.Steps.{openUnder, uploadRecord, act, replyOf}
 use Rattle.machine.proofs.Records.{write-fits, write-short}
 use Rattle.layout.specs.Memory.{whole, stateOf}
 use Rattle.layout.proofs.WholeLaws.{whole-stands}
-use Rattle.calls.specs.Answers.{listReply, success}
-use Rattle.calls.specs.Made.{memory, outcome, Made}
-use Rattle.calls.proofs.Reading.{reads, write-keeps}
+use Rattle.contract.specs.Answers.{listReply, success}
+use Rattle.contract.specs.Made.{memory, outcome, Made}
+use Rattle.contract.proofs.Reading.{reads, write-keeps}
 
 module _ (t a : List ℕ) (prefix b : Bytes) where
   abbrev s : State

@@ -9,8 +9,8 @@ ghost use mathlib.Core.Bool.{true};
 ghost use Rattle.machine.specs.Calls.{UPLOADS};
 ghost use Rattle.machine.specs.Steps.{replyOf};
 ghost use Rattle.layout.specs.Memory.{whole};
-ghost use Rattle.calls.specs.Answers.{listReply};
-ghost use Rattle.calls.specs.Made.{memory, outcome, Made};
+ghost use Rattle.contract.specs.Answers.{listReply};
+ghost use Rattle.contract.specs.Made.{memory, outcome, Made};
 
 // UPLOADS over whole memory.
 fn uploads_whole(tables: &[u8], arena: &[u8], prefix: &[u8], answer: &mut [u8]) -> ListAnswer

@@ -13,8 +13,8 @@ use Rattle.find.specs.declared.Place.{Place}
 use Rattle.find.specs.Places.{objectPlace}
 use Rattle.find.proofs.Found.{is-some, is-none}
 use Rattle.edit.proofs.PutLaws.{place-found}
-use Rattle.calls.specs.Made.{Memory, stateIn, outcome, resultOf}
-use Rattle.calls.proofs.Judging.{result-pass, result-stop, result-found, result-missing, passed, was-found}
+use Rattle.contract.specs.Made.{Memory, stateIn, outcome, resultOf}
+use Rattle.contract.proofs.Judging.{result-pass, result-stop, result-found, result-missing, passed, was-found}
 
 -- DELETE over the memory m
 module _ (m : Memory) (p : Bytes) where

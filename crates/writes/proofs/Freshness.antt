@@ -13,7 +13,7 @@ use Rattle.row.specs.Row.{encodeRows, contentsOf}
 use Rattle.layout.specs.Memory.{objectRows, uploadRows, rowsOf, Stands, tablesLength, arenaMost}
 use Rattle.layout.proofs.StandsLaws.{stands-state, stands-whole}
 use Rattle.layout.specs.Header.{headerBytes, headed, encodeHeader, headerLength}
-use Rattle.calls.specs.Made.{memory, freshResult, MadeFresh}
+use Rattle.contract.specs.Made.{memory, freshResult, MadeFresh}
 
 module _ (t a : List ℕ) where
   pub other-tables : (length t ≡ tablesLength → ⊥) → MadeFresh (memory t a) 1 (memory t a)

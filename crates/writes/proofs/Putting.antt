@@ -17,8 +17,8 @@ use Rattle.layout.specs.Memory.{whole, stateOf, Stands}
 use Rattle.layout.proofs.WholeLaws.{whole-stands}
 use Rattle.edit.specs.Objects.{plainWith}
 use Rattle.room.proofs.PutAt.{put-at-accepted, plain-is}
-use Rattle.calls.specs.Made.{Memory, memory, stateIn, outcome, resultOf}
-use Rattle.calls.proofs.Judging.{result-pass, result-stop, passed}
+use Rattle.contract.specs.Made.{Memory, memory, stateIn, outcome, resultOf}
+use Rattle.contract.proofs.Judging.{result-pass, result-stop, passed}
 
 -- PUT over the memory m
 module _ (m : Memory) (t : ℕ) (p d : Bytes) where

@@ -4,7 +4,7 @@ ghost use mathlib.Core.Path.{_≡_};
 ghost use mathlib.Core.Bool.{true};
 ghost use Rattle.machine.specs.Calls.{Call};
 ghost use Rattle.layout.specs.Memory.{whole};
-ghost use Rattle.calls.specs.Made.{memory, outcome, resultOf};
+ghost use Rattle.contract.specs.Made.{memory, outcome, resultOf};
 
 // PUT's refusal.
 pub(crate) fn put_judge(

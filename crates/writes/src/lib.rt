@@ -8,8 +8,8 @@ ghost use mathlib.Core.Path.{_≡_};
 ghost use mathlib.Core.Bool.{true};
 ghost use Rattle.machine.specs.Calls.{Call};
 ghost use Rattle.layout.specs.Memory.{whole};
-ghost use Rattle.calls.specs.Answers.{WellNumbered, doneReply};
-ghost use Rattle.calls.specs.Made.{memory, Made, MadeWhole, MadeFresh};
+ghost use Rattle.contract.specs.Answers.{WellNumbered, doneReply};
+ghost use Rattle.contract.specs.Made.{memory, Made, MadeWhole, MadeFresh};
 
 // FRESH: an empty store, whatever the slices hold.
 pub fn fresh(tables: &mut [u8], arena: &mut [u8]) -> u8

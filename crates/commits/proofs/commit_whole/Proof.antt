@@ -4,7 +4,7 @@ use mathlib.Core.List.{[]}
 use borrow.Author.Needs.{needs}
 use Rattle.number.specs.Number.{AreBytes}
 use Rattle.machine.specs.Calls.{nothing}
-use Rattle.calls.proofs.MadeLaws.{judged, done}
+use Rattle.contract.proofs.MadeLaws.{judged, done}
 use Rattle.commits.proofs.Committing.{commit-ready, commit-done}
 use Rattle.commits.proofs.commit_whole.Statement.{statement}
 use Rattle.commits.proofs.commit_whole.Tie as tie

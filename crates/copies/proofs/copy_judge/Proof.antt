@@ -1,6 +1,6 @@
 -- `copies::copy_judge` meets its contract: stamp and paths, then the source. Assumes nothing.
 use Rattle.names.proofs.Tests.{said-no, said-yes}
-use Rattle.calls.specs.Made.{memory}
+use Rattle.contract.specs.Made.{memory}
 use Rattle.copies.proofs.Sources.{copy-bad, copy-judged}
 use borrow.Author.Needs.{needs}
 use Rattle.copies.proofs.copy_judge.Statement.{statement}

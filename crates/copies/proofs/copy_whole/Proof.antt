@@ -5,8 +5,8 @@ use mathlib.Core.List.{List, []}
 use borrow.Author.Needs.{needs}
 use Rattle.number.specs.Number.{AreBytes}
 use Rattle.machine.specs.Calls.{COPY, nothing}
-use Rattle.calls.specs.Made.{memory, outcome, resultOf}
-use Rattle.calls.proofs.MadeLaws.{judged, done}
+use Rattle.contract.specs.Made.{memory, outcome, resultOf}
+use Rattle.contract.proofs.MadeLaws.{judged, done}
 use Rattle.copies.proofs.Sources.{copy-there, copy-accepted, copy-ready, copy-stands}
 use Rattle.copies.proofs.copy_whole.Statement.{statement}
 use Rattle.copies.proofs.copy_whole.Tie as tie

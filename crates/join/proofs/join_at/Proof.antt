@@ -9,7 +9,7 @@ use Rattle.machine.specs.State.{State}
 use Rattle.layout.specs.Memory.{stateOf, Stands}
 use Rattle.layout.proofs.StandsLaws.{stands-whole}
 use Rattle.layout.proofs.WholeLaws.{whole-stands}
-use Rattle.calls.specs.Answers.{partList}
+use Rattle.contract.specs.Answers.{partList}
 use Rattle.join.specs.Joined.{Listed, JoinableAt}
 use Rattle.join.proofs.Joining.{listed₁, addable, state-is}
 use Rattle.join.proofs.join_at.Statement.{statement}

@@ -13,7 +13,7 @@ use Rattle.layout.specs.Memory.{stateOf, Stands}
 use Rattle.layout.proofs.StandsLaws.{header-back}
 use Rattle.layout.proofs.WholeLaws.{whole-stands}
 use Rattle.layout.specs.Header.{headerOf, headerAt}
-use Rattle.calls.specs.Answers.{partList}
+use Rattle.contract.specs.Answers.{partList}
 use Rattle.join.specs.declared.Bounds.{Bounds}
 use Rattle.join.specs.Joined.{Listed}
 use Rattle.join.proofs.Taking.{few, listed-at, cut-inside, some-upload, taken}

@@ -3,8 +3,8 @@ use mathlib.Core.Path.{refl, sym, _∙_}
 use mathlib.Core.List.{[]}
 use borrow.Author.Needs.{needs}
 use Rattle.machine.specs.Calls.{nothing}
-use Rattle.calls.specs.Made.{memory}
-use Rattle.calls.proofs.MadeLaws.{judged, done}
+use Rattle.contract.specs.Made.{memory}
+use Rattle.contract.proofs.MadeLaws.{judged, done}
 use Rattle.writes.proofs.Deleting.{delete-accepted, delete-there}
 use Rattle.writes.proofs.delete_whole.Statement.{statement}
 use Rattle.writes.proofs.delete_whole.Tie as tie

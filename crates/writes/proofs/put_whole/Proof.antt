@@ -5,8 +5,8 @@ use borrow.Author.Needs.{needs}
 use Rattle.number.specs.Number.{AreBytes}
 use Rattle.machine.specs.Calls.{nothing}
 use Rattle.layout.specs.Memory.{stateOf}
-use Rattle.calls.specs.Made.{memory}
-use Rattle.calls.proofs.MadeLaws.{judged, done}
+use Rattle.contract.specs.Made.{memory}
+use Rattle.contract.proofs.MadeLaws.{judged, done}
 use Rattle.writes.proofs.Putting.{put-accepted, put-ready, put-stands}
 use Rattle.writes.proofs.put_whole.Statement.{statement}
 use Rattle.writes.proofs.put_whole.Tie as tie

@@ -4,7 +4,7 @@ use Rattle.history.proofs.batch.weigh.Statement.{statement}
 use Rattle.history.proofs.batch.weigh.Tie as tie
 use Rattle.history.specs.Runs.{stop, call}
 use Rattle.history.specs.Batch.{batchTrace}
-use Rattle.calls.specs.Answers.{partList}
+use Rattle.contract.specs.Answers.{partList}
 use mathlib.Core.Path.{_∙_}
 
 initiate-requires : tie.Need-initiate-requires

@@ -1,6 +1,6 @@
 -- `writes::judges::put_judge` meets its contract: stamp and path, then the ceilings. Assumes nothing.
 use Rattle.names.proofs.Tests.{said-no, said-yes}
-use Rattle.calls.specs.Made.{memory}
+use Rattle.contract.specs.Made.{memory}
 use Rattle.writes.proofs.Putting.{put-bad, put-judged}
 use borrow.Author.Needs.{needs}
 use mathlib.Core.Path.{refl}

@@ -1,0 +1,65 @@
+// What LIST writes, measured.
+use types::Counts;
+ghost use mathlib.Core.Path.{_≡_};
+ghost use mathlib.Core.Bool.{true, cond};
+ghost use Prim.Native.Nat.{ℕ, _+_, _≤_};
+ghost use mathlib.Core.List.{List};
+ghost use lib.ListN.{length, drop};
+ghost use Rattle.machine.specs.Etags.{text};
+ghost use Rattle.machine.specs.Steps.{isListed, listed};
+ghost use Rattle.row.specs.Row.{headAt, pathAt, span};
+ghost use Rattle.layout.specs.Memory.{whole, stateOf, rowEtag};
+ghost use Rattle.listing.specs.Rows.{listedBytes, listBytes};
+
+// How long the text of an etag is.
+pub(crate) fn text_length(kind: u8, count: u16) -> u32
+    ensures { λ r. ⌜ (r ≤ 38) × ((d : List ℕ) → length d ≡ 16 → r ≡ length (text (rowEtag kind d count))) ⌝ }
+{
+    if kind == layout::PLAIN_KIND {
+        return 32;
+    }
+    33 + text::decimal_length(count) as u32
+}
+
+// How many records, 0 or 1, and bytes LIST writes for the row at `at`.
+fn measure_row(tables: &[u8], at: usize, prefix: &[u8], suffix: &[u8]) -> Counts
+    requires { ⌜ at + span (headAt (drop at (now tables))) ≤ length (now tables) ⌝ }
+    ensures { λ r. ⌜ (r .records ≡ cond (isListed (now (prefix .entry)) (now (suffix .entry)) (pathAt (drop at (now (tables .entry))))) 1 0)
+        × (r .bytes ≡ length (listedBytes (now (prefix .entry)) (now (suffix .entry)) (drop at (now (tables .entry)))))
+        × (r .records ≤ 1)
+        × (r .bytes ≤ 307) ⌝ }
+{
+    if !crate::paths::has_row(tables, at, prefix, suffix) {
+        return Counts {
+            records: 0,
+            bytes: 0,
+        };
+    }
+    let h = row::read_head(tables, at);
+    Counts {
+        records: 1,
+        bytes: 14 + number::wide(h.pathlen) as u32 + text_length(h.kind, h.count),
+    }
+}
+
+// How many records and bytes it writes in all.
+pub(crate) fn measure_rows(tables: &[u8], arena: &[u8], prefix: &[u8], suffix: &[u8]) -> Counts
+    requires { ⌜ whole (now tables) (now arena) ≡ true ⌝ }
+    ensures { λ r. ⌜ (r .records ≡ length (listed (now (prefix .entry)) (now (suffix .entry)) (stateOf (now (tables .entry)) (now (arena .entry)) .O)))
+        × (r .bytes ≡ length (listBytes (now (prefix .entry)) (now (suffix .entry)) (stateOf (now (tables .entry)) (now (arena .entry))))) ⌝ }
+{
+    let objects = find::object_count(tables, arena);
+    let mut at: usize = layout::HEADER_LENGTH;
+    let mut records: u32 = 0;
+    let mut bytes: u32 = 0;
+    let mut i: usize = 0;
+    while i < objects {
+        let h = row::read_head(tables, at);
+        let m = measure_row(tables, at, prefix, suffix);
+        at += row::span(h);
+        records += m.records;
+        bytes += m.bytes;
+        i += 1;
+    }
+    Counts { records, bytes }
+}

@@ -13,8 +13,8 @@ use Rattle.machine.specs.Names.{Bytes, lastUploadNumber}
 use Rattle.machine.specs.Digest.{md5, length-md5}
 use Rattle.machine.specs.Etags.{Etag, absent, plain, joined}
 use Rattle.machine.specs.State.{Object, State, objectLength, held}
-use Rattle.machine.specs.Calls.{Call, PUT, GET, HEAD, DELETE, COPY, LIST, INITIATE, PART, COMMIT, ABORT, UPLOADS, Answer, etag, Outcome}
-use Rattle.machine.specs.Steps.{about, objectAt, listed, listRecord, openUnder, uploadRecord, act}
+use Rattle.machine.specs.Calls.{Call, PUT, GET, HEAD, DELETE, COPY, LIST, INITIATE, PART, COMMIT, ABORT, UPLOADS, DELETE-OBJECTS, Answer, etag, Outcome}
+use Rattle.machine.specs.Steps.{about, objectAt, listed, listRecord, openUnder, uploadRecord, deleteAt, act}
 use Rattle.machine.specs.Valid.{EtagOk, ObjectOk, Valid}
 use Rattle.machine.proofs.MapLaws.{every-lookup}
 use Rattle.machine.proofs.MapSums.{total-share}
@@ -53,7 +53,7 @@ module _ (A : ℕ) (s : State) (small : A ≤ arenaMost) (v : Valid A s) where
   found-back Q (b ∷ p) k h = then-else _ _ _ _ λ _. then-given _ _ _ _ λ x e. h x (object-back (b ∷ p) x e)
 
   pub reads-back : (k : Call) → Then (ReadBack k) (act A s k)
-  unfolding act
+  unfolding act deleteAt
   reads-back (PUT t p d) = then-else _ _ _ _ λ _. then-put _ A s t p d λ _ _. refl
   reads-back (GET p b) = found-back _ p _ λ x e. then-else _ _ _ _ λ _. then-accept _ _ _ _ e
   reads-back (HEAD p) = found-back _ p _ λ x e. then-accept _ _ _ _ e
@@ -82,3 +82,4 @@ module _ (A : ℕ) (s : State) (small : A ≤ arenaMost) (v : Valid A s) where
       let w = opens-bytes A s v prefix in
       then-else _ _ _ _ λ _. then-accept _ _ _ _
       (counts-back (length (openUnder prefix (s .U))) (length (records uploadRecord (openUnder prefix (s .U)))) (omega arith) (omega arith))
+  reads-back (DELETE-OBJECTS names ps over b) = then-else _ _ _ _ λ _. then-else _ _ _ _ λ _. then-else _ _ _ _ λ _. then-accept _ _ _ _ refl

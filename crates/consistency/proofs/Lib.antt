@@ -1,3 +1,4 @@
+pub mod Removing
 pub mod LastWrites
 pub mod Shown
 pub mod Untouched

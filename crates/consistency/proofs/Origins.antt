@@ -10,7 +10,7 @@ use borrow.Author.Tests.{eq-eqb, ne-eqb, eqb-true}
 use Rattle.machine.specs.Map.{also, keep, Every}
 use Rattle.machine.specs.Names.{Bytes}
 use Rattle.machine.specs.State.{Object}
-use Rattle.machine.specs.Calls.{Call, PUT, GET, HEAD, DELETE, COPY, LIST, INITIATE, PART, COMMIT, ABORT, UPLOADS, Answer, nothing, metadata, etag, number, counts, Reply}
+use Rattle.machine.specs.Calls.{Call, PUT, GET, HEAD, DELETE, COPY, LIST, INITIATE, PART, COMMIT, ABORT, UPLOADS, DELETE-OBJECTS, Answer, nothing, metadata, etag, number, counts, Reply}
 use Rattle.machine.specs.Lists.{Trace}
 use Rattle.machine.specs.Demand3.{Kind, looks, initiates, sends, commits, other, kind, accepted, _or_, carries, carried, lastPart, lastParts, answers, opens, opened, startOf, commitOf, NoCommitAccepted}
 use Rattle.consistency.specs.LastWrites.{Change, sets, copies, joins, removes, change, Write, writes, written, isTo, left, lastOf, lastWrite}
@@ -81,7 +81,7 @@ draws-same t h none = refl
 draws-same t h (some (sets p x)) = refl
 draws-same t h (some (copies n p q)) = rw (h p)
 draws-same t h (some (joins u ns)) = rw (reverse-kept u t, start-kept u (reverse t), parts-kept u (reverse t) ns)
-draws-same t h (some (removes p)) = refl
+draws-same t h (some (removes ps)) = refl
 
 origin-last : (t : Trace) (p : Bytes) → lastOf (originOf t p) p ≡ lastOf t p
 origin-last [] p = refl
@@ -118,7 +118,7 @@ drawn-sublist t h none = Sublistᴰ·nil-sublist t
 drawn-sublist t h (some (sets p x)) = Sublistᴰ·nil-sublist t
 drawn-sublist t h (some (copies n p q)) = h p
 drawn-sublist t h (some (joins u ns)) = kept-sublist u t
-drawn-sublist t h (some (removes p)) = Sublistᴰ·nil-sublist t
+drawn-sublist t h (some (removes ps)) = Sublistᴰ·nil-sublist t
 
 origin-sublist : (t : Trace) (p : Bytes) → Sublistᴰ (originOf t p) t
 origin-sublist [] p = Sublistᴰ·slnil
@@ -155,7 +155,7 @@ module _ (P K : Call → Reply → Type 0)
   drawn-every t h (some (sets p x)) c r e y ok = tt
   drawn-every t h (some (copies n p q)) c r e y ok = h p
   drawn-every t h (some (joins u ns)) c r e y ok = parts u ns c r t e y ok
-  drawn-every t h (some (removes p)) c r e y ok = tt
+  drawn-every t h (some (removes ps)) c r e y ok = tt
 
   origin-every : (t : Trace) → Every K t → (p : Bytes) → Every P (originOf t p)
   origin-every [] k p = tt
@@ -200,7 +200,7 @@ OfKind none k = Unit {0}
 OfKind (some (sets p x)) k = k ≡ other
 OfKind (some (copies n p q)) k = k ≡ other
 OfKind (some (joins u ns)) k = k ≡ commits u
-OfKind (some (removes p)) k = k ≡ other
+OfKind (some (removes ps)) k = k ≡ other
 
 change-kind : (c : Call) → OfKind (change c) (kind c)
 change-kind (PUT k q d) = refl
@@ -214,6 +214,7 @@ change-kind (PART v n d) = tt
 change-kind (COMMIT v ns) = refl
 change-kind (ABORT v) = tt
 change-kind (UPLOADS prefix b) = tt
+change-kind (DELETE-OBJECTS names ps over b) = refl
 
 writer-builds-none : (u : ℕ) (a : Answer) (was : Bytes → Option Object) (before : Trace) (p : Bytes) (x : Option Change) (k : Kind) → OfKind x k →
     isTo p (also x (writes was before)) ≡ true → builds u a k ≡ false
@@ -221,7 +222,7 @@ writer-builds-none u a was before p none k e h = absurd (false≢true h)
 writer-builds-none u a was before p (some (sets q x)) k e h = rw e
 writer-builds-none u a was before p (some (copies n q z)) k e h = rw e
 writer-builds-none u a was before p (some (joins v ns)) k e h = rw e
-writer-builds-none u a was before p (some (removes q)) k e h = rw e
+writer-builds-none u a was before p (some (removes qs)) k e h = rw e
 
 -- a number is one upload's
 other-number : (u v n : ℕ) → (u ≡ v → ⊥) → eqb v n ≡ true → eqb u n ≡ false

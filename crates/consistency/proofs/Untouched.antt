@@ -6,7 +6,7 @@ use mathlib.Core.List.{[], _∷_, _++_, append-nil, append-assoc}
 use mathlib.Core.Option.{none}
 use Rattle.order.proofs.OrderLaws.{same-self}
 use Rattle.machine.specs.Names.{Bytes}
-use Rattle.machine.specs.Calls.{Call, PUT, DELETE, COPY, COMMIT, Reply}
+use Rattle.machine.specs.Calls.{Call, PUT, DELETE, COPY, COMMIT, DELETE-OBJECTS, Reply}
 use Rattle.machine.specs.Lists.{Trace}
 use Rattle.consistency.specs.LastWrites.{written, left, lastWrite, writesTo, Untouched, LastWrite}
 use Rattle.consistency.proofs.LastWrites.{last-snoc}
@@ -36,6 +36,7 @@ last-write = record {
   never = never;
   put = λ t p d r before after ok h. last p before after (PUT t p d, r) (rw (ok, same-self p)) h ∙ rw ok;
   delete = λ p r before after ok h. last p before after (DELETE p, r) (rw (ok, same-self p)) h ∙ rw ok;
+  delete-objects = λ names ps over b p r before after ok in-list h. last p before after (DELETE-OBJECTS names ps over b, r) (rw (ok, in-list)) h ∙ rw ok;
   copy = λ t q p r before after ok h. last p before after (COPY t q p, r) (rw (ok, same-self p)) h ∙ rw ok;
   commit = λ u ns t p r before after ok e h. last p before after (COMMIT u ns, r) (rw (ok, e, same-self p)) h ∙ rw (ok, e);
 }

@@ -30,7 +30,7 @@ draws origins before none = []
 draws origins before (some (sets p x)) = []
 draws origins before (some (copies t p q)) = origins p
 draws origins before (some (joins u ns)) = ofUpload u before
-draws origins before (some (removes p)) = []
+draws origins before (some (removes ps)) = []
 
 -- of calls and replies newest first: the last write of a path, with what it draws on
 abbrev pub originOf : (newestFirst : Trace) (path : Bytes) → Trace

@@ -1,11 +1,14 @@
--- Document 01's number and values for each answer of the code. Assumes nothing.
-use Prim.Native.Nat.{ℕ, _+_, _*_}
+-- Document 01's and document 02's number and values for each answer of the code, and what lists of numbers in bytes stand for. Assumes nothing.
+use Prim.Native.Nat.{ℕ, zero, suc, _+_, _*_, _/_, _%_}
 use mathlib.Core.Path.{_≡_}
-use mathlib.Core.List.{List, [], _∷_}
+use mathlib.Core.List.{List, [], _∷_, map}
+use lib.ListN.{length, take, drop}
+use Rattle.number.specs.Number.{fromLe}
 use Rattle.md5.specs.Md5.{bytesOf}
 use Rattle.types.specs.declared.Etag.{Etag}
 use Rattle.types.specs.declared.Etag.the-variants.{Absent, Plain, Joined}
 use Rattle.types.specs.declared.Metadata.{Metadata}
+use Rattle.types.specs.declared.Place.{Place}
 use Rattle.types.specs.declared.DoneAnswer.{DoneAnswer}
 use Rattle.types.specs.declared.DoneAnswer.the-variants as done
 use Rattle.types.specs.declared.GetAnswer.{GetAnswer}
@@ -18,7 +21,7 @@ use Rattle.types.specs.declared.ListAnswer.{ListAnswer}
 use Rattle.types.specs.declared.ListAnswer.the-variants as list
 use Rattle.machine.specs.Names.{Bytes}
 use Rattle.machine.specs.Etags as machine
-use Rattle.machine.specs.Calls.{Answer, nothing, metadata, etag, number, counts, Reply}
+use Rattle.machine.specs.Calls.{NamePlace, Answer, nothing, metadata, etag, number, counts, Reply}
 
 -- an etag, with its digest as sixteen bytes
 abbrev pub etagOf : Etag → machine.Etag
@@ -40,6 +43,11 @@ success a b = record { result = 0; answer = a; buffer = b }
 abbrev pub doneReply : DoneAnswer → Reply
 doneReply (done.Refused n) = refused n []
 doneReply done.Done = success nothing []
+
+-- E1, DELETE_OBJECTS; b is what the result buffer holds
+abbrev pub resultsReply : DoneAnswer → Bytes → Reply
+resultsReply (done.Refused n) b = refused n b
+resultsReply done.Done b = success nothing b
 
 -- "Success is 0.": a refusal has another number, so `Done` alone says that the call was done
 abbrev pub WellNumbered : DoneAnswer → Type 0
@@ -71,3 +79,22 @@ unfoldable pub partList : Bytes → List ℕ
 partList [] = []
 partList (x ∷ []) = 0 ∷ []
 partList (x ∷ (y ∷ bs)) = (x + 256 * y) ∷ partList bs
+
+-- E1: the name places of a slice of them
+abbrev pub namePlace : Place → NamePlace
+namePlace p = record { start = p .start; length = p .len }
+
+abbrev pub namePlaces : List Place → List NamePlace
+namePlaces ps = map namePlace ps
+
+-- E1: "From C a place comes as two 32-bit numbers, low byte first": the first n places of these bytes
+abbrev pub placesFrom : (n : ℕ) → Bytes → List NamePlace
+placesFrom zero bs = []
+placesFrom (suc n) bs = record { start = fromLe (take 4 bs); length = fromLe (take 4 (drop 4 bs)) } ∷ placesFrom n (drop 8 bs)
+
+-- E1: all places of these bytes, and how many bytes are left over
+unfoldable pub placesIn : Bytes → List NamePlace
+placesIn bs = placesFrom (length bs / 8) bs
+
+abbrev pub leftOver : Bytes → ℕ
+leftOver bs = length bs % 8

@@ -10,7 +10,7 @@ use Rattle.order.proofs.OrderLaws.{numbers}
 use Rattle.machine.specs.Map.{byNumber, lookup, Ascending}
 use Rattle.machine.specs.Names.{requestPartOk}
 use Rattle.machine.specs.State.{Upload, State, fresh}
-use Rattle.machine.specs.Calls.{Call, PUT, GET, HEAD, DELETE, COPY, LIST, INITIATE, PART, COMMIT, ABORT, UPLOADS, Answer, Reply, badRequest, refuse, _else_then_, given}
+use Rattle.machine.specs.Calls.{Call, PUT, GET, HEAD, DELETE, COPY, LIST, INITIATE, PART, COMMIT, ABORT, UPLOADS, DELETE-OBJECTS, Answer, Reply, badRequest, refuse, _else_then_, given}
 use Rattle.machine.specs.Steps.{act, replyOf, reply, next}
 use Rattle.machine.specs.Lists.{Trace, trace, final}
 use Rattle.machine.specs.Valid.{Valid, UploadOk}
@@ -72,6 +72,7 @@ module _ (A u : ℕ) (s : State) (v : Valid A s) (g : Gone u s) where
   refused-here (COMMIT k ns) e = rw (gone-here k e)
   refused-here (ABORT k) e = rw (gone-here k e)
   refused-here (UPLOADS prefix b) e = absurd (false≢true e)
+  refused-here (DELETE-OBJECTS ns ps over b) e = absurd (false≢true e)
 
 all-shut : (A u : ℕ) (s : State) (cs : List Call) → Valid A s → Gone u s → Shut u (trace A s cs)
 all-shut A u s [] v g = tt

@@ -14,7 +14,7 @@ use Rattle.history.specs.Runs.{Run, FromFresh}
 use Rattle.history.specs.Demand3.{Committed, Demand3}
 use Rattle.history.proofs.Running.{Halves, halves, from-fresh}
 
-calls-append : (t₁ t₂ : Trace) → calls (t₁ ++ t₂) ≡ calls t₁ ++ calls t₂
+pub calls-append : (t₁ t₂ : Trace) → calls (t₁ ++ t₂) ≡ calls t₁ ++ calls t₂
 calls-append [] t₂ = refl
 calls-append (e ∷ t₁) t₂ = ap (λ (cs : List Call). e .0 ∷ cs) (calls-append t₁ t₂)
 

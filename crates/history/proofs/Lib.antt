@@ -4,3 +4,4 @@ pub mod LastWrites
 pub mod Concluding
 pub mod Reading
 pub mod Aborted
+pub mod DeleteObjects

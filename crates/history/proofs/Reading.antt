@@ -1,4 +1,4 @@
--- The auditor's first question: only PUT, DELETE, COPY and COMMIT change what GET, HEAD and LIST answer. Assumes nothing.
+-- The auditor's first question: only PUT, DELETE, COPY, COMMIT and DELETE_OBJECTS change what GET, HEAD and LIST answer. Assumes nothing.
 use Prim.Native.Nat.{ℕ}
 use native.Mathlib.Omega.{arith}
 use mathlib.Core.Path.{_≡_, refl, sym, ap, _∙_}
@@ -9,7 +9,7 @@ use Rattle.order.specs.Order.{byBytes}
 use Rattle.machine.specs.Map.{isSome, Map, lookup}
 use Rattle.machine.specs.Names.{Bytes}
 use Rattle.machine.specs.State.{Object, State}
-use Rattle.machine.specs.Calls.{Call, PUT, GET, HEAD, DELETE, COPY, LIST, INITIATE, PART, COMMIT, ABORT, UPLOADS, Reply, lent}
+use Rattle.machine.specs.Calls.{Call, PUT, GET, HEAD, DELETE, COPY, LIST, INITIATE, PART, COMMIT, ABORT, UPLOADS, DELETE-OBJECTS, Reply, lent}
 use Rattle.machine.specs.Steps.{act, reply, next}
 use Rattle.machine.specs.Lists.{Trace}
 use Rattle.machine.specs.Demand3.{kind, isLook}
@@ -47,6 +47,7 @@ looks-same A s s′ (PART u n d) e l = absurd (false≢true l)
 looks-same A s s′ (COMMIT u ns) e l = absurd (false≢true l)
 looks-same A s s′ (ABORT u) e l = absurd (false≢true l)
 looks-same A s s′ (UPLOADS prefix b) e l = absurd (false≢true l)
+looks-same A s s′ (DELETE-OBJECTS names ps over b) e l = absurd (false≢true l)
 
 -- Over memory -------------------------------------------------------------------------------------------------------------------
 

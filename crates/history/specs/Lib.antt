@@ -2,4 +2,5 @@ pub mod Runs
 pub mod Demand3
 pub mod LastWrites
 pub mod Questions
+pub mod DeleteObjects
 pub mod Batch

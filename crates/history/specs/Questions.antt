@@ -5,7 +5,7 @@ use mathlib.Core.Bool.{Bool, true, false}
 use mathlib.Core.List.{List, [], _∷_, _++_}
 use lib.Dec.{eqb}
 use Rattle.machine.specs.Map.{isSome}
-use Rattle.machine.specs.Calls.{Call, PUT, GET, HEAD, DELETE, COPY, LIST, INITIATE, PART, COMMIT, ABORT, UPLOADS, Reply}
+use Rattle.machine.specs.Calls.{Call, PUT, GET, HEAD, DELETE, COPY, LIST, INITIATE, PART, COMMIT, ABORT, UPLOADS, DELETE-OBJECTS, Reply}
 use Rattle.machine.specs.Lists.{Trace}
 use Rattle.machine.specs.Demand3.{kind, isLook, accepted}
 use Rattle.consistency.specs.LastWrites.{change}
@@ -14,7 +14,7 @@ use Rattle.history.specs.Demand3.{Committed}
 
 -- "Can a batch record be read before its last weighing is committed?" -----------------------------------------------------
 
--- the calls that set or remove an object: PUT, DELETE, COPY and COMMIT; INITIATE, PART and ABORT do not
+-- the calls that set or remove an object: PUT, DELETE, COPY, COMMIT and DELETE_OBJECTS; INITIATE, PART and ABORT do not
 abbrev pub changesObjects : Call → Bool
 changesObjects c = isSome (change c)
 
@@ -42,6 +42,7 @@ names u (PART v n d) = eqb u v
 names u (COMMIT v ns) = eqb u v
 names u (ABORT v) = eqb u v
 names u (UPLOADS prefix b) = false
+names u (DELETE-OBJECTS ns ps over b) = false
 
 -- every call that names the upload is refused, by 2
 abbrev pub Shut : (upload : ℕ) → Trace → Type 0

@@ -11,12 +11,13 @@ use Rattle.order.proofs.OrderLaws.{numbers}
 use Rattle.machine.specs.Map.{Map, byNumber, lookup, insert, remove, mapped}
 use Rattle.machine.specs.Names.{Bytes}
 use Rattle.machine.specs.State.{Object, Part, Upload, State, withO, withU}
-use Rattle.machine.specs.Calls.{Call, PUT, GET, HEAD, DELETE, COPY, LIST, INITIATE, PART, COMMIT, ABORT, UPLOADS, Answer, Refusal, Outcome, refuse, accept, _else_then_, given, lent}
-use Rattle.machine.specs.Steps.{putAt, objectAt, act, replyOf, after, next}
+use Rattle.machine.specs.Calls.{Call, PUT, GET, HEAD, DELETE, COPY, LIST, INITIATE, PART, COMMIT, ABORT, UPLOADS, DELETE-OBJECTS, Answer, Refusal, Outcome, refuse, accept, _else_then_, given, lent}
+use Rattle.machine.specs.Steps.{putAt, objectAt, deleteAt, act, replyOf, after, next}
 use Rattle.machine.specs.Demand3.{Kind, looks, initiates, sends, commits, other, kind, partOf, commitOf, isLook}
 use Rattle.machine.proofs.Options.{none-some}
 use Rattle.machine.proofs.MapLaws.{insert-there}
 use Rattle.machine.proofs.MapEach.{each, lookup-each, each-insert, each-remove}
+use Rattle.machine.proofs.Places.{places-uploads, places-results, places-state}
 use Rattle.machine.proofs.Effects.{Quiet, Does, opens-upload, sets-part, has-effects, step-does}
 
 -- the upload u with no parts, any other as it is
@@ -128,7 +129,7 @@ module _ (A u : ℕ) (s : State) (m : Map ℕ Upload) (e : bare u (s .U) ≡ bar
   at-alike l b (c ∷ p) k k′ h = alike-else _ _ _ _ _ _ (alike-given _ _ _ _ _ _ h)
 
   act-alike : (c : Call) → partOf u (kind c) ≡ false → commitOf u (kind c) ≡ false → Alike (isLook (kind c)) (lent c) (act A s c) (act A (withU s m) c)
-  unfolding act
+  unfolding act deleteAt
   act-alike (PUT t p d) h k = alike-else _ _ _ _ _ _ (put-alike t p d)
   act-alike (GET p b) h k = at-alike _ _ p _ _ λ x. alike-else _ _ _ _ _ _ (alike-accept _ _ _ _ _ _ (like-O _))
   act-alike (HEAD p) h k = at-alike _ _ p _ _ λ x. alike-accept _ _ _ _ _ _ (like-O _)
@@ -150,6 +151,10 @@ module _ (A u : ℕ) (s : State) (m : Map ℕ Upload) (e : bare u (s .U) ≡ bar
   act-alike (ABORT v) h k =
       alike-found _ _ (bareAt u v) _ _ _ _ _ (found v) λ x y q. alike-accept _ _ _ _ _ _ (record { objects = refl; uploads = removed v; number = refl })
   act-alike (UPLOADS prefix b) h k = alike-unseen _ _ _ _ _ _ _ _ _
+  act-alike (DELETE-OBJECTS names ps over b) h k =
+      rw (places-results m s names ps, places-state m s names ps)
+      (alike-else _ _ _ _ _ _ (alike-else _ _ _ _ _ _ (alike-else _ _ _ _ _ _ (alike-accept _ _ _ _ _ _
+      (record { objects = refl; uploads = rw (places-uploads s names ps) e; number = refl })))))
 
 pub step-went : (A u : ℕ) (s s′ : State) (c : Call) → Like u s s′ → partOf u (kind c) ≡ false → commitOf u (kind c) ≡ false →
     Room (lent c) (act A s c) → Room (lent c) (act A s′ c) → Went A u s s′ c

@@ -27,7 +27,7 @@ use Rattle.machine.proofs.Options.{both}
 use Rattle.machine.proofs.MapLaws.{ascending-remove, every-lookup, lookup-insert, lookup-insert-other}
 use Rattle.machine.proofs.Fit.{lookup-kept, fit-listed, fit-once, fit-all}
 use Rattle.machine.proofs.Rules.{stored-requested, stored-not-root}
-use Rattle.machine.proofs.Traces.{cut, final-snoc}
+use Rattle.machine.proofs.Traces.{cut, final-append}
 use Rattle.machine.proofs.Outcome.{refused-not-accepted, Then, then-else, then-given, then-step}
 use Rattle.machine.proofs.Effects.{Effects, stop, sets, removes, closes, Quiet, Does, opens-upload, sets-part, has-effects, step-does}
 use Rattle.machine.proofs.KeepsValid.{next-valid, fresh-valid, final-valid}
@@ -228,4 +228,4 @@ commits-join A cs before behind u ns r e ok =
     let s = final A fresh (calls before) in
     let l = commit-leaves A s u ns (trace A fresh (calls before)) (final-valid A fresh (calls before) (fresh-valid A)) (fresh-agrees A (calls before))
     (ap accepted (k .replied) ∙ ok) in
-    rw (final-snoc A fresh (calls before) (COMMIT u ns)) (subst (λ (t : Trace). Leaves A t u ns (next A s (COMMIT u ns))) (k .first) l)
+    rw (final-append A fresh (calls before) (COMMIT u ns ∷ [])) (subst (λ (t : Trace). Leaves A t u ns (next A s (COMMIT u ns))) (k .first) l)

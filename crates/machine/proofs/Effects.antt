@@ -2,9 +2,9 @@
 -- What needs the states before and after a call alone is shown over this, not over the calls.
 -- Assumes nothing.
 use Prim.Native.Nat.{ℕ, _≤_}
-use mathlib.Core.Path.{_≡_, refl}
+use mathlib.Core.Path.{_≡_, refl, subst}
 use mathlib.Core.Bool.{true, false, _&&_}
-use mathlib.Core.List.{List}
+use mathlib.Core.List.{List, [], _∷_}
 use mathlib.Core.Option.{some}
 use native.Mathlib.Omega.{arith}
 use borrow.Author.Tests.{leb-true}
@@ -16,8 +16,8 @@ use Rattle.machine.specs.Names.{Bytes, newPathOk, stampOk, requestPartOk
 use Rattle.machine.specs.Digest.{md5, length-md5}
 use Rattle.machine.specs.Etags.{plain}
 use Rattle.machine.specs.State.{Object, Part, Upload, State, withObject, withoutObject, withUpload, withoutUpload, withNext, withPart, partsIn, held, counted}
-use Rattle.machine.specs.Calls.{Call, PUT, GET, HEAD, DELETE, COPY, LIST, INITIATE, PART, COMMIT, ABORT, UPLOADS, Answer, etag, number, Reply, Refusal, refuse, accept, lent}
-use Rattle.machine.specs.Steps.{newUpload, newPart, joinedObject, fit, putAt, act, replyOf, reply, next}
+use Rattle.machine.specs.Calls.{Call, PUT, GET, HEAD, DELETE, COPY, LIST, INITIATE, PART, COMMIT, ABORT, UPLOADS, DELETE-OBJECTS, NamePlace, Answer, nothing, etag, number, Reply, Refusal, Outcome, refuse, accept, lent}
+use Rattle.machine.specs.Steps.{newUpload, newPart, joinedObject, fit, putAt, deleteAt, deletePlace, afterPlaces, act, replyOf, after, reply, next}
 use Rattle.machine.specs.Valid.{ObjectOk, UploadOk, Valid}
 use Rattle.machine.specs.Demand3.{Kind, looks, initiates, sends, commits, other, kind, answers}
 use Rattle.machine.proofs.Options.{both}
@@ -27,6 +27,7 @@ use Rattle.machine.proofs.Fit.{fit-length}
 use Rattle.machine.proofs.Counts.{held-commit}
 use Rattle.machine.proofs.Rules.{new-stored}
 use Rattle.machine.proofs.Outcome.{Then, then-else, then-given, then-object, then-put, then-step}
+use Rattle.machine.proofs.Places.{placed, then-place}
 
 -- an object that keeps the rules, in a state that keeps the ceilings
 pub record Sound (A : ℕ) (p : Bytes) (x : Object) (s : State) : Type 0 where
@@ -86,8 +87,19 @@ module _ (A : ℕ) (s : State) where
         room = let h = held-commit s u x ns xs (x .path) e f in omega (arith, v .room);
       }
 
+  -- the DELETE of a path and what follows it
+  deleted : (a : State) (p : Bytes) (o : Outcome) → Then (λ r out s′. (r ≡ nothing) × (s′ ≡ withoutObject a p)) o → {b : State} → Effects A s (after a o) b → Effects A s a b
+  unfolding Then
+  deleted a p (refuse n) h e = e
+  deleted a p (accept r out s′) h {b} e = removes p (subst (λ (z : State). Effects A s z b) (h .1) e)
+
+  places-do : (a : State) (names : Bytes) (ps : List NamePlace) → Effects A s a (afterPlaces a names ps)
+  places-do a names [] = stop
+  places-do a names (p ∷ ps) =
+      deleted a (placed names p) (deletePlace a names p) (then-place a names p) (places-do (after a (deletePlace a names p)) names ps)
+
   act-does : (c : Call) → Then (λ r out s′. Does A s (kind c) r s′) (act A s c)
-  unfolding act Then
+  unfolding act deleteAt Then
   act-does (PUT t p d) = then-else _ _ _ _ λ h. let b = both _ _ h in put-does t p d (b .0) (b .1)
   act-does (GET p b) = then-object _ s p _ λ x. then-else _ _ _ _ λ _. has-effects tt (λ n. refl) stop
   act-does (HEAD p) = then-object _ s p _ λ x. has-effects tt (λ n. refl) stop
@@ -106,6 +118,8 @@ module _ (A : ℕ) (s : State) where
       has-effects tt (λ n. refl) (closes u x e (sets (x .path) _ (joined-sound u x ns xs e f c) stop))
   act-does (ABORT u) = then-given _ _ _ _ λ x e. has-effects tt (λ n. refl) (closes u x e stop)
   act-does (UPLOADS prefix b) = then-else _ _ _ _ λ _. has-effects tt (λ n. refl) stop
+  act-does (DELETE-OBJECTS names ps over b) =
+      then-else _ _ _ _ λ _. then-else _ _ _ _ λ _. then-else _ _ _ _ λ _. has-effects tt (λ n. refl) (places-do s names ps)
 
   -- what holds where a call is refused, and of whatever an accepted one does, holds of every call's reply and the state after it
   pub step-does : (P : Reply → State → Type 0) (c : Call) → ((n : Refusal) → P (replyOf (lent c) (refuse n)) s) →

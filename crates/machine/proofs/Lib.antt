@@ -10,6 +10,7 @@ pub mod Fit
 pub mod Records
 pub mod Rules
 pub mod Outcome
+pub mod Places
 pub mod Counts
 pub mod Effects
 pub mod KeepsValid
@@ -19,3 +20,4 @@ pub mod Commits
 pub mod Alike
 pub mod Unseen
 pub mod Demand3
+pub mod DeleteObjects

@@ -10,7 +10,7 @@ use borrow.Author.Tests.{ne-eqb}
 use lib.Dec.{leb}
 use Rattle.machine.specs.Names.{Bytes}
 use Rattle.machine.specs.State.{Object, State, withObject, held, counted}
-use Rattle.machine.specs.Calls.{Answer, nothing, Reply, Refusal, badRequest, notFound, tableFull, arenaFull, numbersUsedUp, bufferShort, code, Outcome, refuse, accept, _else_then_, given}
+use Rattle.machine.specs.Calls.{Answer, nothing, Reply, Refusal, badRequest, notFound, tableFull, arenaFull, numbersUsedUp, bufferShort, tooMany, code, Outcome, refuse, accept, _else_then_, given}
 use Rattle.machine.specs.Steps.{plainObject, putAt, objectAt, replyOf, after}
 use Rattle.machine.specs.Demand3.{accepted}
 
@@ -22,6 +22,7 @@ code-not-zero tableFull e = omega arith
 code-not-zero arenaFull e = omega arith
 code-not-zero numbersUsedUp e = omega arith
 code-not-zero bufferShort e = omega arith
+code-not-zero tooMany e = omega arith
 
 pub refused-not-accepted : (b : Bytes) (n : Refusal) → accepted (replyOf b (refuse n)) ≡ false
 refused-not-accepted b n = ne-eqb (code n) 0 (code-not-zero n)

@@ -1,4 +1,4 @@
--- A trace cut at a call, and what more calls leave.
+-- A trace cut at a call, and what two lists one after the other answer and leave.
 -- Assumes nothing.
 use Prim.Native.Nat.{ℕ}
 use mathlib.Core.Path.{_≡_, refl, sym, ap, _∙_, subst}
@@ -31,6 +31,14 @@ cut A s (k ∷ cs) (w ∷ before) behind c r e =
     subst (λ (w : Call × Reply). Cut A s (w ∷ before) c r behind) h
     (record { first = ap (λ (t : Trace). (k, reply A s k) ∷ t) (i .first); replied = i .replied; rest = i .rest; last = i .last })
 
-pub final-snoc : (A : ℕ) (s : State) (cs : List Call) (c : Call) → final A s (cs ++ c ∷ []) ≡ next A (final A s cs) c
-final-snoc A s [] c = refl
-final-snoc A s (k ∷ cs) c = final-snoc A (next A s k) cs c
+pub final-append : (A : ℕ) (s : State) (cs ds : List Call) → final A s (cs ++ ds) ≡ final A (final A s cs) ds
+final-append A s [] ds = refl
+final-append A s (c ∷ cs) ds = final-append A (next A s c) cs ds
+
+pub trace-append : (A : ℕ) (s : State) (cs ds : List Call) → trace A s (cs ++ ds) ≡ trace A s cs ++ trace A (final A s cs) ds
+trace-append A s [] ds = refl
+trace-append A s (c ∷ cs) ds = ap (λ (t : Trace). (c, reply A s c) ∷ t) (trace-append A (next A s c) cs ds)
+
+pub calls-trace : (A : ℕ) (s : State) (cs : List Call) → calls (trace A s cs) ≡ cs
+calls-trace A s [] = refl
+calls-trace A s (c ∷ cs) = ap (λ (l : List Call). c ∷ l) (calls-trace A (next A s c) cs)

@@ -1,4 +1,4 @@
--- Document 01's eleven calls, with their arguments as values, and what they answer. Assumes nothing.
+-- Document 01's eleven calls and document 02's, with their arguments as values, and what they answer. Assumes nothing.
 use Prim.Native.Nat.{ℕ}
 use mathlib.Core.Bool.{Bool, true, false}
 use mathlib.Core.List.{List, []}
@@ -7,7 +7,14 @@ use Rattle.machine.specs.Names.{Bytes}
 use Rattle.machine.specs.Etags.{Etag}
 use Rattle.machine.specs.State.{State}
 
+-- Document 02, E1: "name places, each a start and a length"
+pub record NamePlace : Type 0 where
+  pub start : ℕ
+  pub length : ℕ
+
 -- "Each stands in it with its arguments as values, the bytes that its answer buffer holds beforehand among them."
+-- E1: DELETE-OBJECTS has "one buffer of names and a list of name places"; how many bytes are left over after the last place, where the places
+-- come as bytes; and the buffer for the results.
 pub data Call : Type 0 where
   PUT : (stamp : ℕ) (path content : Bytes) → Call
   GET : (path buffer : Bytes) → Call
@@ -20,6 +27,7 @@ pub data Call : Type 0 where
   COMMIT : (upload : ℕ) (numbers : List ℕ) → Call
   ABORT : (upload : ℕ) → Call
   UPLOADS : (prefix buffer : Bytes) → Call
+  DELETE-OBJECTS : (names : Bytes) (places : List NamePlace) (leftOver : ℕ) (results : Bytes) → Call
 
 -- what is answered beside the result: "metadata (PART's etag with it), numbers, counts"
 pub data Answer : Type 0 where
@@ -35,9 +43,9 @@ pub record Reply : Type 0 where
   pub answer : Answer
   pub buffer : Bytes
 
--- "In checking order", 2 to 7. Refusal 1, not a store, is the memory's.
+-- "In checking order", 2 to 7, and E1's 8. Refusal 1, not a store, is the memory's.
 pub data Refusal : Type 0 where
-  badRequest notFound tableFull arenaFull numbersUsedUp bufferShort : Refusal
+  badRequest notFound tableFull arenaFull numbersUsedUp bufferShort tooMany : Refusal
 
 -- the number of a refusal
 abbrev pub code : Refusal → ℕ
@@ -47,6 +55,7 @@ code tableFull = 4
 code arenaFull = 5
 code numbersUsedUp = 6
 code bufferShort = 7
+code tooMany = 8
 
 -- what a call comes to: a refusal, or an answer, the bytes for the front of the answer buffer, and the state after
 pub data Outcome : Type 0 where
@@ -64,7 +73,8 @@ unfoldable pub given : {X : Type 0} → Option X → Refusal → (X → Outcome)
 given none n k = refuse n
 given (some x) n k = k x
 
--- the answer buffer as it was lent; "calls without written output have no answer buffer"
+-- the answer buffer as it was lent; "calls without written output have no answer buffer"; E1: "its result buffer is compared like an answer
+-- buffer"
 abbrev pub lent : Call → Bytes
 lent (PUT t p d) = []
 lent (GET p b) = b
@@ -77,3 +87,4 @@ lent (PART u n d) = []
 lent (COMMIT u ns) = []
 lent (ABORT u) = []
 lent (UPLOADS prefix b) = b
+lent (DELETE-OBJECTS names ps over b) = b

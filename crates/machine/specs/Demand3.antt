@@ -12,7 +12,7 @@ use Rattle.machine.specs.Names.{Bytes}
 use Rattle.machine.specs.Digest.{md5}
 use Rattle.machine.specs.Etags.{joined}
 use Rattle.machine.specs.State.{Object, State, fresh}
-use Rattle.machine.specs.Calls.{Call, PUT, GET, HEAD, DELETE, COPY, LIST, INITIATE, PART, COMMIT, ABORT, UPLOADS, Answer, nothing, metadata, etag, number, counts, Reply}
+use Rattle.machine.specs.Calls.{Call, PUT, GET, HEAD, DELETE, COPY, LIST, INITIATE, PART, COMMIT, ABORT, UPLOADS, DELETE-OBJECTS, Answer, nothing, metadata, etag, number, counts, Reply}
 use Rattle.machine.specs.Fits.{member, distinct}
 use Rattle.machine.specs.Steps.{about, reply}
 use Rattle.machine.specs.Lists.{Trace, trace, final}
@@ -37,6 +37,7 @@ kind (PART u n d) = sends u n d
 kind (COMMIT u ns) = commits u
 kind (ABORT u) = other
 kind (UPLOADS prefix b) = other
+kind (DELETE-OBJECTS names ps over b) = other
 
 -- "A call is accepted when its result is 0."
 abbrev pub accepted : Reply → Bool

@@ -1,10 +1,10 @@
--- Document 01's steps: what each call answers and does, its checks in checking order. Assumes nothing.
-use Prim.Native.Nat.{ℕ}
+-- Document 01's steps and document 02's: what each call answers and does, its checks in checking order. Assumes nothing.
+use Prim.Native.Nat.{ℕ, _+_}
 use mathlib.Core.Bool.{Bool, _&&_}
 use mathlib.Core.List.{List, [], _∷_, _++_}
 use mathlib.Core.Option.{Option, none, some}
-use lib.Dec.{leb}
-use lib.ListN.{length, drop}
+use lib.Dec.{leb, eqb}
+use lib.ListN.{length, take, drop}
 use Rattle.number.specs.Number.{le}
 use Rattle.order.specs.Order.{byBytes, begins, ends}
 use Rattle.machine.specs.Map.{Map, byNumber, lookup, remove, mapped, also, keep, records}
@@ -12,7 +12,17 @@ use Rattle.machine.specs.Names.{Bytes, requestPathOk, newPathOk, stampOk
 use Rattle.machine.specs.Digest.{md5}
 use Rattle.machine.specs.Etags.{absent, plain, joined, text}
 use Rattle.machine.specs.State.{Object, Part, Upload, State, fresh, withObject, withoutObject, withUpload, withoutUpload, withNext, withPart, held, counted}
-use Rattle.machine.specs.Calls.{Call, PUT, GET, HEAD, DELETE, COPY, LIST, INITIATE, PART, COMMIT, ABORT, UPLOADS, Answer, nothing, metadata, etag, number, counts, Reply, badRequest, notFound, tableFull, arenaFull, numbersUsedUp, bufferShort, code, Outcome, refuse, accept, _else_then_, given, lent}
+use Rattle.machine.specs.Calls.{Call, PUT, GET, HEAD, DELETE, COPY, LIST, INITIATE, PART, COMMIT, ABORT, UPLOADS, DELETE-OBJECTS, NamePlace, Answer, nothing, metadata, etag, number, counts, Reply, badRequest, notFound, tableFull, arenaFull, numbersUsedUp, bufferShort, tooMany, code, Outcome, refuse, accept, _else_then_, given, lent}
+
+-- "Bytes of the answer buffer past those written do not change"; a refusal answers nothing but its number; "Success is 0."
+abbrev pub replyOf : (buffer : Bytes) → Outcome → Reply
+replyOf b (refuse n) = record { result = code n; answer = nothing; buffer = b }
+replyOf b (accept a out s) = record { result = 0; answer = a; buffer = out ++ drop (length out) b }
+
+-- "where a call is refused, it .. keeps O, U and N"
+abbrev pub after : State → Outcome → State
+after s (refuse n) = s
+after s (accept a out s′) = s′
 
 -- "(data, stamp, plain etag)"
 abbrev pub plainObject : (stamp : ℕ) (content : Bytes) → Object
@@ -43,6 +53,29 @@ about x = metadata (length (x .content)) (x .created) (x .etag)
 -- "the bytes to write by GET, LIST or UPLOADS exceed the answer buffer", or go to its front
 abbrev pub write : Answer → (out buffer : Bytes) → State → Outcome
 write a out b s = leb (length out) (length b) else bufferShort then accept a out s
+
+-- DELETE's step: "removes it from O"
+unfoldable pub deleteAt : State → (path : Bytes) → Outcome
+deleteAt s p =
+    requestPathOk p else badRequest then
+    given (lookup byBytes p (s .O)) notFound λ x.
+    accept nothing [] (withoutObject s p)
+
+-- E1, the DELETE of one place: "A place outside the name buffer has result 2"
+unfoldable pub deletePlace : State → (names : Bytes) → NamePlace → Outcome
+deletePlace s names p =
+    leb (p .start + p .length) (length names) else badRequest then
+    deleteAt s (take (p .length) (drop (p .start) names))
+
+-- E1: "One result number per place, a byte each": each place's, over the state that the places before it leave
+abbrev pub placeResults : State → (names : Bytes) → List NamePlace → Bytes
+placeResults s names [] = []
+placeResults s names (p ∷ ps) = let o = deletePlace s names p in replyOf [] o .result ∷ placeResults (after s o) names ps
+
+-- E1: "the store ends as that many DELETE calls in that sequence would leave it"
+abbrev pub afterPlaces : State → (names : Bytes) → List NamePlace → State
+afterPlaces s names [] = s
+afterPlaces s names (p ∷ ps) = afterPlaces (after s (deletePlace s names p)) names ps
 
 -- "the list must name every part of the upload exactly one time": the parts in listed order, each picked out of those that remain
 abbrev pub fit : (numbers : List ℕ) → Map ℕ Part → Option (List Part)
@@ -88,10 +121,7 @@ unfoldable pub act : (A : ℕ) → State → Call → Outcome
 act A s (PUT t p d) = stampOk t && newPathOk p else badRequest then putAt A s t p d
 act A s (GET p b) = objectAt s p (λ x. write (about x) (x .content) b s)
 act A s (HEAD p) = objectAt s p (λ x. accept (about x) [] s)
-act A s (DELETE p) =
-    requestPathOk p else badRequest then
-    given (lookup byBytes p (s .O)) notFound λ x.
-    accept nothing [] (withoutObject s p)
+act A s (DELETE p) = deleteAt s p
 act A s (COPY t p q) =
     stampOk t && requestPathOk p && newPathOk q else badRequest then
     given (lookup byBytes p (s .O)) notFound λ x.
@@ -126,20 +156,16 @@ act A s (UPLOADS prefix b) =
     let l = openUnder prefix (s .U) in
     let out = records uploadRecord l in
     write (counts (length l) (length out)) out b s
+-- E1: "A list over 1,000 is refused by 8, right after 1"; "bytes left over give 2"; "a result buffer shorter than the list by 7"
+act A s (DELETE-OBJECTS names ps over b) =
+    leb (length ps) 1000 else tooMany then
+    eqb over 0 else badRequest then
+    leb (length ps) (length b) else bufferShort then
+    accept nothing (placeResults s names ps) (afterPlaces s names ps)
 
 -- FRESH over an arena of length A: "Bad request: .. FRESH got an arena over 1,048,576"
 unfoldable pub FRESH : (A : ℕ) → Outcome
 FRESH A = leb A 1048576 else badRequest then accept nothing [] fresh
-
--- "Bytes of the answer buffer past those written do not change"; a refusal answers nothing but its number; "Success is 0."
-abbrev pub replyOf : (buffer : Bytes) → Outcome → Reply
-replyOf b (refuse n) = record { result = code n; answer = nothing; buffer = b }
-replyOf b (accept a out s) = record { result = 0; answer = a; buffer = out ++ drop (length out) b }
-
--- "where a call is refused, it .. keeps O, U and N"
-abbrev pub after : State → Outcome → State
-after s (refuse n) = s
-after s (accept a out s′) = s′
 
 -- what a call answers, and the state it leaves
 abbrev pub reply : (A : ℕ) → State → Call → Reply

@@ -6,7 +6,7 @@ use lib.ListN.{take, drop}
 use Rattle.number.specs.Number.{fromLe}
 use Rattle.machine.specs.Names.{Bytes}
 use Rattle.machine.specs.Etags.{Etag, absent, plain, joined}
-use Rattle.machine.specs.Calls.{Call, PUT, GET, HEAD, DELETE, COPY, LIST, INITIATE, PART, COMMIT, ABORT, UPLOADS, Answer, nothing, metadata, etag, number, counts}
+use Rattle.machine.specs.Calls.{Call, PUT, GET, HEAD, DELETE, COPY, LIST, INITIATE, PART, COMMIT, ABORT, UPLOADS, DELETE-OBJECTS, Answer, nothing, metadata, etag, number, counts}
 
 -- the number of so many bytes at an offset, low byte first
 abbrev pub numberAt : (offset width : ℕ) → Bytes → ℕ
@@ -45,3 +45,4 @@ answerIn (PART u n d) o = etag (etagIn o)
 answerIn (COMMIT u ns) o = nothing
 answerIn (ABORT u) o = nothing
 answerIn (UPLOADS prefix b) o = countsIn o
+answerIn (DELETE-OBJECTS names ps over b) o = nothing

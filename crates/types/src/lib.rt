@@ -30,7 +30,13 @@ pub struct Counts {
     pub bytes: u32,
 }
 
-// The refusals' numbers, in checking order.
+// Where a name stands in a buffer of names: its first byte, from 0, and how many bytes it has.
+pub struct Place {
+    pub start: u32,
+    pub len: u32,
+}
+
+// The refusals' numbers. They are in checking order, but for the last, which comes right after the first.
 pub const NOT_A_STORE: u8 = 1;
 
 pub const BAD_REQUEST: u8 = 2;
@@ -45,7 +51,9 @@ pub const NUMBERS_USED_UP: u8 = 6;
 
 pub const BUFFER_SHORT: u8 = 7;
 
-// PUT, DELETE, COPY, COMMIT and ABORT. A refusal has its number, here and below.
+pub const TOO_MANY: u8 = 8;
+
+// PUT, DELETE, COPY, COMMIT, ABORT and DELETE_OBJECTS. A refusal has its number, here and below.
 pub enum DoneAnswer {
     Refused(u8),
     Done,

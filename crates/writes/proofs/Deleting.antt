@@ -8,7 +8,7 @@ use Rattle.machine.specs.Map.{isSome, lookup}
 use Rattle.machine.specs.Names.{Bytes, requestPathOk}
 use Rattle.machine.specs.State.{Object, State, withoutObject}
 use Rattle.machine.specs.Calls.{DELETE, nothing, Outcome, accept, badRequest, notFound, given}
-use Rattle.machine.specs.Steps.{act}
+use Rattle.machine.specs.Steps.{deleteAt, act}
 use Rattle.find.specs.declared.Place.{Place}
 use Rattle.find.specs.Places.{objectPlace}
 use Rattle.find.proofs.Found.{is-some, is-none}
@@ -26,12 +26,12 @@ module _ (m : Memory) (p : Bytes) where
   removal = given (lookup byBytes p (s .O)) notFound (λ x. accept nothing [] (withoutObject s p))
 
   pub delete-bad : requestPathOk p ≡ false → 2 ≡ resultOf (outcome (DELETE p) m)
-  unfolding outcome act
+  unfolding outcome act deleteAt
   delete-bad e = sym (result-stop (requestPathOk p) badRequest removal e)
 
   module _ (ok : requestPathOk p ≡ true) (place : Place) (place-is : place ≡ objectPlace s p) where
     checked : resultOf (outcome (DELETE p) m) ≡ resultOf removal
-    unfolding outcome act
+    unfolding outcome act deleteAt
     checked = result-pass (requestPathOk p) badRequest removal ok
 
     pub delete-absent : place .found ≡ false → 3 ≡ resultOf (outcome (DELETE p) m)
@@ -45,7 +45,7 @@ module _ (m : Memory) (p : Bytes) where
   -- result 0
   module _ (zero-result : resultOf (outcome (DELETE p) m) ≡ 0) where
     path-ok : (requestPathOk p ≡ true) × (outcome (DELETE p) m ≡ removal)
-    unfolding outcome act
+    unfolding outcome act deleteAt
     path-ok = passed (requestPathOk p) badRequest removal zero-result
 
     there : (x : Object) × (lookup byBytes p (s .O) ≡ some x) × (removal ≡ accept nothing [] (withoutObject s p))

@@ -1,0 +1,88 @@
+-- DELETE_OBJECTS does what its single DELETE calls do, from any state and amid any list.
+-- Assumes nothing.
+use Prim.Native.Nat.{ℕ, suc, _+_}
+use mathlib.Core.Path.{_≡_, refl, sym, ap, ap₂, _∙_}
+use mathlib.Core.Bool.{Bool, true, false, cond, false≢true}
+use mathlib.Core.List.{List, [], _∷_, _++_}
+use lib.Dec.{leb}
+use lib.ListN.{length, drop}
+use Rattle.machine.specs.Names.{Bytes, pathOk, requestPathOk}
+use Rattle.machine.specs.State.{State, fresh}
+use Rattle.machine.specs.Calls.{Call, DELETE, DELETE-OBJECTS, NamePlace, nothing, badRequest, bufferShort, tooMany, accept, Outcome, _else_then_}
+use Rattle.machine.specs.Steps.{deleteAt, deletePlace, placeResults, afterPlaces, act, replyOf, after, reply, next}
+use Rattle.machine.specs.Lists.{Trace, trace, final}
+use Rattle.machine.specs.Demand3.{accepted}
+use Rattle.machine.specs.DeleteObjects.{nameAt, singleDeletes, resultsOf, AsDeletes, AmidAnyList}
+use Rattle.machine.proofs.Places.{placed}
+use Rattle.machine.proofs.Traces.{final-append, trace-append, calls-trace}
+
+-- a place is deleted as its DELETE call does
+pub place-is : (A : ℕ) (s : State) (names : Bytes) (p : NamePlace) → deletePlace s names p ≡ act A s (DELETE (nameAt names p))
+unfolding deletePlace deleteAt act _else_then_ pathOk requestPathOk
+place-is A s names p = go (leb (p .start + p .length) (length names))
+  where
+    go : (b : Bool) → (b else badRequest then deleteAt s (placed names p)) ≡ deleteAt s (cond b (placed names p) [])
+    go true = refl
+    go false = refl
+
+module _ (A : ℕ) (names : Bytes) where
+  places-final : (s : State) (ps : List NamePlace) → afterPlaces s names ps ≡ final A s (singleDeletes names ps)
+  places-final s [] = refl
+  places-final s (p ∷ ps) =
+      places-final (after s (deletePlace s names p)) ps
+      ∙ ap (λ (o : Outcome). final A (after s o) (singleDeletes names ps)) (place-is A s names p)
+
+  places-trace : (s : State) (ps : List NamePlace) → placeResults s names ps ≡ resultsOf (trace A s (singleDeletes names ps))
+  places-trace s [] = refl
+  places-trace s (p ∷ ps) =
+      ap₂ (λ (n : ℕ) (l : List ℕ). n ∷ l) (ap (λ (o : Outcome). replyOf [] o .result) (place-is A s names p))
+      (places-trace (after s (deletePlace s names p)) ps
+      ∙ ap (λ (o : Outcome). resultsOf (trace A (after s o) (singleDeletes names ps))) (place-is A s names p))
+
+  length-results : (s : State) (ps : List NamePlace) → length (placeResults s names ps) ≡ length ps
+  length-results s [] = refl
+  length-results s (p ∷ ps) = ap suc (length-results (after s (deletePlace s names p)) ps)
+
+-- the call's checks, one after the other: accepted, it leaves s′ and writes `out`; refused, it changes nothing
+checked : (s s′ : State) (b out : Bytes) (few whole room : Bool) →
+    let o : Outcome = few else tooMany then whole else badRequest then room else bufferShort then accept nothing out s′ in
+    (accepted (replyOf b o) ≡ true → (after s o ≡ s′) × (replyOf b o ≡ record { result = 0; answer = nothing; buffer = out ++ drop (length out) b }))
+    × (accepted (replyOf b o) ≡ false → (after s o ≡ s) × (replyOf b o .buffer ≡ b))
+unfolding _else_then_
+checked s s′ b out true true true = (λ _. (refl, refl), λ h. absurd (false≢true (sym h)))
+checked s s′ b out true true false = (λ h. absurd (false≢true h), λ _. (refl, refl))
+checked s s′ b out true false room = (λ h. absurd (false≢true h), λ _. (refl, refl))
+checked s s′ b out false whole room = (λ h. absurd (false≢true h), λ _. (refl, refl))
+
+module _ (A : ℕ) (s : State) (names : Bytes) (ps : List NamePlace) (over : ℕ) (b : Bytes) where
+  pub as-deletes : AsDeletes A s names ps over b
+  unfolding act
+  as-deletes =
+      let h = checked s (afterPlaces s names ps) b (placeResults s names ps) _ _ _ in
+      record {
+        state = λ a. h .0 a .0 ∙ places-final A names s ps;
+        replies = λ a. h .0 a .1 ∙ rw (length-results A names s ps, places-trace A names s ps);
+        refused = h .1;
+      }
+
+-- Amid any list --------------------------------------------------------------------------------------------------------
+
+pub amid-any-list : (A : ℕ) (before : List Call) (names : Bytes) (ps : List NamePlace) (over : ℕ) (b : Bytes) (later : List Call) →
+    accepted (reply A (final A fresh before) (DELETE-OBJECTS names ps over b)) ≡ true → AmidAnyList A before names ps over b later
+amid-any-list A before names ps over b later h =
+    let there : State = final A fresh before in
+    let ds : List Call = singleDeletes names ps in
+    let is = as-deletes A there names ps over b .state h in
+    record {
+      state = final-append A fresh before (DELETE-OBJECTS names ps over b ∷ later) ∙ ap (λ (z : State). final A z later) is
+          ∙ sym (final-append A fresh before (ds ++ later) ∙ final-append A there ds later);
+      first = trace A fresh before;
+      last = trace A (next A there (DELETE-OBJECTS names ps over b)) later;
+      with-call = (reply A there (DELETE-OBJECTS names ps over b), trace-append A fresh before (DELETE-OBJECTS names ps over b ∷ later));
+      with-deletes = (
+        trace A there ds,
+        calls-trace A there ds,
+        trace-append A fresh before (ds ++ later)
+            ∙ ap (λ (t : Trace). trace A fresh before ++ t) (trace-append A there ds later ∙ ap (λ (z : State). trace A there ds ++ trace A z later) (sym is)),
+      );
+    }

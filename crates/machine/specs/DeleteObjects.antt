@@ -1,0 +1,46 @@
+-- Document 02, E1: DELETE_OBJECTS beside its single DELETE calls. Assumes nothing.
+use Prim.Native.Nat.{ℕ, _+_}
+use mathlib.Core.Path.{_≡_}
+use mathlib.Core.Bool.{true, false, cond}
+use mathlib.Core.List.{List, [], _∷_, _++_, map}
+use lib.Dec.{leb}
+use lib.ListN.{length, take, drop}
+use Rattle.machine.specs.Names.{Bytes}
+use Rattle.machine.specs.State.{State, fresh}
+use Rattle.machine.specs.Calls.{Call, DELETE, DELETE-OBJECTS, NamePlace, nothing, Reply}
+use Rattle.machine.specs.Steps.{reply, next}
+use Rattle.machine.specs.Lists.{Trace, trace, final}
+use Rattle.machine.specs.Demand3.{accepted, calls}
+
+-- the path of a place: the name that is there; "A place outside the name buffer has result 2", as DELETE of the empty path has
+abbrev pub nameAt : (names : Bytes) → NamePlace → Bytes
+nameAt names p = cond (leb (p .start + p .length) (length names)) (take (p .length) (drop (p .start) names)) []
+
+-- "its single deletes": "that many DELETE calls in that sequence"
+abbrev pub singleDeletes : (names : Bytes) → List NamePlace → List Call
+singleDeletes names ps = map (λ (p : NamePlace). DELETE (nameAt names p)) ps
+
+-- the result numbers of a trace
+abbrev pub resultsOf : Trace → Bytes
+resultsOf t = map (λ (e : Call × Reply). e .1 .result) t
+
+-- DELETE_OBJECTS from any state, beside its single deletes.
+pub record AsDeletes (A : ℕ) (s : State) (names : Bytes) (ps : List NamePlace) (over : ℕ) (results : Bytes) : Type 0 where
+  -- "accepted, it is to the machine its single deletes"
+  pub state : accepted (reply A s (DELETE-OBJECTS names ps over results)) ≡ true → next A s (DELETE-OBJECTS names ps over results) ≡ final A s (singleDeletes names ps)
+  -- "One result number per place, a byte each, goes into a lent buffer"; bytes past them do not change
+  pub replies : accepted (reply A s (DELETE-OBJECTS names ps over results)) ≡ true → reply A s (DELETE-OBJECTS names ps over results)
+      ≡ record { result = 0; answer = nothing; buffer = resultsOf (trace A s (singleDeletes names ps)) ++ drop (length ps) results }
+  -- "refused, it changes nothing"
+  pub refused : accepted (reply A s (DELETE-OBJECTS names ps over results)) ≡ false →
+      (next A s (DELETE-OBJECTS names ps over results) ≡ s) × (reply A s (DELETE-OBJECTS names ps over results) .buffer ≡ results)
+
+-- "The lists of calls that demand 3 speaks of now include this call": where it is accepted amid a list, the list with its single deletes in its
+-- place ends in the same state, and every other call of the two answers the same.
+pub record AmidAnyList (A : ℕ) (before : List Call) (names : Bytes) (ps : List NamePlace) (over : ℕ) (results : Bytes) (later : List Call) : Type 0 where
+  pub state : final A fresh (before ++ DELETE-OBJECTS names ps over results ∷ later) ≡ final A fresh (before ++ (singleDeletes names ps ++ later))
+  -- the replies of the calls before it and after it
+  pub first : Trace
+  pub last : Trace
+  pub with-call : (r : Reply) × (trace A fresh (before ++ DELETE-OBJECTS names ps over results ∷ later) ≡ first ++ (DELETE-OBJECTS names ps over results, r) ∷ last)
+  pub with-deletes : (t : Trace) × (calls t ≡ singleDeletes names ps) × (trace A fresh (before ++ (singleDeletes names ps ++ later)) ≡ first ++ (t ++ last))

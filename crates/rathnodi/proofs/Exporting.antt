@@ -16,16 +16,21 @@ use Rattle.types.specs.declared.ListAnswer.{ListAnswer}
 use Rattle.types.specs.declared.ListAnswer.the-variants as list
 use Rattle.machine.specs.Names.{Bytes}
 use Rattle.machine.specs.Calls.{Call, Reply, lent}
-use Rattle.contract.specs.Answers.{doneReply, getReply, partReply, initiateReply, listReply}
+use Rattle.contract.specs.Answers.{doneReply, resultsReply, getReply, partReply, initiateReply, listReply}
 use Rattle.contract.specs.Made.{Memory, meantReply, Made}
 use Rattle.reply.specs.Reply.{replyOver}
-use Rattle.rathnodi.specs.Exported.{numbered, answerWith, replyAfter, Exported}
+use Rattle.rathnodi.specs.Exported.{numbered, numberedWith, answerWith, replyAfter, Exported}
 use Rattle.rathnodi.proofs.Telling.{Telling, meant-over}
 
 -- a call that answers its number alone
 pub numbered-made : (k : Call) (m m′ : Memory) (a : DoneAnswer) (n : ℕ) → Made k m (doneReply a) m′ → n ≡ doneReply a .result → Made k m (numbered n) m′
 numbered-made k m m′ (done.Refused x) n made e = rw e made
 numbered-made k m m′ done.Done n made e = rw e made
+
+-- a call that answers its number and fills a result buffer
+pub results-made : (k : Call) (m m′ : Memory) (a : DoneAnswer) (n : ℕ) (b : Bytes) → Made k m (resultsReply a b) m′ → n ≡ doneReply a .result → Made k m (numberedWith n b) m′
+results-made k m m′ (done.Refused x) n b made e = rw e made
+results-made k m m′ done.Done n b made e = rw e made
 
 -- a reply slice of another length
 pub another-length : (k : Call) (m : Memory) (o : Bytes) → (length o ≡ 48 → ⊥) → Exported k m o 1 (lent k) o m

@@ -15,6 +15,10 @@ use Rattle.reply.specs.Reply.{replyLength, replyBytes}
 abbrev pub numbered : ℕ → Reply
 numbered n = record { result = n; answer = nothing; buffer = [] }
 
+-- the same of a call with a result buffer, which then holds b
+abbrev pub numberedWith : ℕ → (b : Bytes) → Reply
+numberedWith n b = record { result = n; answer = nothing; buffer = b }
+
 -- a call with a reply slice that holds o: "another length there gives 1", before all else; with 48 bytes, what the call answers
 unfoldable pub answerWith : Call → Memory → (o : Bytes) → Reply
 answerWith k m o = cond (eqb (length o) replyLength) (meantReply k m) (refused 1 (lent k))

@@ -2,9 +2,10 @@
 use crate::REPLY_LEN;
 use types::Stamp;
 ghost use mathlib.Core.List.{[]};
-ghost use Rattle.machine.specs.Calls.{PUT, GET, HEAD, DELETE, COPY, LIST};
+ghost use Rattle.machine.specs.Calls.{PUT, GET, HEAD, DELETE, COPY, LIST, DELETE-OBJECTS};
+ghost use Rattle.contract.specs.Answers.{placesIn, leftOver};
 ghost use Rattle.contract.specs.Made.{memory, Made};
-ghost use Rattle.rathnodi.specs.Exported.{numbered, Exported};
+ghost use Rattle.rathnodi.specs.Exported.{numbered, numberedWith, Exported};
 
 // PUT: the object at path becomes the content, with this stamp.
 #[no_mangle]
@@ -76,6 +77,25 @@ pub extern "C" fn rathnodi_delete(tables: &mut [u8], arena: &mut [u8], path: &[u
 {
     let deleted = store::delete(tables, arena, path);
     reply::done(deleted)
+}
+
+// DELETE_OBJECTS: the object at each place of `names` is taken out, in the order of the places, each two 32-bit numbers, start and
+// length; each place's result to the front of the result buffer.
+#[no_mangle]
+pub extern "C" fn rathnodi_delete_objects(
+    tables: &mut [u8],
+    arena: &mut [u8],
+    names: &[u8],
+    places: &[u8],
+    results: &mut [u8],
+) -> u32
+    ensures { λ r. ⌜ Made (DELETE-OBJECTS (now (names .entry)) (placesIn (now (places .entry))) (leftOver (now (places .entry))) (now (results .entry)))
+        (memory (now (tables .entry)) (now (arena .entry)))
+        (numberedWith r (now (results .exit)))
+        (memory (now (tables .exit)) (now (arena .exit))) ⌝ }
+{
+    let answer = store::delete_packed(tables, arena, names, places, results);
+    reply::done(answer)
 }
 
 // COPY: as a PUT of the source's data at the destination.

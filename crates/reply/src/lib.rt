@@ -13,7 +13,7 @@ ghost use lib.ListN.{length};
 ghost use Rattle.contract.specs.Answers.{doneReply, getReply, partReply, initiateReply, listReply};
 ghost use Rattle.reply.specs.Reply.{replyOver};
 
-// PUT, DELETE, COPY, COMMIT and ABORT: the number alone.
+// PUT, DELETE, COPY, COMMIT, ABORT and DELETE_OBJECTS: the number alone.
 pub fn done(a: DoneAnswer) -> u32
     ensures { λ r. ⌜ r ≡ doneReply a .result ⌝ }
 {

@@ -1,0 +1,5 @@
+pub mod OnePlace
+pub mod Folding
+pub mod Judging
+pub mod Walking
+pub mod Packed

@@ -51,7 +51,7 @@ exported-told k m o n b o′ m′ h l x =
 -- one call before the rest of the list
 one-heard : (e : Event) (es : List Event) (m m₁ m₂ : Memory) → Sound m → Promised e m m₁ → Run (heard es) m₁ m₂ → Run (heard (e ∷ es)) m m₂
 unfolding Promised heard
-one-heard (alone k n) es m m₁ m₂ h made rest = runs.call made rest
+one-heard (alone k n b) es m m₁ m₂ h made rest = runs.call made rest
 one-heard (replied k o n b o′) es m m₁ m₂ h x rest = go (ℕ-discrete (length o) replyLength)
   where
     go : Dec (length o ≡ replyLength) → Run (heard (replied k o n b o′ ∷ es)) m m₂

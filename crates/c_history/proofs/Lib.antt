@@ -4,3 +4,4 @@ pub mod Sound
 pub mod Hearing
 pub mod Demand3
 pub mod Questions
+pub mod DeleteObjects

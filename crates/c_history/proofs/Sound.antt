@@ -9,13 +9,13 @@ use Rattle.layout.specs.Memory.{Stands}
 use Rattle.layout.proofs.WholeLaws.{whole-stands}
 use Rattle.contract.specs.Made.{Memory, wholeMemory, stateIn, meantReply, Made, MadeFresh}
 use Rattle.reply.specs.Reply.{replyLength}
-use Rattle.rathnodi.specs.Exported.{numbered, Exported}
+use Rattle.rathnodi.specs.Exported.{numberedWith, Exported}
 use Rattle.c_history.specs.Events.{Event, alone, replied}
-use Rattle.c_history.specs.Lists.{Step, put, get, head, delete, copy, list, initiate, part, commit, abort, uploads}
+use Rattle.c_history.specs.Lists.{Step, put, get, head, delete, copy, list, initiate, part, commit, abort, uploads, delete-objects}
 
 -- what the function that was called promised
 unfoldable pub Promised : Event → Memory → Memory → Type 0
-Promised (alone k n) m m′ = Made k m (numbered n) m′
+Promised (alone k n b) m m′ = Made k m (numberedWith n b) m′
 Promised (replied k o n b o′) m m′ = Exported k m o n b o′ m′
 
 pub promised : {e : Event} {m m′ : Memory} → Step e m m′ → Promised e m m′
@@ -31,6 +31,7 @@ promised (part h) = h
 promised (commit l h) = h
 promised (abort h) = h
 promised (uploads h) = h
+promised (delete-objects l h) = h
 
 -- memory that stands for a valid state where it is whole
 unfoldable pub Sound : Memory → Type 0
@@ -56,7 +57,7 @@ made-sound k m r m′ h made = go (ℕ-discrete (r .result) 0)
 
 pub promised-sound : (e : Event) (m m′ : Memory) → Sound m → Promised e m m′ → Sound m′
 unfolding Promised
-promised-sound (alone k n) m m′ h made = made-sound k m (numbered n) m′ h made
+promised-sound (alone k n b) m m′ h made = made-sound k m (numberedWith n b) m′ h made
 promised-sound (replied k o n b o′) m m′ h x = go (ℕ-discrete (length o) replyLength)
   where
     go : Dec (length o ≡ replyLength) → Sound m′

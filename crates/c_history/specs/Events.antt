@@ -9,12 +9,12 @@ use Rattle.machine.specs.Calls.{Call, Reply, nothing}
 use Rattle.machine.specs.Lists.{Trace}
 use Rattle.reply.specs.Reply.{replyLength}
 use Rattle.reply.specs.ReadBack.{answerIn}
-use Rattle.rathnodi.specs.Exported.{numbered}
+use Rattle.rathnodi.specs.Exported.{numberedWith}
 
 -- One call. Its arguments, and the bytes of its answer buffer before, are those of the machine's call.
 pub data Event : Type 0 where
-  -- without a reply slice: the number returned
-  alone : (call : Call) (number : ℕ) → Event
+  -- without a reply slice: the number returned, and the answer buffer after the call, of no bytes where it has none
+  alone : (call : Call) (number : ℕ) (buffer : Bytes) → Event
   -- with one that held `before`: the number returned, then the answer buffer and the reply slice after the call
   replied : (call : Call) (before : Bytes) (number : ℕ) (buffer after : Bytes) → Event
 
@@ -25,5 +25,5 @@ told k n b o = record { result = n; answer = cond (eqb n 0) (answerIn k o) nothi
 -- what C hears of a list of calls, as a trace of the machine; a call with a reply of another length adds nothing
 unfoldable pub heard : List Event → Trace
 heard [] = []
-heard (alone k n ∷ es) = (k, numbered n) ∷ heard es
+heard (alone k n b ∷ es) = (k, numberedWith n b) ∷ heard es
 heard (replied k o n b o′ ∷ es) = cond (eqb (length o) replyLength) ((k, told k n b o′) ∷ heard es) (heard es)

@@ -4,25 +4,27 @@ use mathlib.Core.Path.{_≡_}
 use mathlib.Core.List.{List, [], _∷_}
 use lib.ListN.{length}
 use Rattle.machine.specs.Names.{Bytes}
-use Rattle.machine.specs.Calls.{PUT, GET, HEAD, DELETE, COPY, LIST, INITIATE, PART, COMMIT, ABORT, UPLOADS}
-use Rattle.contract.specs.Answers.{partList}
+use Rattle.machine.specs.Calls.{PUT, GET, HEAD, DELETE, COPY, LIST, INITIATE, PART, COMMIT, ABORT, UPLOADS, DELETE-OBJECTS}
+use Rattle.contract.specs.Answers.{partList, placesIn, leftOver}
 use Rattle.contract.specs.Made.{Memory, Made, MadeFresh}
-use Rattle.rathnodi.specs.Exported.{numbered, Exported}
+use Rattle.rathnodi.specs.Exported.{numbered, numberedWith, Exported}
 use Rattle.c_history.specs.Events.{Event, alone, replied}
 
 -- One exported function called, from one memory to another. Each line is what the function of that name ensures (crates/rathnodi/src).
 pub data Step : Event → Memory → Memory → Type 0 where
-  put : {t n : ℕ} {p d : Bytes} {m m′ : Memory} → Made (PUT t p d) m (numbered n) m′ → Step (alone (PUT t p d) n) m m′
+  put : {t n : ℕ} {p d : Bytes} {m m′ : Memory} → Made (PUT t p d) m (numbered n) m′ → Step (alone (PUT t p d) n []) m m′
   get : {n : ℕ} {p b o b′ o′ : Bytes} {m : Memory} → Exported (GET p b) m o n b′ o′ m → Step (replied (GET p b) o n b′ o′) m m
   head : {n : ℕ} {p o o′ : Bytes} {m : Memory} → Exported (HEAD p) m o n [] o′ m → Step (replied (HEAD p) o n [] o′) m m
-  delete : {n : ℕ} {p : Bytes} {m m′ : Memory} → Made (DELETE p) m (numbered n) m′ → Step (alone (DELETE p) n) m m′
-  copy : {t n : ℕ} {p q : Bytes} {m m′ : Memory} → Made (COPY t p q) m (numbered n) m′ → Step (alone (COPY t p q) n) m m′
+  delete : {n : ℕ} {p : Bytes} {m m′ : Memory} → Made (DELETE p) m (numbered n) m′ → Step (alone (DELETE p) n []) m m′
+  copy : {t n : ℕ} {p q : Bytes} {m m′ : Memory} → Made (COPY t p q) m (numbered n) m′ → Step (alone (COPY t p q) n []) m m′
   list : {n : ℕ} {p q b o b′ o′ : Bytes} {m : Memory} → Exported (LIST p q b) m o n b′ o′ m → Step (replied (LIST p q b) o n b′ o′) m m
   initiate : {t n : ℕ} {p o o′ : Bytes} {m m′ : Memory} → Exported (INITIATE t p) m o n [] o′ m′ → Step (replied (INITIATE t p) o n [] o′) m m′
   part : {u i n : ℕ} {d o o′ : Bytes} {m m′ : Memory} → Exported (PART u i d) m o n [] o′ m′ → Step (replied (PART u i d) o n [] o′) m m′
-  commit : {u n : ℕ} {m m′ : Memory} (l : Bytes) → Made (COMMIT u (partList l)) m (numbered n) m′ → Step (alone (COMMIT u (partList l)) n) m m′
-  abort : {u n : ℕ} {m m′ : Memory} → Made (ABORT u) m (numbered n) m′ → Step (alone (ABORT u) n) m m′
+  commit : {u n : ℕ} {m m′ : Memory} (l : Bytes) → Made (COMMIT u (partList l)) m (numbered n) m′ → Step (alone (COMMIT u (partList l)) n []) m m′
+  abort : {u n : ℕ} {m m′ : Memory} → Made (ABORT u) m (numbered n) m′ → Step (alone (ABORT u) n []) m m′
   uploads : {n : ℕ} {p b o b′ o′ : Bytes} {m : Memory} → Exported (UPLOADS p b) m o n b′ o′ m → Step (replied (UPLOADS p b) o n b′ o′) m m
+  delete-objects : {n : ℕ} {names b b′ : Bytes} {m m′ : Memory} (l : Bytes) → Made (DELETE-OBJECTS names (placesIn l) (leftOver l) b) m (numberedWith n b′) m′
+      → Step (alone (DELETE-OBJECTS names (placesIn l) (leftOver l) b) n b′) m m′
 
 -- calls made one after the other, each lent the memory that the one before left
 pub data CRun : List Event → Memory → Memory → Type 0 where

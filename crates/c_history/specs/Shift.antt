@@ -4,8 +4,8 @@ use mathlib.Core.Path.{_≡_}
 use mathlib.Core.List.{List, [], _∷_}
 use lib.ListN.{length}
 use Rattle.machine.specs.Names.{Bytes}
-use Rattle.machine.specs.Calls.{PUT, GET, HEAD, DELETE, COPY, LIST, INITIATE, PART, COMMIT, ABORT, UPLOADS}
-use Rattle.contract.specs.Answers.{partList}
+use Rattle.machine.specs.Calls.{PUT, GET, HEAD, DELETE, COPY, LIST, INITIATE, PART, COMMIT, ABORT, UPLOADS, DELETE-OBJECTS}
+use Rattle.contract.specs.Answers.{partList, placesIn, leftOver}
 use Rattle.contract.specs.Made.{Memory, freshResult}
 use Rattle.history.specs.Demand3.{Demand3}
 use Rattle.c_history.specs.declared.shift.Shelf.{Shelf}
@@ -17,13 +17,17 @@ use Rattle.c_history.specs.Events.{Event, alone, replied, heard}
 -- the calls on objects; each answer buffer and each reply before the calls, then after them
 unfoldable pub shelfEvents : (stamp : ℕ) (path content other : Bytes) → Shelf → (answer found about listing counts : Bytes) → (answer′ found′ about′ listing′ counts′ : Bytes) → List Event
 shelfEvents stamp path content other n answer found about listing counts answer′ found′ about′ listing′ counts′ =
-    alone (PUT stamp path content) (n .put)
+    alone (PUT stamp path content) (n .put) []
     ∷ replied (GET path answer) found (n .got) answer′ found′
     ∷ replied (HEAD path) about (n .head) [] about′
-    ∷ alone (COPY stamp path other) (n .copied)
+    ∷ alone (COPY stamp path other) (n .copied) []
     ∷ replied (LIST path other listing) counts (n .listed) listing′ counts′
-    ∷ alone (DELETE path) (n .deleted)
+    ∷ alone (DELETE path) (n .deleted) []
     ∷ []
+
+-- DELETE_OBJECTS, with the result buffer before it and after it
+unfoldable pub clearEvents : (names places : Bytes) (n : ℕ) (results results′ : Bytes) → List Event
+clearEvents names places n results results′ = alone (DELETE-OBJECTS names (placesIn places) (leftOver places) results) n results′ ∷ []
 
 -- the calls on an upload, with its number 1 and its part 1
 unfoldable pub weighEvents : (stamp : ℕ) (path content list : Bytes) → Weighed → (opened sent answer counts : Bytes) → (opened′ sent′ answer′ counts′ : Bytes) → List Event
@@ -31,8 +35,8 @@ weighEvents stamp path content list n opened sent answer counts opened′ sent�
     replied (INITIATE stamp path) opened (n .opened) [] opened′
     ∷ replied (PART 1 1 content) sent (n .sent) [] sent′
     ∷ replied (UPLOADS path answer) counts (n .listed) answer′ counts′
-    ∷ alone (COMMIT 1 (partList list)) (n .committed)
-    ∷ alone (ABORT 1) (n .aborted)
+    ∷ alone (COMMIT 1 (partList list)) (n .committed) []
+    ∷ alone (ABORT 1) (n .aborted) []
     ∷ []
 
 -- FRESH refused by a number that is not 0, and nothing changed; or what C heard of the list is as demand 3 says

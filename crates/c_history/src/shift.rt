@@ -1,7 +1,7 @@
 // The exported functions, each called as C calls it.
 ghost use Rattle.contract.specs.Made.{memory};
 ghost use Rattle.c_history.specs.Lists.{CRun};
-ghost use Rattle.c_history.specs.Shift.{shelfEvents, weighEvents, Concluded};
+ghost use Rattle.c_history.specs.Shift.{shelfEvents, clearEvents, weighEvents, Concluded};
 
 // What the calls on objects returned.
 pub struct Shelf {
@@ -57,6 +57,22 @@ pub fn shelve(
         listed,
         deleted,
     }
+}
+
+// DELETE_OBJECTS.
+pub fn clear(
+    tables: &mut [u8],
+    arena: &mut [u8],
+    names: &[u8],
+    places: &[u8],
+    results: &mut [u8],
+) -> u32
+    ensures { λ r. ⌜ CRun
+        (clearEvents (now (names .entry)) (now (places .entry)) r (now (results .entry)) (now (results .exit)))
+        (memory (now (tables .entry)) (now (arena .entry)))
+        (memory (now (tables .exit)) (now (arena .exit))) ⌝ }
+{
+    rathnodi::objects::rathnodi_delete_objects(tables, arena, names, places, results)
 }
 
 // INITIATE, PART, UPLOADS, COMMIT, ABORT.

@@ -58,6 +58,20 @@ class Store:
         self.find(path)
         del self.objects[path]
 
+    def delete_objects(self, names, places, left_over, room):
+        need(len(places) <= 1000, 8)
+        need(not left_over, 2)
+        need(len(places) <= room, 7)
+        return bytes(self.result_of_delete(names, start, length) for start, length in places)
+
+    def result_of_delete(self, names, start, length):
+        try:
+            need(start + length <= len(names), 2)
+            self.delete(names[start:start + length])
+            return 0
+        except Refused as refusal:
+            return refusal.args[0]
+
     def initiate(self, stamp, path):
         need(stamp >= 1 and path_ok(path), 2)
         self.fit(self.objects, {**self.uploads, self.next: (path, stamp, {})})
@@ -132,17 +146,27 @@ def parts_of(text):
     return [0 if n == "+" else int(n) for n in text.split(",")] if text else []
 
 
+def places_of(text):
+    """A list of places, each a start and a length, and whether bytes are left over after them."""
+    places = []
+    for entry in text.removesuffix("+").removesuffix(",").split(",") if text.rstrip("+") else []:
+        places += [(0, 0)] * int(entry[1:]) if entry[0] == "*" else [tuple(map(int, entry.split(":")))]
+    return places, text.endswith("+")
+
+
 def answer(store, word, fields):
     """What is printed after the line, and the answer buffer (None for none), which starts as dots."""
     texts = [b"" if f == "~" else f.encode() for f in fields] + [b"", b"", b""]
     number = int(fields[0]) if fields and fields[0].isdigit() else 0
     if word in ("TABLES", "ARENA"):
         return "", store.memory()[word == "ARENA"][:number]
-    if word in ("GET", "LIST", "UPLOADS"):
+    if word in ("GET", "LIST", "UPLOADS", "DELETE_OBJECTS"):
         buffer = b"." * number
         try:
             if word == "GET":
                 data, said = metadata(store, texts[1])
+            elif word == "DELETE_OBJECTS":
+                data, said = store.delete_objects(texts[1], *places_of(texts[2].decode()), number), ""
             else:
                 records = list(store.listing(texts[1], texts[2]) if word == "LIST" else store.opened(texts[1]))
                 data = b"".join(records)
@@ -167,7 +191,7 @@ def answer(store, word, fields):
         return f": {refusal}", None
 
 
-WORDS = "TABLES ARENA HEAD GET LIST UPLOADS DELETE PUT COPY INITIATE PART COMMIT ABORT".split()
+WORDS = "TABLES ARENA HEAD GET LIST UPLOADS DELETE PUT COPY INITIATE PART COMMIT ABORT DELETE_OBJECTS".split()
 store = Store(0)
 for line in sys.stdin.read().splitlines():
     word, *fields = line.split(" ")
@@ -181,4 +205,4 @@ for line in sys.stdin.read().splitlines():
     said, buffer = answer(store, word, fields)
     print(line + said)
     if buffer is not None:
-        print("    " + (buffer.decode() if word == "GET" else " ".join(map(str, buffer))))
+        print("   " + (" " + buffer.decode() if word == "GET" else "".join(f" {byte}" for byte in buffer)))

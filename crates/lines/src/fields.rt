@@ -86,32 +86,69 @@ pub fn part_number(text: &[u8]) -> u16 {
     if 65535 < n { 65535 } else { n as u16 }
 }
 
-// An entry of a part list, at index n. `+` is one odd byte. Answers the index after it.
-fn put_entry(text: &[u8], out: &mut [u8], n: usize) -> usize
-    requires { ⌜ n + 2 ≤ length (now out) ⌝ }
-    ensures { λ r. ⌜ r ≤ n + 2 ⌝ }
+// A number of 32 bits; the last of them where it is more.
+fn word(text: &[u8]) -> u32 {
+    let n = decimal(text);
+    if 4294967295 < n { 4294967295 } else { n as u32 }
+}
+
+// So many, or `most` where it is more.
+fn at_most(n: u64, most: usize) -> usize
+    ensures { λ r. ⌜ r ≤ most ⌝ }
+{
+    if (most as u64) < n { most } else { n as usize }
+}
+
+// A place, its start and its length separated by a colon, at index n in eight bytes; or `*` and a count: so many places, as the bytes
+// of `out` say them. Answers the index after it.
+fn put_place(text: &[u8], out: &mut [u8], n: usize) -> usize
+    requires { ⌜ n + 8 ≤ length (now out) ⌝ }
+    ensures { λ r. ⌜ r ≤ length (now (out .entry)) ⌝ }
+{
+    let count = skip(text, 0, b'*');
+    if 0 < count {
+        let more = decimal(&text[count..]);
+        return n + 8 * at_most(more, (out.len() - n) / 8);
+    }
+    let end = find(text, 0, b':');
+    let rest = skip(text, end, b':');
+    let start = word(&text[0..end]);
+    let len = word(&text[rest..]);
+    number::put_u32(out, n, start);
+    number::put_u32(out, n + 4, len);
+    n + 8
+}
+
+// An entry of a list of places or of part numbers, at index n. `+` is one odd byte. Answers the index after it.
+fn put_entry(text: &[u8], out: &mut [u8], n: usize, places: bool) -> usize
+    requires { ⌜ n + 8 ≤ length (now out) ⌝ }
+    ensures { λ r. ⌜ r ≤ length (now (out .entry)) ⌝ }
 {
     if text.len() == 1 {
         if text[0] == b'+' {
             return n + 1;
         }
     }
+    if places {
+        return put_place(text, out, n);
+    }
     number::put_u16(out, n, part_number(text));
     n + 2
 }
 
-// Part numbers, separated by commas, as COMMIT takes them: 16-bit numbers, low byte first. Answers their bytes.
-pub fn part_list(list: &[u8], out: &mut [u8]) -> usize
+// A list, its entries separated by commas, in bytes: part numbers as COMMIT takes them, 16 bits each, or places as DELETE_OBJECTS takes
+// them from C, two numbers of 32 bits each; low byte first. Answers how many bytes it has.
+pub fn list_bytes(list: &[u8], places: bool, out: &mut [u8]) -> usize
     ensures { λ r. ⌜ Counts r (now (out .exit)) ⌝ }
 {
     let mut at = 0;
     let mut n: usize = 0;
     while at < list.len() {
-        if out.len() < n + 2 {
+        if out.len() < n + 8 {
             return n;
         }
         let end = find(list, at, b',');
-        n = put_entry(&list[at..end], out, n);
+        n = put_entry(&list[at..end], out, n, places);
         at = end + 1;
     }
     n

@@ -33,12 +33,14 @@ pub const COMMIT: usize = 12;
 
 pub const ABORT: usize = 13;
 
-pub const OTHER: usize = 14;
+pub const DELETE_OBJECTS: usize = 14;
+
+pub const OTHER: usize = 15;
 
 // Which of these words the line begins with. A line that begins with another is a comment.
 pub fn word_of(line: &[u8]) -> usize {
     let names =
-        b"TABLES ARENA HEAD GET LIST UPLOADS DELETE FRESH PUT COPY INITIATE PART COMMIT ABORT";
+        b"TABLES ARENA HEAD GET LIST UPLOADS DELETE FRESH PUT COPY INITIATE PART COMMIT ABORT DELETE_OBJECTS";
     let word = field(line, 0);
     for k in 0..OTHER {
         if order::equal(field(names, k), word) {

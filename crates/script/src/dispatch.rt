@@ -8,14 +8,15 @@ use lines::answers::print_result;
 use lines::answers::print_stored;
 use lines::answers::print_written;
 use lines::fields::field;
+use lines::fields::list_bytes;
 use lines::fields::number;
-use lines::fields::part_list;
 use lines::fields::part_number;
 use lines::words::ABORT;
 use lines::words::ARENA;
 use lines::words::COMMIT;
 use lines::words::COPY;
 use lines::words::DELETE;
+use lines::words::DELETE_OBJECTS;
 use lines::words::FRESH;
 use lines::words::GET;
 use lines::words::HEAD;
@@ -37,8 +38,8 @@ ghost use lib.ListN.{length};
 
 // COMMIT of the list that the text says, at most 32 numbers.
 fn commit(tables: &mut [u8], arena: &mut [u8], upload: u32, text: &[u8]) -> DoneAnswer {
-    let mut list = [0u8; 64];
-    let n = part_list(text, &mut list);
+    let mut list = [0u8; 70];
+    let n = list_bytes(text, false, &mut list);
     store::commit(tables, arena, UploadNumber(upload), &list[..n])
 }
 
@@ -160,12 +161,47 @@ fn done_call(tables: &mut [u8], arena: &mut [u8], word: usize, line: &[u8]) -> D
     }
 }
 
+// Room for 1,002 places, each 0:0. The contract spares the caller's proof the length of the list.
+fn places_room() -> [u8; 8016]
+    ensures { λ r. ⌜ length r ≡ 8016 ⌝ }
+{
+    [0u8; 8016]
+}
+
+// DELETE_OBJECTS of the places that the text says, and the result buffer after it.
+fn delete_and_show(
+    tables: &mut [u8],
+    arena: &mut [u8],
+    names: &[u8],
+    text: &[u8],
+    results: &mut [u8],
+) {
+    let mut places = places_room();
+    let n = list_bytes(text, true, &mut places);
+    print_done(store::delete_packed(tables, arena, names, &places[..n], results));
+    print_buffer(results, false);
+}
+
+// The same, over a result buffer as long as the line says.
+fn delete_objects(tables: &mut [u8], arena: &mut [u8], line: &[u8]) {
+    let mut space = dots();
+    let n = front_len(true, line, 0, &space);
+    delete_and_show(
+        tables,
+        arena,
+        field(line, 2),
+        field(line, 3),
+        &mut space[..n],
+    );
+}
+
 // The words that may change memory.
 fn changing_call(tables: &mut [u8], arena: &mut [u8], word: usize, line: &[u8]) {
     match word {
         FRESH => print_result(store::fresh(tables, arena)),
         INITIATE => print_opened(initiate(tables, arena, line)),
         PART => print_stored(part(tables, arena, line)),
+        DELETE_OBJECTS => delete_objects(tables, arena, line),
         _ => print_done(done_call(tables, arena, word, line)),
     }
 }
@@ -174,7 +210,7 @@ fn changing_call(tables: &mut [u8], arena: &mut [u8], word: usize, line: &[u8]) 
 pub(crate) fn run(tables: &mut [u8], arena: &mut [u8], word: usize, line: &[u8]) {
     if word <= UPLOADS {
         reading_call(tables, arena, word, line);
-    } else if word <= ABORT {
+    } else if word <= DELETE_OBJECTS {
         changing_call(tables, arena, word, line);
     }
 }

@@ -1,12 +1,13 @@
 // Makes the call that each line of standard input says, over tables and an arena of its own, and prints the line with what it answered.
-// The file stdin has document 01's cases; tools/script.py makes the file stdout of it, by a store of Python's own.
+// The file stdin has the cases of documents 01 and 02; tools/script.py makes the file stdout of it, by a store of Python's own.
 //
 // A line is a word and its fields, separated by one space; `~` is an empty field:
 //   FRESH arena, PUT stamp path data, COPY stamp source destination, DELETE path, HEAD path, GET buffer path, LIST buffer prefix suffix,
 //   INITIATE stamp path, PART upload number data, COMMIT upload numbers, ABORT upload, UPLOADS buffer prefix,
+//   DELETE_OBJECTS buffer names places,
 //   TABLES length and ARENA length, which print so many of the first bytes.
-// A part list's numbers are separated by commas, and `+` there is an odd byte. An arena has at most 4,096 bytes, a buffer at most 512; it
-// starts as dots. A line that begins with another word is a comment.
+// A list's entries are separated by commas, and `+` there is an odd byte; a place is start:length, and `*n` is n places 0:0. An arena has
+// at most 4,096 bytes, a buffer at most 512; it starts as dots. A line that begins with another word is a comment.
 mod dispatch;
 
 use libc::STDIN_FILENO;

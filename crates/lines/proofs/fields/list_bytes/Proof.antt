@@ -1,16 +1,16 @@
--- `lines::fields::part_list` meets its contract. The invariant: the place is at most one past the list, and the bytes fit. Assumes nothing.
+-- `lines::fields::list_bytes` meets its contract. The invariant: the place is at most one past the list, and the bytes fit. Assumes nothing.
 use lib.ListN.{length, length-take}
 use mathlib.Core.Path.{_≡_}
 use Prim.Native.Nat.{_-_, _≤_, _+_}
 use native.Mathlib.Omega.{arith}
-use Rattle.lines.proofs.fields.part_list.Statement.{statement}
-use Rattle.lines.proofs.fields.part_list.Tie as tie
+use Rattle.lines.proofs.fields.list_bytes.Statement.{statement}
+use Rattle.lines.proofs.fields.list_bytes.Tie as tie
 
 abbrev Inv-loop : tie.InvT-loop
-Inv-loop list out₀ at₀ n₀ out at n = (at ≤ length list + 1) × (n ≤ length out) × (length out ≡ length out₀)
+Inv-loop list places out₀ at₀ n₀ out at n = (at ≤ length list + 1) × (n ≤ length out) × (length out ≡ length out₀)
 
 abbrev μ-loop : tie.MeasureT-loop
-μ-loop list out₀ at₀ n₀ out at n = length list + 1 - at
+μ-loop list places out₀ at₀ n₀ out at n = length list + 1 - at
 
 loop-holds : tie.Need-loop-holds Inv-loop μ-loop
 loop-holds c = omega arith
@@ -54,8 +54,8 @@ same-length-2 c = omega arith
 returns-2 : tie.Need-returns-2 Inv-loop μ-loop
 returns-2 c = (omega arith, simp length-take (omega arith))
 
-pub part-list-spec : {M : Type 1} → statement M
-part-list-spec =
+pub list-bytes-spec : {M : Type 1} → statement M
+list-bytes-spec =
     tie.close
     (tie.spec
     Inv-loop

@@ -31,7 +31,7 @@ install: $(LIB)
 	install -m 644 $(LIB) "$(INTO)/lib/librathnodi.a"
 	sed 's|@PREFIX@|$(PREFIX)|; s|@VERSION@|$(VERSION)|' host/rathnodi.pc.in >"$(INTO)/lib/pkgconfig/rathnodi.pc"
 
-target/host/%: host/panel/%.c include/rathnodi.h $(LIB) target/host/built-by
+target/host/%: host/panel/%.c host/panel/check.h include/rathnodi.h $(LIB) target/host/built-by
 	@$(CC) $(HOST_CFLAGS) -o $@ $< $(LIB) $(HOST_LIBS)
 
 # The archive is made again where a crate or the kit has changed. It gets the time at which that began, so that a file saved

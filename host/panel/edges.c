@@ -3,9 +3,9 @@
  * After each refusal every lent byte is compared. The last line counts.
  */
 #include <inttypes.h>
-#include <stdio.h>
 #include <string.h>
 
+#include "check.h"
 #include "rathnodi.h"
 
 enum { ARENA_LEN = 64, ANSWER_LEN = 200, ROOM = 1024 };
@@ -27,18 +27,6 @@ static size_t tables_len = RATHNODI_TABLES_LEN, arena_len = ARENA_LEN, answer_le
 #define REPLY now.reply + 1, reply_len
 #define BYTES(text) (const uint8_t *)(text), sizeof(text) - 1
 #define FIELD(type, offset) (*(type *)memcpy(&(type){0}, now.reply + 1 + (offset), sizeof(type)))
-
-static int passed, failed;
-
-static void check(const char *what, int holds)
-{
-    if (holds) {
-        passed++;
-    } else {
-        failed++;
-        printf("FAILED: %s\n", what);
-    }
-}
 
 static void mark(void)
 {
@@ -336,6 +324,5 @@ int main(void)
     short_answers();
     replies();
     shared_arguments();
-    printf("edges: %d passed, %d failed\n", passed, failed);
-    return failed != 0;
+    return counted("edges");
 }

@@ -3,32 +3,21 @@
  * cut at every length and answers of any bytes, each right before a page that may not be touched. The last line counts.
  */
 #define _DEFAULT_SOURCE
-#include <stdio.h>
 #include <string.h>
 #include <sys/mman.h>
 #include <unistd.h>
 
+#include "check.h"
 #include "rathnodi.h"
 
 enum { ROOM = 4096 };
 
 static uint8_t tables[RATHNODI_TABLES_LEN], arena[64], answer[ROOM];
 static struct rathnodi_reply reply;
-static int passed, failed;
 
 #define STORE tables, sizeof tables, arena, sizeof arena
 #define REPLY (uint8_t *)&reply, sizeof reply
 #define BYTES(text) (const uint8_t *)(text), sizeof(text) - 1
-
-static void check(const char *what, int holds)
-{
-    if (holds) {
-        passed++;
-    } else {
-        failed++;
-        printf("FAILED: %s\n", what);
-    }
-}
 
 /* So many bytes, copied to where the last of them stands before a page that may not be touched. */
 static const uint8_t *before_guard(const uint8_t *bytes, size_t count)
@@ -170,6 +159,5 @@ int main(void)
     list_records();
     uploads_records();
     any_bytes();
-    printf("helpers: %d passed, %d failed\n", passed, failed);
-    return failed != 0;
+    return counted("helpers");
 }

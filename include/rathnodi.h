@@ -16,11 +16,12 @@
  *   reply, while no call that writes the store runs. Calls over different stores never disturb each other.
  * - A call over a store needs the tables and the arena as the call before left them, both with the lengths that
  *   rathnodi_fresh was lent. They may move in memory.
- * - Bad input is answered, never trusted: every argument and all of the lent memory is judged before a byte is written.
- *   Memory that is not a store is answered by RATHNODI_NOT_A_STORE.
- * - Each call returns one of the results below: the first that applies, in that order. A refusal leaves every lent byte
- *   as it was, in the answer and the reply too. So look at the result before you read either.
- * - Bytes of an answer past those written do not change.
+ * - Bad input is answered, never trusted: every argument and all of the lent memory is judged before a byte is written
+ *   (delete_objects judges each name when its turn comes). Memory that is not a store is answered by
+ *   RATHNODI_NOT_A_STORE.
+ * - Each call returns one of the results below: the first that applies, in the order given there. A refusal leaves
+ *   every lent byte as it was, in what the call would write too. So look at the result before you read any of that.
+ * - Bytes of an answer past those written do not change, nor do such bytes of delete_objects' results.
  * - To ask "is this a store?", call head with the empty path. It answers 0 or 1, and does nothing but the test that
  *   every call except fresh begins with. To learn how long an answer get needs, call head first: its reply has the
  *   length.
@@ -49,9 +50,9 @@ extern "C" {
 
 /* The version. MAJOR grows where a caller or a saved store has to change, MINOR where something is added. */
 #define RATHNODI_VERSION_MAJOR 1
-#define RATHNODI_VERSION_MINOR 0
+#define RATHNODI_VERSION_MINOR 1
 #define RATHNODI_VERSION_PATCH 0
-/* The same as a text, "1.0.0" for example. */
+/* The same as a text, "1.1.0" for example. */
 #define RATHNODI_VERSION RATHNODI_DOTTED(RATHNODI_VERSION_MAJOR, RATHNODI_VERSION_MINOR, RATHNODI_VERSION_PATCH)
 #define RATHNODI_DOTTED(major, minor, patch) \
     RATHNODI_QUOTED(major) "." RATHNODI_QUOTED(minor) "." RATHNODI_QUOTED(patch)
@@ -88,23 +89,27 @@ extern "C" {
 #define RATHNODI_OBJECTS_MAX 256
 #define RATHNODI_UPLOADS_MAX 16
 #define RATHNODI_PARTS_MAX 256
+/* The most places that delete_objects takes. */
+#define RATHNODI_PLACES_MAX 1000
 
 /* The longest record of list and of uploads. Room for RATHNODI_OBJECTS_MAX or RATHNODI_UPLOADS_MAX of them suffices for
  * every answer. */
 #define RATHNODI_LIST_RECORD_MAX 178
 #define RATHNODI_UPLOADS_RECORD_MAX 143
 
-/* What a call returns. */
+/* What a call returns. They apply in the order of their numbers, but RATHNODI_TOO_MANY comes right after
+ * RATHNODI_NOT_A_STORE. */
 enum {
     RATHNODI_OK = 0,
     RATHNODI_NOT_A_STORE = 1,     /* tables or reply of the wrong length; memory that is not a store */
-    RATHNODI_BAD_REQUEST = 2,     /* a bad path, stamp, part number or part list; an upload that is not open; fresh: an
-                                   * arena over RATHNODI_ARENA_MAX */
+    RATHNODI_BAD_REQUEST = 2,     /* a bad path, stamp, part number or part list; an upload that is not open; bytes left
+                                   * over after the last place; fresh: an arena over RATHNODI_ARENA_MAX */
     RATHNODI_NOT_FOUND = 3,       /* no object at that path */
     RATHNODI_TABLE_FULL = 4,      /* a ceiling of paths, uploads or parts */
     RATHNODI_ARENA_FULL = 5,      /* more data than the arena has bytes */
     RATHNODI_NUMBERS_USED_UP = 6, /* upload number 4,294,967,295 has been given out */
-    RATHNODI_BUFFER_SHORT = 7     /* the bytes to write exceed the answer */
+    RATHNODI_BUFFER_SHORT = 7,    /* the bytes to write exceed the answer or the results */
+    RATHNODI_TOO_MANY = 8         /* more than RATHNODI_PLACES_MAX places */
 };
 
 /* A result as a text of a few words. */
@@ -119,6 +124,7 @@ static inline const char *rathnodi_result_text(uint32_t result)
     case RATHNODI_ARENA_FULL: return "arena full";
     case RATHNODI_NUMBERS_USED_UP: return "numbers used up";
     case RATHNODI_BUFFER_SHORT: return "buffer short";
+    case RATHNODI_TOO_MANY: return "too many";
     default: return "unknown result";
     }
 }
@@ -199,6 +205,15 @@ uint32_t rathnodi_head(const uint8_t *tables, size_t tables_len, const uint8_t *
 /* Removes the object. */
 uint32_t rathnodi_delete(uint8_t *tables, size_t tables_len, uint8_t *arena, size_t arena_len, const uint8_t *path,
                          size_t path_len)
+    RATHNODI_CALL;
+
+/* Removes many objects, as one rathnodi_delete for each place, in their order, would. A place says where a path stands
+ * in names: start (4 bytes) and length (4), low byte first. What each delete returns, 0, 2 or 3, goes to the front of
+ * results, a byte for each place. A place outside names has 2; a path that is named twice has 3 the second time.
+ * places_len is in bytes; results needs an eighth of it. */
+uint32_t rathnodi_delete_objects(uint8_t *tables, size_t tables_len, uint8_t *arena, size_t arena_len,
+                                 const uint8_t *names, size_t names_len, const uint8_t *places, size_t places_len,
+                                 uint8_t *results, size_t results_len)
     RATHNODI_CALL;
 
 /* As a put of the source's data at the destination, which may be the source. */
@@ -321,6 +336,15 @@ RATHNODI_NONNULL static inline void rathnodi_part_list_set(uint8_t *part_list, s
 {
     part_list[2 * place] = (uint8_t)(part & 255);
     part_list[2 * place + 1] = (uint8_t)(part >> 8);
+}
+
+/* Sets the place with this number, from 0, of delete_objects' places, which have eight bytes each. */
+RATHNODI_NONNULL static inline void rathnodi_place_set(uint8_t *places, size_t place, uint32_t start, uint32_t length)
+{
+    for (size_t i = 0; i < 4; i++) {
+        places[8 * place + i] = (uint8_t)(start >> 8 * i & 255);
+        places[8 * place + 4 + i] = (uint8_t)(length >> 8 * i & 255);
+    }
 }
 
 #ifdef __cplusplus

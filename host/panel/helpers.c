@@ -1,6 +1,7 @@
 /*
- * The header's own functions: the text of a result, part lists, and the readers of records. These read answers that are
- * cut at every length and answers of any bytes, each right before a page that may not be touched. The last line counts.
+ * The header's own functions: the text of a result, part lists, places, and the readers of records. These read answers
+ * that are cut at every length and answers of any bytes, each right before a page that may not be touched. The last line
+ * counts.
  */
 #define _DEFAULT_SOURCE
 #include <string.h>
@@ -43,12 +44,26 @@ static int same(const void *bytes, size_t count, const char *text)
 static void result_texts(void)
 {
     static const char *const texts[] = {"ok",         "not a store", "bad request",     "not found",
-                                        "table full", "arena full",  "numbers used up", "buffer short"};
-    for (uint32_t result = 0; result < 8; result++) {
+                                        "table full", "arena full",  "numbers used up", "buffer short",
+                                        "too many"};
+    for (uint32_t result = 0; result < 9; result++) {
         check("a result's text", strcmp(rathnodi_result_text(result), texts[result]) == 0);
     }
-    check("no result", strcmp(rathnodi_result_text(8), "unknown result") == 0);
+    check("no result", strcmp(rathnodi_result_text(9), "unknown result") == 0);
     check("no result", strcmp(rathnodi_result_text(UINT32_MAX), "unknown result") == 0);
+}
+
+static void places(void)
+{
+    uint8_t list[24], before[24];
+    memset(before, 0xa5, sizeof before);
+    memcpy(list, before, sizeof list);
+    rathnodi_place_set(list, 1, 0x01020304, 0xfffefdfc);
+    check("a place, low byte first", memcmp(list + 8, "\4\3\2\1\xfc\xfd\xfe\xff", 8) == 0);
+    check("the places beside it", memcmp(list, before, 8) == 0 && memcmp(list + 16, before, 8) == 0);
+    rathnodi_place_set(list, 0, 0, 1);
+    rathnodi_place_set(list, 1, 1, 2);
+    check("the first places", memcmp(list, "\0\0\0\0\1\0\0\0\1\0\0\0\2\0\0\0", 16) == 0);
 }
 
 /* Objects "a", plain, and "joined", of parts 300 and 2; uploads 2 to "r" without a part and 3 to "scale/3" with one. */
@@ -155,6 +170,7 @@ static void any_bytes(void)
 int main(void)
 {
     result_texts();
+    places();
     start();
     list_records();
     uploads_records();

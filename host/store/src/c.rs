@@ -49,6 +49,18 @@ extern "C" {
         path: *const u8,
         path_len: usize,
     ) -> u32;
+    pub fn rathnodi_delete_objects(
+        tables: *mut u8,
+        tables_len: usize,
+        arena: *mut u8,
+        arena_len: usize,
+        names: *const u8,
+        names_len: usize,
+        places: *const u8,
+        places_len: usize,
+        results: *mut u8,
+        results_len: usize,
+    ) -> u32;
     pub fn rathnodi_copy(
         tables: *mut u8,
         tables_len: usize,

@@ -72,6 +72,29 @@ pub fn delete(tables: &mut [u8], arena: &mut [u8], path: &[u8]) -> u32 {
     }
 }
 
+pub fn delete_objects(
+    tables: &mut [u8],
+    arena: &mut [u8],
+    names: &[u8],
+    places: &[u8],
+    results: &mut [u8],
+) -> u32 {
+    unsafe {
+        c::rathnodi_delete_objects(
+            tables.as_mut_ptr(),
+            tables.len(),
+            arena.as_mut_ptr(),
+            arena.len(),
+            names.as_ptr(),
+            names.len(),
+            places.as_ptr(),
+            places.len(),
+            results.as_mut_ptr(),
+            results.len(),
+        )
+    }
+}
+
 pub fn copy(
     tables: &mut [u8],
     arena: &mut [u8],

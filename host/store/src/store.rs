@@ -13,6 +13,7 @@ pub enum Refusal {
     ArenaFull = 5,
     NumbersUsedUp = 6,
     BufferShort = 7,
+    TooMany = 8,
 }
 
 impl Refusal {
@@ -26,6 +27,7 @@ impl Refusal {
             5 => Refusal::ArenaFull,
             6 => Refusal::NumbersUsedUp,
             7 => Refusal::BufferShort,
+            8 => Refusal::TooMany,
             _ => panic!("the library answered {number}"),
         })
     }
@@ -41,6 +43,7 @@ impl fmt::Display for Refusal {
             Refusal::ArenaFull => "arena full",
             Refusal::NumbersUsedUp => "numbers used up",
             Refusal::BufferShort => "buffer short",
+            Refusal::TooMany => "too many",
         })
     }
 }
@@ -181,6 +184,21 @@ impl Store {
 
     pub fn delete(&mut self, path: &[u8]) -> Result<(), Refusal> {
         Refusal::of(slices::delete(&mut self.tables, &mut self.arena, path))
+    }
+
+    /// A delete for each place, in their order, and what each answers. A place is the start and the
+    /// length of a path in the names.
+    pub fn delete_objects(
+        &mut self,
+        names: &[u8],
+        places: &[(u32, u32)],
+    ) -> Result<Vec<Result<(), Refusal>>, Refusal> {
+        let place = |(start, length): &(u32, u32)| [start.to_le_bytes(), length.to_le_bytes()];
+        let list = places.iter().flat_map(place).collect::<Vec<_>>().concat();
+        let (tables, arena) = (&mut self.tables, &mut self.arena);
+        let mut results = vec![0; places.len()];
+        Refusal::of(slices::delete_objects(tables, arena, names, &list, &mut results))?;
+        Ok(results.into_iter().map(|result| Refusal::of(result.into())).collect())
     }
 
     pub fn copy(&mut self, stamp: u64, source: &[u8], destination: &[u8]) -> Result<(), Refusal> {

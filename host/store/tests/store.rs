@@ -37,6 +37,23 @@ fn a_walk() {
 }
 
 #[test]
+fn many_deleted() {
+    let mut store = Store::fresh(8).unwrap();
+    store.put(5, b"a", b"xyz").unwrap();
+    store.put(5, b"ab", b"").unwrap();
+    let places = [(0, 2), (1, 1), (0, 3), (0, 0), (0, 2), (u32::MAX, u32::MAX)];
+    let (bad, absent) = (Err(Refusal::BadRequest), Err(Refusal::NotFound));
+    let expected = vec![Ok(()), absent, bad, bad, absent, bad];
+    assert_eq!(store.delete_objects(b"ab", &places), Ok(expected));
+    assert_eq!(store.head(b"ab"), Err(Refusal::NotFound));
+    assert_eq!(store.delete_objects(b"a", &[(0, 1); 1001]), Err(Refusal::TooMany));
+    assert_eq!(store.get(b"a").unwrap().1, b"xyz");
+    let results = store.delete_objects(b"a", &[(0, 1); 1000]).unwrap();
+    assert_eq!((results[0], &results[1..]), (Ok(()), [absent; 999].as_slice()));
+    assert_eq!(store.delete_objects(b"", &[]), Ok(vec![]));
+}
+
+#[test]
 fn saved_memory() {
     let mut store = Store::fresh(8).unwrap();
     store.put(5, b"a", b"xyz").unwrap();

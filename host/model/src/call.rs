@@ -3,14 +3,16 @@
 use crate::etag::Etag;
 use std::fmt;
 
-/// One of the eleven calls. `buffer` is the answer buffer with the bytes it holds beforehand;
-/// `list` is a part list as 16-bit numbers, low byte first.
+/// One of the calls. `buffer` is the answer buffer, or that of DELETE_OBJECTS' results, with the
+/// bytes it holds beforehand; `list` is a part list as 16-bit numbers, `places` are starts and
+/// lengths of names as 32-bit numbers, low byte first.
 #[derive(Clone, PartialEq, Eq)]
 pub enum Call {
     Put { stamp: u64, path: Vec<u8>, data: Vec<u8> },
     Get { path: Vec<u8>, buffer: Vec<u8> },
     Head { path: Vec<u8> },
     Delete { path: Vec<u8> },
+    DeleteObjects { names: Vec<u8>, places: Vec<u8>, buffer: Vec<u8> },
     Copy { stamp: u64, source: Vec<u8>, destination: Vec<u8> },
     List { prefix: Vec<u8>, suffix: Vec<u8>, buffer: Vec<u8> },
     Initiate { stamp: u64, path: Vec<u8> },
@@ -21,12 +23,11 @@ pub enum Call {
 }
 
 impl Call {
-    /// The answer buffer beforehand; a call without written output has none.
+    /// The buffer beforehand; a call without written output has none.
     pub fn buffer(&self) -> &[u8] {
         match self {
-            Call::Get { buffer, .. } | Call::List { buffer, .. } | Call::Uploads { buffer, .. } => {
-                buffer
-            }
+            Call::Get { buffer, .. } | Call::List { buffer, .. } => buffer,
+            Call::Uploads { buffer, .. } | Call::DeleteObjects { buffer, .. } => buffer,
             _ => &[],
         }
     }
@@ -42,7 +43,7 @@ pub enum Answer {
     Written { records: u32, bytes: u32 },
 }
 
-/// The result number, what is answered, and the answer buffer afterwards.
+/// The result number, what is answered, and the buffer afterwards.
 #[derive(Clone, Debug, PartialEq, Eq)]
 pub struct Reply {
     pub number: u32,
@@ -72,7 +73,21 @@ impl fmt::Display for Hex<'_> {
     }
 }
 
-/// Numbers in decimal, bytes in hexadecimal, the answer buffer by its length.
+/// Places as start+length.
+fn places_text(places: &[u8]) -> String {
+    let number = |bytes: &[u8]| bytes.iter().rev().fold(0, |n, byte| n << 8 | u64::from(*byte));
+    let text = |place: &[u8]| match place.len() {
+        8 => format!("{}+{}", number(&place[..4]), number(&place[4..])),
+        _ => format!("left over {place:?}"),
+    };
+    let mut texts: Vec<String> = places.chunks(8).take(40).map(text).collect();
+    if places.len() > 320 {
+        texts.push(format!(".. of {} bytes", places.len()));
+    }
+    texts.join(" ")
+}
+
+/// Numbers in decimal, bytes in hexadecimal, the buffer by its length.
 impl fmt::Display for Call {
     fn fmt(&self, f: &mut fmt::Formatter) -> fmt::Result {
         match self {
@@ -84,6 +99,10 @@ impl fmt::Display for Call {
             }
             Call::Head { path } => write!(f, "(head {})", Hex(path)),
             Call::Delete { path } => write!(f, "(delete {})", Hex(path)),
+            Call::DeleteObjects { names, places, buffer } => {
+                let (names, places, room) = (Hex(names), places_text(places), buffer.len());
+                write!(f, "(delete-objects {names} ({places})) into {room} bytes")
+            }
             Call::Copy { stamp, source, destination } => {
                 write!(f, "(copy {stamp} {} {})", Hex(source), Hex(destination))
             }

@@ -1,11 +1,12 @@
-//! Document 01's cases as a table: the marked orders of the day, the unmarked ones and the slips.
-//! Each starts from FRESH; what is expected is written out, not computed by a store.
+//! Document 01's cases as a table: the marked orders of the day, the unmarked ones and the slips;
+//! then what document 02 asks. Each starts from FRESH; what is expected is written out, not computed
+//! by a store.
 
 use crate::call::{Answer, Call, Reply};
 use crate::etag::Etag;
 use crate::md5::Digest;
 
-/// Calls in order, each with the reply that document 01 asks for.
+/// Calls in order, each with the reply that the documents ask for.
 pub struct Case {
     pub name: &'static str,
     pub arena: usize,
@@ -66,6 +67,12 @@ fn delete(path: &str) -> Call {
     Call::Delete { path: path.into() }
 }
 
+fn delete_objects(names: &str, places: &[(u32, u32)], room: usize) -> Call {
+    let place = |(start, length): &(u32, u32)| [start.to_le_bytes(), length.to_le_bytes()].concat();
+    let places = places.iter().flat_map(place).collect();
+    Call::DeleteObjects { names: names.into(), places, buffer: vec![UNTOUCHED; room] }
+}
+
 fn copy(stamp: u64, source: &str, destination: &str) -> Call {
     Call::Copy { stamp, source: source.into(), destination: destination.into() }
 }
@@ -115,6 +122,11 @@ fn refused(call: Call, number: u32) -> (Call, Reply) {
     (call, reply)
 }
 
+/// The call is accepted with these results, for which there is just room.
+fn deletes(names: &str, places: &[(u32, u32)], results: &[u8]) -> (Call, Reply) {
+    writes(delete_objects(names, places, results.len()), Answer::Nothing, results)
+}
+
 fn metadata(length: u32, created: u64, etag: Etag) -> Answer {
     Answer::Metadata { length, created, etag }
 }
@@ -158,6 +170,7 @@ pub fn all() -> Vec<Case> {
     cases.extend(unmarked());
     cases.extend(slips());
     cases.extend(ceilings());
+    cases.extend(many_deleted());
     cases
 }
 
@@ -450,5 +463,114 @@ pub fn ceilings() -> Vec<Case> {
             ]);
             steps
         }),
+    ]
+}
+
+/// Document 02's E1.
+pub fn many_deleted() -> Vec<Case> {
+    let puts = |paths: &[&str]| paths.iter().map(|path| done(put(1, path, ""))).collect::<Vec<_>>();
+    let with = |paths: &[&str], steps: Vec<(Call, Reply)>| [puts(paths), steps].concat();
+    let there = |path: &str| answers(head(path), metadata(0, 1, plain(OF_NOTHING)));
+    let nothing_left = || no_records(list("", "", 0));
+    let left_over = |mut call: Call, count: usize| {
+        if let Call::DeleteObjects { places, .. } = &mut call {
+            places.extend(vec![0; count]);
+        }
+        call
+    };
+    let of_a = |count: usize, room: usize| delete_objects("a", &vec![(0, 1); count], room);
+    vec![
+        Case {
+            name: "200 of 256 objects",
+            arena: 0,
+            steps: {
+                let names: Vec<String> = (0..256).map(|i| format!("p{i:03}")).collect();
+                let places: Vec<(u32, u32)> = (0..200).rev().map(|i| (4 * i, 4)).collect();
+                let mut steps = puts(&names.iter().map(String::as_str).collect::<Vec<_>>());
+                steps.extend([refused(put(1, "new", ""), 4)]);
+                steps.extend([deletes(&names.concat(), &places, &[0; 200])]);
+                steps.extend(names[..200].iter().map(|path| refused(head(path), 3)));
+                steps.extend(names[200..].iter().map(|path| there(path)));
+                steps.extend((0..200).map(|i| done(put(1, &format!("new/{i}"), ""))));
+                steps.extend([refused(put(1, "new", ""), 4)]);
+                steps
+            },
+        },
+        day("the end of the name buffer", {
+            let (ends, past) = ((0, 2), (1, 2));
+            let places = [past, (0, 3), (2, 1), ends, (2, 0), (3, 0), ends];
+            with(&["ab", "b"], vec![deletes("ab", &places, &[2, 2, 2, 0, 2, 2, 3]), there("b")])
+        }),
+        day("a start and a length whose sum passes 32 bits", {
+            let last = u32::MAX;
+            let places = [(last, last), (last, 2), (last, 1), (0, last), (1, last), (last, 0)];
+            with(&["a", "b"], vec![deletes("ab", &places, &[2; 6]), there("a"), there("b")])
+        }),
+        day("places that overlap", {
+            let all = deletes("ab", &[(0, 1), (0, 2), (1, 1)], &[0, 0, 0]);
+            with(&["a", "ab", "b"], vec![all, nothing_left()])
+        }),
+        day("a name listed twice", {
+            let twice = deletes("aba", &[(0, 1), (1, 1), (2, 1), (1, 1)], &[0, 0, 3, 3]);
+            with(&["a", "b"], vec![twice, nothing_left()])
+        }),
+        day("an empty name, bad names, an absent one", {
+            let places = [(0, 0), (0, 2), (1, 4), (4, 3), (7, 1), (6, 1), (1, 1)];
+            with(
+                &["a"],
+                vec![deletes("/a//b c\0", &places, &[2, 2, 2, 2, 2, 3, 0]), nothing_left()],
+            )
+        }),
+        day("the length of a listed name", {
+            let names = "p".repeat(129);
+            with(&[&names[1..]], vec![deletes(&names, &[(0, 129), (1, 128)], &[2, 0])])
+        }),
+        day("no places", {
+            let none = |names: &str, room| done(delete_objects(names, &[], room));
+            with(&["a"], vec![none("", 0), none("a", 0), none("a", 3), there("a")])
+        }),
+        day("1,000 places", {
+            let mut results = [3; 1000];
+            results[0] = 0;
+            with(&["a"], vec![writes(of_a(1000, 1000), Answer::Nothing, &results), nothing_left()])
+        }),
+        day("1,001 places", {
+            let calls = [of_a(1001, 1001), left_over(of_a(1001, 1001), 1), of_a(1001, 0)];
+            let mut steps: Vec<(Call, Reply)> = calls.map(|call| refused(call, 8)).into();
+            steps.extend([refused(left_over(of_a(1001, 1000), 7), 8), there("a")]);
+            with(&["a"], steps)
+        }),
+        day("bytes left over", {
+            let calls = [of_a(0, 0), of_a(1, 1), of_a(1000, 1000), of_a(1, 0), of_a(1000, 999)];
+            let mut steps = Vec::new();
+            for call in calls {
+                steps.extend([1, 4, 7].map(|count| refused(left_over(call.clone(), count), 2)));
+            }
+            steps.push(there("a"));
+            with(&["a"], steps)
+        }),
+        day("room for the results", {
+            let call = |room| delete_objects("abc", &[(0, 1), (1, 1), (2, 1)], room);
+            let mut steps = vec![refused(call(2), 7), refused(call(0), 7), there("a"), there("c")];
+            steps.push(writes(call(3), Answer::Nothing, &[0, 3, 0]));
+            steps.push(writes(call(9), Answer::Nothing, &[3, 3, 3]));
+            steps.push(refused(of_a(1000, 999), 7));
+            with(&["a", "c"], steps)
+        }),
+        day("an upload is no object", {
+            let steps = vec![opens(7, "r", 1), stores(1, 1, "A", OF_A)];
+            [steps, vec![deletes("r", &[(0, 1)], &[3]), one_upload(1, "r", 7, 1)]].concat()
+        }),
+        Case {
+            name: "freed bytes serve again",
+            arena: 4,
+            steps: vec![
+                done(put(5, "a", "xy")),
+                done(put(5, "b", "AB")),
+                refused(put(5, "c", "xyz"), 5),
+                deletes("ba", &[(0, 1), (1, 1)], &[0, 0]),
+                done(put(5, "c", "xyzx")),
+            ],
+        },
     ]
 }

@@ -1,7 +1,7 @@
 //! A store of independent make, to set beside the proved one.
 //!
-//! It is written from document 01 alone, over maps and vectors, and has no tables: its state is
-//! O, U and N. It favours plain text over speed.
+//! It is written from documents 01 and 02 alone, over maps and vectors, and has no tables: its state
+//! is O, U and N. It favours plain text over speed.
 
 mod call;
 pub mod cases;
@@ -18,6 +18,8 @@ pub use store::{path_ok, Model, Object, Part, Refusal, Upload};
 pub const MOST_OBJECTS: usize = 256;
 pub const MOST_UPLOADS: usize = 16;
 pub const MOST_PARTS: usize = 256;
+/// Places of one call: "up to 1,000".
+pub const MOST_PLACES: usize = 1_000;
 /// "A part number is 1 to 11,000".
 pub const LAST_PART: u16 = 11_000;
 /// "A path is 1 to 128 bytes".

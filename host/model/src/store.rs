@@ -1,9 +1,10 @@
-//! The machine of document 01: O, U, N and the eleven steps.
+//! The machine of documents 01 and 02: O, U, N and the steps.
 
 use crate::call::{Answer, Call, Reply};
 use crate::etag::Etag;
 use crate::md5::{md5, Digest};
-use crate::{LAST_PART, LONGEST_PATH, MOST_OBJECTS, MOST_PARTS, MOST_UPLOADS, NUMBERS_END};
+use crate::{LAST_PART, LONGEST_PATH, NUMBERS_END};
+use crate::{MOST_OBJECTS, MOST_PARTS, MOST_PLACES, MOST_UPLOADS};
 use std::collections::BTreeMap;
 
 /// The refusals that a list of calls can meet; 1, "not a store", is about memory alone.
@@ -15,6 +16,7 @@ pub enum Refusal {
     ArenaFull = 5,
     NumbersUsedUp = 6,
     BufferShort = 7,
+    TooMany = 8,
 }
 
 use Refusal::*;
@@ -70,6 +72,13 @@ fn part_numbers(list: &[u8]) -> Option<Vec<u16>> {
         .then(|| list.chunks_exact(2).map(|pair| u16::from_le_bytes([pair[0], pair[1]])).collect())
 }
 
+/// The name at a place, which is a start and a length of 4 bytes each; none where it is outside.
+fn name_at<'a>(names: &'a [u8], place: &[u8]) -> Option<&'a [u8]> {
+    let number = |bytes: &[u8]| bytes.iter().rev().fold(0, |n, byte| n << 8 | usize::from(*byte));
+    let (start, length) = (number(&place[..4]), number(&place[4..]));
+    names.get(start..)?.get(..length)
+}
+
 impl Model {
     /// FRESH.
     pub fn fresh(arena: usize) -> Model {
@@ -110,6 +119,9 @@ impl Model {
             Call::Get { path, buffer } => self.get(path, buffer.len()),
             Call::Head { path } => self.head(path).map(silent),
             Call::Delete { path } => self.delete(path).map(|()| silent(Answer::Nothing)),
+            Call::DeleteObjects { names, places, buffer } => self
+                .delete_objects(names, places, buffer.len())
+                .map(|results| (Answer::Nothing, results)),
             Call::Copy { stamp, source, destination } => {
                 self.copy(*stamp, source, destination).map(|()| silent(Answer::Nothing))
             }
@@ -186,6 +198,34 @@ impl Model {
             return Err(BadRequest);
         }
         self.objects.remove(path).map(|_| ()).ok_or(NotFound)
+    }
+
+    /// DELETE of the name at each place in turn, and the number that each gives.
+    fn delete_objects(
+        &mut self,
+        names: &[u8],
+        places: &[u8],
+        room: usize,
+    ) -> Result<Vec<u8>, Refusal> {
+        let each = places.chunks_exact(8);
+        if each.len() > MOST_PLACES {
+            return Err(TooMany);
+        }
+        if !each.remainder().is_empty() {
+            return Err(BadRequest);
+        }
+        if each.len() > room {
+            return Err(BufferShort);
+        }
+        let mut results = Vec::new();
+        for place in each {
+            let deleted = match name_at(names, place) {
+                Some(name) => self.delete(name),
+                None => Err(BadRequest),
+            };
+            results.push(deleted.map_or_else(|refusal| refusal as u8, |()| 0));
+        }
+        Ok(results)
     }
 
     fn copy(&mut self, stamp: u64, source: &[u8], destination: &[u8]) -> Result<(), Refusal> {

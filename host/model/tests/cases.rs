@@ -1,6 +1,6 @@
-//! Document 01's cases over the model.
+//! The documents' cases over the model.
 
-use model::cases::{all, ceilings, marked, slips, unmarked, Case};
+use model::cases::{all, ceilings, many_deleted, marked, slips, unmarked, Case};
 use model::{Answer, Call, Model, Refusal, NUMBERS_END};
 
 fn check(cases: Vec<Case>) {
@@ -38,11 +38,16 @@ fn ceilings_hold() {
     check(ceilings());
 }
 
+#[test]
+fn many_are_deleted() {
+    check(many_deleted());
+}
+
 /// Each refusal of a list of calls but 6 occurs in the table.
 #[test]
 fn the_table_has_each_number() {
     let cases = all();
-    for number in [0, 2, 3, 4, 5, 7] {
+    for number in [0, 2, 3, 4, 5, 7, 8] {
         let has = |case: &Case| case.steps.iter().any(|(_, reply)| reply.number == number);
         assert!(cases.iter().any(has), "{number}");
     }

@@ -6,7 +6,8 @@ use crate::layout::{self, HEADER_LEN};
 use crate::list::{Bit, Lending, List, Step};
 use crate::random::Random;
 use model::{Answer, Call, Model};
-use model::{LARGEST_ARENA, LAST_PART, LONGEST_PATH, MOST_OBJECTS, MOST_PARTS, NUMBERS_END};
+use model::{LARGEST_ARENA, LAST_PART, LONGEST_PATH, NUMBERS_END};
+use model::{MOST_OBJECTS, MOST_PARTS, MOST_PLACES};
 use rathnodi::TABLES_LEN;
 
 const ARENAS: [usize; 9] = [0, 1, 4, 64, 64, 4096, 4096, 4096, LARGEST_ARENA];
@@ -158,11 +159,27 @@ fn bad_path(random: &mut Random) -> Vec<u8> {
     }
 }
 
+/// One buffer of names, and where each starts and how long it is.
+fn end_to_end(names: &[Vec<u8>]) -> (Vec<u8>, Vec<(usize, usize)>) {
+    let mut start = 0;
+    let span = |name: &Vec<u8>| {
+        start += name.len();
+        (start - name.len(), name.len())
+    };
+    (names.concat(), names.iter().map(span).collect())
+}
+
+/// Places as the call takes them.
+fn place_bytes(places: &[(usize, usize)]) -> Vec<u8> {
+    let number = |number: usize| (number as u32).to_le_bytes();
+    places.iter().flat_map(|(start, length)| [number(*start), number(*length)].concat()).collect()
+}
+
 struct Maker {
     random: Random,
     model: Model,
     pool: Vec<Vec<u8>>,
-    weights: [usize; 11],
+    weights: [usize; 12],
     arena: usize,
     steps: Vec<Step>,
 }
@@ -204,6 +221,9 @@ impl Maker {
             }
         }
         self.show_all();
+        if self.random.one_in(4) {
+            self.delete_all();
+        }
     }
 
     fn step(&mut self) {
@@ -387,9 +407,12 @@ impl Maker {
             place -= self.weights[verb];
             verb += 1;
         }
-        // A full store stays full for a while.
-        if verb == 3 && self.model.objects.len() == MOST_OBJECTS && !self.random.one_in(4) {
+        // A full store stays full for a while, and many deletes mostly have something to delete.
+        let objects = self.model.objects.len();
+        if [3, 11].contains(&verb) && objects == MOST_OBJECTS && !self.random.one_in(4) {
             verb = 4;
+        } else if verb == 11 && objects < self.random.below(6) && !self.random.one_in(4) {
+            verb = 0;
         }
         // Most calls that name an upload have one to name, and most uploads get some parts.
         if (7..10).contains(&verb) && self.model.uploads.is_empty() && !self.random.one_in(4) {
@@ -420,7 +443,8 @@ impl Maker {
             7 => self.part(),
             8 => self.commit(),
             9 => Call::Abort { upload: self.upload() },
-            _ => self.uploads(),
+            10 => self.uploads(),
+            _ => self.delete_objects(),
         }
     }
 
@@ -607,6 +631,63 @@ impl Maker {
             list.pop();
         }
         Call::Commit { upload, list }
+    }
+
+    /// A few places, now and then hundreds or about as many as there can be.
+    fn delete_objects(&mut self) -> Call {
+        let count = match self.random.below(32) {
+            0 => MOST_PLACES - 1 + self.random.below(4),
+            1 => self.random.below(300),
+            2 => 0,
+            3..=5 => self.random.below(12),
+            _ => 1 + self.random.below(3),
+        };
+        let paths: Vec<Vec<u8>> = (0..count.min(300)).map(|_| self.path()).collect();
+        let (names, spans) = end_to_end(&paths);
+        let places = (0..count).map(|i| self.place(i, &spans, names.len())).collect::<Vec<_>>();
+        let mut places = place_bytes(&places);
+        if self.random.one_in(if count < MOST_PLACES - 1 { 16 } else { 3 }) {
+            let left_over = 1 + self.random.below(7);
+            places.extend(self.random.bytes(left_over));
+        }
+        Call::DeleteObjects { names, places, buffer: self.buffer(count) }
+    }
+
+    /// The place of a name, mostly the i-th; or one that is empty, overlaps other names, ends about
+    /// where the names end, or passes 32 bits.
+    fn place(&mut self, i: usize, spans: &[(usize, usize)], end: usize) -> (usize, usize) {
+        let (start, length) = match spans.get(i) {
+            Some(span) if !self.random.one_in(8) => *span,
+            _ => *self.random.pick(spans),
+        };
+        let last = u32::MAX as usize;
+        match self.random.below(32) {
+            0 => (start, 0),
+            1 => (start, length + 1),
+            2 => (start, length / 2),
+            3 => (start + length / 2, length - length / 2),
+            4 => (start, end - start),
+            5 => (start, end - start + 1),
+            6 => (end, self.random.below(3)),
+            7 => (last, last),
+            8 => (start, last - self.random.below(2)),
+            // To the end of the first name, were starts counted modulo 2^32.
+            9 => {
+                let before = self.random.below(4);
+                (last - before, before + 1 + spans[0].1)
+            }
+            10 => (self.random.draw() as u32 as usize, self.random.below(200)),
+            _ => (start, length),
+        }
+    }
+
+    /// All objects, in any order.
+    fn delete_all(&mut self) {
+        let mut paths: Vec<Vec<u8>> = self.model.objects.keys().cloned().collect();
+        self.random.shuffle(&mut paths);
+        let (names, spans) = end_to_end(&paths);
+        let buffer = self.random.bytes(spans.len());
+        self.push_right(Call::DeleteObjects { names, places: place_bytes(&spans), buffer });
     }
 
     /// Calls that together show the whole state: all listings, all data, each upload committed, N.

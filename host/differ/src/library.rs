@@ -37,6 +37,17 @@ pub trait Library {
         slices::delete(tables, arena, path)
     }
 
+    fn delete_objects(
+        &mut self,
+        tables: &mut [u8],
+        arena: &mut [u8],
+        names: &[u8],
+        places: &[u8],
+        results: &mut [u8],
+    ) -> u32 {
+        slices::delete_objects(tables, arena, names, places, results)
+    }
+
     fn copy(
         &mut self,
         tables: &mut [u8],

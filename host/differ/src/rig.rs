@@ -48,6 +48,7 @@ fn arguments(call: &Call) -> [&[u8]; 2] {
     match call {
         Call::Put { path, data, .. } => [path, data],
         Call::Copy { source, destination, .. } => [source, destination],
+        Call::DeleteObjects { names, places, .. } => [names, places],
         Call::List { prefix, suffix, .. } => [prefix, suffix],
         Call::Get { path, .. } | Call::Head { path } => [path, &[]],
         Call::Delete { path } | Call::Initiate { path, .. } => [path, &[]],
@@ -60,8 +61,8 @@ fn arguments(call: &Call) -> [&[u8]; 2] {
 
 fn has_reply(call: &Call) -> bool {
     match call {
-        Call::Put { .. } | Call::Delete { .. } | Call::Copy { .. } => false,
-        Call::Commit { .. } | Call::Abort { .. } => false,
+        Call::Put { .. } | Call::Delete { .. } | Call::DeleteObjects { .. } => false,
+        Call::Copy { .. } | Call::Commit { .. } | Call::Abort { .. } => false,
         Call::Get { .. } | Call::Head { .. } | Call::List { .. } => true,
         Call::Initiate { .. } | Call::Part { .. } | Call::Uploads { .. } => true,
     }
@@ -268,6 +269,9 @@ impl<L: Library> Rig<L> {
             return Err(format!("answered {number}, expected {}", expected.number));
         }
         self.tally.count(Some(call), number);
+        if let (Call::DeleteObjects { places, .. }, 0) = (call, number) {
+            self.tally.count_places(&expected.buffer[..places.len() / 8]);
+        }
         let reply = if number == 0 && has_reply(call) {
             bytes_of(&expected.answer).to_vec()
         } else {
@@ -302,6 +306,9 @@ impl<L: Library> Rig<L> {
             Call::Get { .. } => library.get(tables, arena, first, answer, reply),
             Call::Head { .. } => library.head(tables, arena, first, reply),
             Call::Delete { .. } => library.delete(tables, arena, first),
+            Call::DeleteObjects { .. } => {
+                library.delete_objects(tables, arena, first, second, answer)
+            }
             Call::Copy { stamp, .. } => library.copy(tables, arena, *stamp, first, second),
             Call::List { .. } => library.list(tables, arena, first, second, answer, reply),
             Call::Initiate { stamp, .. } => library.initiate(tables, arena, *stamp, first, reply),

@@ -1,8 +1,8 @@
 //! A smaller list that still shows a difference.
 
 use crate::list::{Lending, List, Step};
-use model::{path_ok, Answer, Call, Model};
-use std::collections::BTreeSet;
+use model::{name_at, path_ok, Answer, Call, Model};
+use std::collections::{BTreeMap, BTreeSet};
 use std::time::{Duration, Instant};
 
 /// No new list is tried after this long.
@@ -148,9 +148,7 @@ impl<F: FnMut(&List) -> Option<usize>> Search<F> {
                 return;
             };
             self.accepts_with(|list| {
-                for path in list.steps.iter_mut().flat_map(paths).filter(|path| **path == long) {
-                    *path = name.clone();
-                }
+                list.steps.iter_mut().for_each(|step| rename(step, &long, &name));
             });
             named.remove(&long);
         }
@@ -200,6 +198,42 @@ fn paths(step: &mut Step) -> Vec<&mut Vec<u8>> {
     }
 }
 
+/// The step with another name for a path.
+fn rename(step: &mut Step, path: &[u8], name: &[u8]) {
+    for found in paths(step).into_iter().filter(|found| **found == path) {
+        *found = name.to_vec();
+    }
+    if let Step::Call(Call::DeleteObjects { names, places, .. }, _) = step {
+        if places.chunks_exact(8).any(|place| name_at(names, place) == Some(path)) {
+            let renamed = |found| if found == path { name } else { found };
+            (*names, *places) = laid_apart(names, places, renamed);
+        }
+    }
+}
+
+/// The names of DELETE_OBJECTS, each changed and one time, end to end; places outside them stay.
+fn laid_apart<'a>(
+    names: &'a [u8],
+    places: &[u8],
+    change: impl Fn(&'a [u8]) -> &'a [u8],
+) -> (Vec<u8>, Vec<u8>) {
+    let (mut apart, mut moved, mut starts) = (Vec::new(), Vec::new(), BTreeMap::new());
+    for place in places.chunks(8) {
+        let name = if place.len() == 8 { name_at(names, place).map(&change) } else { None };
+        let Some(name) = name else {
+            moved.extend(place);
+            continue;
+        };
+        let start = *starts.entry(name).or_insert(apart.len());
+        if start == apart.len() {
+            apart.extend(name);
+        }
+        moved.extend((start as u32).to_le_bytes());
+        moved.extend((name.len() as u32).to_le_bytes());
+    }
+    (apart, moved)
+}
+
 /// Plainer forms of a step, each strictly plainer than it.
 fn plainer(step: &Step, arena: usize) -> Vec<Step> {
     match step {
@@ -225,9 +259,10 @@ fn plainer(step: &Step, arena: usize) -> Vec<Step> {
     }
 }
 
-/// The call with shorter or zeroed data, answer buffer, prefix or suffix, or a small stamp.
+/// The call with shorter or zeroed data, answer buffer, prefix, suffix or names, fewer places, or a
+/// small stamp.
 fn plainer_calls(call: &Call) -> Vec<Call> {
-    let mut calls = Vec::new();
+    let mut calls = plainer_deletes(call);
     for i in 0..3 {
         let mut probe = call.clone();
         let Some(bytes) = loose_bytes(&mut probe).into_iter().nth(i) else { break };
@@ -250,11 +285,37 @@ fn plainer_calls(call: &Call) -> Vec<Call> {
     calls
 }
 
+/// DELETE_OBJECTS with the names that are named alone, or without a run of places and as many bytes
+/// for results.
+fn plainer_deletes(call: &Call) -> Vec<Call> {
+    let Call::DeleteObjects { names, places, buffer } = call else { return Vec::new() };
+    let mut calls = Vec::new();
+    let (apart, moved) = laid_apart(names, places, |name| name);
+    if apart.len() < names.len() {
+        calls.push(Call::DeleteObjects { names: apart, places: moved, buffer: buffer.clone() });
+    }
+    let count = places.chunks(8).len();
+    let mut size = count.div_ceil(2);
+    while size > 0 && count / size <= 32 {
+        for from in (0..count).step_by(size) {
+            let (front, back) = (8 * from, places.len().min(8 * (from + size)));
+            calls.push(Call::DeleteObjects {
+                names: names.clone(),
+                places: [&places[..front], &places[back..]].concat(),
+                buffer: buffer[..buffer.len().saturating_sub(size)].to_vec(),
+            });
+        }
+        size /= 2;
+    }
+    calls
+}
+
 /// The bytes of a call that may be of any length.
 fn loose_bytes(call: &mut Call) -> Vec<&mut Vec<u8>> {
     match call {
         Call::Put { data, .. } | Call::Part { data, .. } => vec![data],
         Call::Get { buffer, .. } => vec![buffer],
+        Call::DeleteObjects { names, buffer, .. } => vec![buffer, names],
         Call::List { prefix, suffix, buffer } => vec![buffer, prefix, suffix],
         Call::Uploads { prefix, buffer } => vec![buffer, prefix],
         _ => Vec::new(),

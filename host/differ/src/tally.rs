@@ -4,13 +4,24 @@ use model::Call;
 use std::fmt;
 use std::sync::atomic::{AtomicU64, Ordering::Relaxed};
 
-const VERBS: [&str; 12] = [
-    "fresh", "put", "get", "head", "delete", "copy", "list", "initiate", "part", "commit", "abort",
+const VERBS: [&str; 13] = [
+    "fresh",
+    "put",
+    "get",
+    "head",
+    "delete",
+    "copy",
+    "list",
+    "initiate",
+    "part",
+    "commit",
+    "abort",
     "uploads",
+    "delete_objects",
 ];
 
-/// The numbers that document 01 allows each verb, in the order of VERBS.
-const ALLOWED: [&[usize]; 12] = [
+/// The numbers that documents 01 and 02 allow each verb, in the order of VERBS.
+const ALLOWED: [&[usize]; 13] = [
     &[0, 1, 2],
     &[0, 1, 2, 4, 5],
     &[0, 1, 2, 3, 7],
@@ -23,7 +34,11 @@ const ALLOWED: [&[usize]; 12] = [
     &[0, 1, 2, 4],
     &[0, 1, 2],
     &[0, 1, 7],
+    &[0, 1, 2, 7, 8],
 ];
+
+/// Those of a place of DELETE_OBJECTS.
+const ALLOWED_PLACE: [usize; 3] = [0, 2, 3];
 
 /// Shared between processes; zeroed memory is an empty one.
 pub struct Tally {
@@ -31,7 +46,8 @@ pub struct Tally {
     /// The step under way in the list under way.
     pub step: AtomicU64,
     pub calls: AtomicU64,
-    answers: [[AtomicU64; 8]; 12],
+    answers: [[AtomicU64; 9]; 13],
+    places: [AtomicU64; 4],
     /// Damaged memory that was no longer whole, and that still was.
     pub broken: AtomicU64,
     pub whole: AtomicU64,
@@ -51,17 +67,25 @@ fn verb(call: Option<&Call>) -> usize {
         Some(Call::Commit { .. }) => 9,
         Some(Call::Abort { .. }) => 10,
         Some(Call::Uploads { .. }) => 11,
+        Some(Call::DeleteObjects { .. }) => 12,
     }
 }
 
 impl Tally {
-    /// A call (FRESH is none of the eleven) was answered by this number.
+    /// A call, or FRESH where there is none, was answered by this number.
     pub fn count(&self, call: Option<&Call>, number: u32) {
         self.calls.fetch_add(1, Relaxed);
         self.answers[verb(call)][number as usize].fetch_add(1, Relaxed);
     }
 
-    /// The pairs of verb and number that document 01 allows and that did not occur.
+    /// The places of a DELETE_OBJECTS had these results.
+    pub fn count_places(&self, results: &[u8]) {
+        for result in results {
+            self.places[usize::from(*result)].fetch_add(1, Relaxed);
+        }
+    }
+
+    /// The numbers that a verb or a place may give and that did not occur.
     pub fn missing(&self) -> Vec<String> {
         let mut missing = Vec::new();
         for (verb, numbers) in ALLOWED.iter().enumerate() {
@@ -71,22 +95,29 @@ impl Tally {
                 }
             }
         }
+        for number in ALLOWED_PLACE {
+            if self.places[number].load(Relaxed) == 0 {
+                missing.push(format!("place {number}"));
+            }
+        }
         missing
     }
 }
 
 impl fmt::Display for Tally {
     fn fmt(&self, f: &mut fmt::Formatter) -> fmt::Result {
-        write!(f, "answered ")?;
-        for number in 0..8 {
+        write!(f, "{:<14}", "answered")?;
+        for number in 0..9 {
             write!(f, "{number:>9}")?;
         }
+        let mut row = |name: &str, counts: &[AtomicU64]| {
+            write!(f, "\n{name:<14}")?;
+            counts.iter().try_for_each(|count| write!(f, "{:>9}", count.load(Relaxed)))
+        };
         for (verb, counts) in VERBS.iter().zip(&self.answers) {
-            write!(f, "\n{verb:<9}")?;
-            for count in counts {
-                write!(f, "{:>9}", count.load(Relaxed))?;
-            }
+            row(verb, counts)?;
         }
+        row("a place there", &self.places)?;
         write!(
             f,
             "\ndamaged memory: {} times no longer whole, {} times whole",

@@ -1,4 +1,4 @@
-//! Document 01's cases over the proved store.
+//! The documents' cases over the proved store.
 
 use differ::layout::NEXT_AT;
 use differ::reply::{etag, number, REPLY_LEN};
@@ -31,6 +31,9 @@ impl Memory {
             Call::Get { path, .. } => slices::get(t, a, path, b, r),
             Call::Head { path } => slices::head(t, a, path, r),
             Call::Delete { path } => slices::delete(t, a, path),
+            Call::DeleteObjects { names, places, .. } => {
+                slices::delete_objects(t, a, names, places, b)
+            }
             Call::Copy { stamp, source, destination } => {
                 slices::copy(t, a, *stamp, source, destination)
             }
@@ -61,7 +64,7 @@ impl Memory {
 }
 
 #[test]
-fn cases_of_document_01() {
+fn cases_of_the_documents() {
     for case in all() {
         let mut memory = Memory::fresh(case.arena);
         case.check(|call| memory.call(call)).unwrap_or_else(|difference| panic!("{difference}"));

@@ -4,6 +4,7 @@ use differ::guard::shared;
 use differ::library::{Library, Proved};
 use differ::search::search;
 use differ::tally::Tally;
+use model::name_at;
 use rathnodi::slices;
 
 /// Calls in which a fault must show.
@@ -26,6 +27,34 @@ macro_rules! faulty {
             finds(stringify!($name), || Faulty);
         }
     };
+}
+
+/// A store with another DELETE_OBJECTS, of tables, arena, names, places and results.
+macro_rules! faulty_deletes {
+    ($name:ident, |$t:ident, $a:ident, $n:ident, $p:ident, $r:ident| $body:block) => {
+        faulty!($name {
+            fn delete_objects(
+                &mut self,
+                $t: &mut [u8],
+                $a: &mut [u8],
+                $n: &[u8],
+                $p: &[u8],
+                $r: &mut [u8],
+            ) -> u32 $body
+        });
+    };
+}
+
+/// Places with another start and length each; bytes left over stay.
+fn changed(places: &[u8], change: impl Fn(u32, u32) -> (u32, u32)) -> Vec<u8> {
+    let number = |bytes: &[u8]| u32::from_le_bytes(bytes.try_into().unwrap());
+    let each = places.chunks_exact(8);
+    let left_over = each.remainder();
+    let changed = |place: &[u8]| {
+        let (start, length) = change(number(&place[..4]), number(&place[4..]));
+        [start.to_le_bytes(), length.to_le_bytes()].concat()
+    };
+    [each.map(changed).collect::<Vec<_>>().concat(), left_over.to_vec()].concat()
 }
 
 #[test]
@@ -258,5 +287,87 @@ faulty!(reuses_an_aborted_number {
             slices::fresh(t, a);
         }
         number
+    }
+});
+
+faulty_deletes!(results_in_another_order, |t, a, n, p, r| {
+    let number = slices::delete_objects(t, a, n, p, r);
+    if number == 0 {
+        r[..p.len() / 8].reverse();
+    }
+    number
+});
+
+faulty_deletes!(a_name_listed_twice_has_0_twice, |t, a, n, p, r| {
+    let number = slices::delete_objects(t, a, n, p, r);
+    if number == 0 {
+        let names: Vec<_> = p.chunks(8).map(|place| name_at(n, place)).collect();
+        for i in 0..names.len() {
+            if (0..i).any(|j| names[j] == names[i] && r[j] == 0) {
+                r[i] = 0;
+            }
+        }
+    }
+    number
+});
+
+faulty_deletes!(cuts_the_places_at_1000, |t, a, n, p, r| {
+    slices::delete_objects(t, a, n, &p[..p.len().min(8000)], r)
+});
+
+faulty_deletes!(a_place_at_the_end_is_outside, |t, a, n, p, r| {
+    slices::delete_objects(t, a, &n[..n.len().saturating_sub(1)], p, r)
+});
+
+faulty_deletes!(a_place_one_past_the_end_is_cut, |t, a, n, p, r| {
+    let cut = |start: u32, length: u32| match u64::from(start) + u64::from(length) {
+        end if end == n.len() as u64 + 1 => (start, length.saturating_sub(1)),
+        _ => (start, length),
+    };
+    slices::delete_objects(t, a, n, &changed(p, cut), r)
+});
+
+faulty_deletes!(a_place_ends_modulo_32_bits, |t, a, n, p, r| {
+    let wrapped = |start: u32, length: u32| match start.overflowing_add(length) {
+        (end, true) => (0, end),
+        _ => (start, length),
+    };
+    slices::delete_objects(t, a, n, &changed(p, wrapped), r)
+});
+
+faulty_deletes!(results_are_written_before_a_refusal_by_7, |t, a, n, p, r| {
+    let number = slices::delete_objects(t, a, n, p, r);
+    if number == 7 {
+        let (mut results, room) = (vec![0; p.len() / 8], r.len());
+        slices::delete_objects(&mut t.to_vec(), &mut a.to_vec(), n, p, &mut results);
+        r.copy_from_slice(&results[..room]);
+    }
+    number
+});
+
+faulty_deletes!(deletes_before_a_refusal_by_7, |t, a, n, p, r| {
+    let number = slices::delete_objects(t, a, n, p, r);
+    if number == 7 {
+        slices::delete_objects(t, a, n, &p[..8 * r.len()], &mut r.to_vec());
+    }
+    number
+});
+
+faulty_deletes!(changes_the_rest_of_the_results, |t, a, n, p, r| {
+    let number = slices::delete_objects(t, a, n, p, r);
+    if number == 0 {
+        r[p.len() / 8..].fill(0);
+    }
+    number
+});
+
+faulty_deletes!(takes_places_with_bytes_left_over, |t, a, n, p, r| {
+    slices::delete_objects(t, a, n, &p[..p.len() / 8 * 8], r)
+});
+
+faulty_deletes!(bytes_left_over_are_seen_before_too_many_places, |t, a, n, p, r| {
+    match slices::delete_objects(t, a, n, p, r) {
+        8 if p.len() % 8 != 0 => 2,
+        number => number,
     }
 });

@@ -1,6 +1,6 @@
-//! Document 01's cases as a table: the marked orders of the day, the unmarked ones and the slips;
-//! then what document 02 asks. Each starts from FRESH; what is expected is written out, not computed
-//! by a store.
+//! Document 01's cases as a table: the marked orders of the day, the unmarked ones and the slips.
+//! Then document 02's. Each starts from FRESH; what is expected is written out, not computed by a
+//! store.
 
 use crate::call::{Answer, Call, Reply};
 use crate::etag::Etag;

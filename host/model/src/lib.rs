@@ -1,7 +1,7 @@
 //! A store of independent make, to set beside the proved one.
 //!
-//! It is written from documents 01 and 02 alone, over maps and vectors, and has no tables: its state
-//! is O, U and N. It favours plain text over speed.
+//! It is written from documents 01 and 02 alone, over maps and vectors, and has no tables: its
+//! state is O, U and N. It favours plain text over speed.
 
 mod call;
 pub mod cases;
@@ -12,7 +12,7 @@ mod store;
 pub use call::{Answer, Call, Reply};
 pub use etag::Etag;
 pub use md5::{md5, Digest};
-pub use store::{path_ok, Model, Object, Part, Refusal, Upload};
+pub use store::{name_at, path_ok, Model, Object, Part, Refusal, Upload};
 
 /// "256 paths in O, 16 uploads in U, 256 parts over all uploads".
 pub const MOST_OBJECTS: usize = 256;

@@ -73,7 +73,7 @@ fn part_numbers(list: &[u8]) -> Option<Vec<u16>> {
 }
 
 /// The name at a place, which is a start and a length of 4 bytes each; none where it is outside.
-fn name_at<'a>(names: &'a [u8], place: &[u8]) -> Option<&'a [u8]> {
+pub fn name_at<'a>(names: &'a [u8], place: &[u8]) -> Option<&'a [u8]> {
     let number = |bytes: &[u8]| bytes.iter().rev().fold(0, |n, byte| n << 8 | usize::from(*byte));
     let (start, length) = (number(&place[..4]), number(&place[4..]));
     names.get(start..)?.get(..length)

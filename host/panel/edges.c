@@ -1,6 +1,6 @@
 /*
- * Bad input from C, answered as document 01 says: wrong lengths, memory that is no store, bad arguments, short answers.
- * After each refusal every lent byte is compared. The last line counts.
+ * Bad input from C, answered as documents 01 and 02 say: wrong lengths, memory that is no store, bad arguments, places
+ * outside the names, short answers. After each refusal every lent byte is compared. The last line counts.
  */
 #include <inttypes.h>
 #include <string.h>
@@ -16,15 +16,19 @@ struct lent {
     uint8_t arena[RATHNODI_ARENA_MAX + 3];
     uint8_t answer[ROOM + 2];
     uint8_t reply[ROOM + 2];
+    uint8_t names[ROOM + 2];
+    uint8_t places[8 * ROOM + 2];
 };
 
 static struct lent now, before;
 static size_t tables_len = RATHNODI_TABLES_LEN, arena_len = ARENA_LEN, answer_len = ANSWER_LEN,
-              reply_len = RATHNODI_REPLY_LEN;
+              reply_len = RATHNODI_REPLY_LEN, names_len, places_len;
 
 #define STORE now.tables + 1, tables_len, now.arena + 1, arena_len
 #define ANSWER now.answer + 1, answer_len
 #define REPLY now.reply + 1, reply_len
+#define NAMES now.names + 1, names_len
+#define PLACES now.places + 1, places_len
 #define BYTES(text) (const uint8_t *)(text), sizeof(text) - 1
 #define FIELD(type, offset) (*(type *)memcpy(&(type){0}, now.reply + 1 + (offset), sizeof(type)))
 
@@ -43,7 +47,7 @@ static void refused(const char *what, uint32_t number, uint32_t expected)
     mark();
 }
 
-/* The call was accepted, and the bytes around the slices are as they were. */
+/* The call was accepted, and the bytes around the slices and of those that it reads are as they were. */
 static void accepted(const char *what, uint32_t number)
 {
     int kept = now.tables[0] == before.tables[0] && now.arena[0] == before.arena[0] &&
@@ -51,7 +55,9 @@ static void accepted(const char *what, uint32_t number)
                now.tables[tables_len + 1] == before.tables[tables_len + 1] &&
                now.arena[arena_len + 1] == before.arena[arena_len + 1] &&
                now.answer[answer_len + 1] == before.answer[answer_len + 1] &&
-               now.reply[reply_len + 1] == before.reply[reply_len + 1];
+               now.reply[reply_len + 1] == before.reply[reply_len + 1] &&
+               memcmp(now.names, before.names, sizeof now.names) == 0 &&
+               memcmp(now.places, before.places, sizeof now.places) == 0;
     check(what, number == RATHNODI_OK && kept);
     if (number != RATHNODI_OK) {
         printf("  answered %" PRIu32 "\n", number);
@@ -59,9 +65,9 @@ static void accepted(const char *what, uint32_t number)
     mark();
 }
 
-enum { FRESH, PUT, GET, HEAD, DELETE, COPY, LIST, INITIATE, PART, COMMIT, ABORT, UPLOADS, CALLS };
+enum { FRESH, PUT, GET, HEAD, DELETE, DELETE_OBJECTS, COPY, LIST, INITIATE, PART, COMMIT, ABORT, UPLOADS, CALLS };
 
-static const char *const CALL_NAMES[CALLS] = {"fresh", "put",      "get",  "head",   "delete", "copy",
+static const char *const CALL_NAMES[CALLS] = {"fresh", "put",      "get",  "head",   "delete", "delete_objects", "copy",
                                               "list",  "initiate", "part", "commit", "abort",  "uploads"};
 
 /* A call with good arguments, over what is lent now. */
@@ -73,6 +79,7 @@ static uint32_t good(int call)
     case GET: return rathnodi_get(STORE, BYTES("a"), ANSWER, REPLY);
     case HEAD: return rathnodi_head(STORE, BYTES("a"), REPLY);
     case DELETE: return rathnodi_delete(STORE, BYTES("a"));
+    case DELETE_OBJECTS: return rathnodi_delete_objects(STORE, NAMES, PLACES, ANSWER);
     case COPY: return rathnodi_copy(STORE, 6, BYTES("a"), BYTES("b"));
     case LIST: return rathnodi_list(STORE, BYTES(""), BYTES(""), ANSWER, REPLY);
     case INITIATE: return rathnodi_initiate(STORE, 7, BYTES("r"), REPLY);
@@ -88,6 +95,21 @@ static int has_reply(int call)
     return call == GET || call == HEAD || call == LIST || call == INITIATE || call == PART || call == UPLOADS;
 }
 
+/* Lends names, and no place yet. */
+static void lend_names(const uint8_t *names, size_t len)
+{
+    memcpy(now.names + 1, names, len);
+    names_len = len;
+    places_len = 0;
+}
+
+/* Lends one more place. */
+static void lend_place(uint32_t start, uint32_t length)
+{
+    rathnodi_place_set(now.places + 1, places_len / 8, start, length);
+    places_len += 8;
+}
+
 /* A store with object "a" and upload 1 to "r" with part 1. */
 static void start(void)
 {
@@ -96,6 +118,8 @@ static void start(void)
     answer_len = ANSWER_LEN;
     reply_len = RATHNODI_REPLY_LEN;
     memset(&now, 0xa5, sizeof now);
+    lend_names(BYTES("a"));
+    lend_place(0, 1);
     mark();
     accepted("fresh", good(FRESH));
     accepted("put", good(PUT));
@@ -251,6 +275,121 @@ static void short_answers(void)
     rest_keeps("uploads, more room", UPLOADS, 16);
 }
 
+/* delete_objects, over what is lent, has these results and leaves the rest of its answer. */
+static void deleted(const char *what, const char *results)
+{
+    size_t count = strlen(results);
+    memset(now.answer, 0x5a, sizeof now.answer);
+    mark();
+    accepted(what, good(DELETE_OBJECTS));
+    int as_expected = count == places_len / 8;
+    for (size_t i = 0; i < answer_len; i++) {
+        as_expected &= now.answer[1 + i] == (i < count ? results[i] - '0' : 0x5a);
+    }
+    check(what, as_expected);
+}
+
+static void places(void)
+{
+    static uint8_t tables[sizeof now.tables], arena[sizeof now.arena];
+    start();
+    accepted("put", rathnodi_put(STORE, 5, BYTES("ab"), BYTES("12")));
+    accepted("put", rathnodi_put(STORE, 5, BYTES("b"), BYTES("1")));
+    memcpy(tables, now.tables, sizeof tables);
+    memcpy(arena, now.arena, sizeof arena);
+
+    lend_names(BYTES(""));
+    deleted("no place", "");
+    answer_len = 0;
+    deleted("no place and no room", "");
+    lend_place(0, 0);
+    answer_len = 1;
+    deleted("an empty name in no names", "2");
+
+    answer_len = ANSWER_LEN;
+    lend_names(BYTES("ab"));
+    lend_place(0, 3);
+    lend_place(1, 2);
+    lend_place(2, 1);
+    lend_place(3, 0);
+    lend_place(UINT32_MAX, UINT32_MAX);
+    lend_place(UINT32_MAX, 2);
+    lend_place(UINT32_MAX, 1);
+    lend_place(UINT32_MAX, 0);
+    lend_place(0, UINT32_MAX);
+    lend_place(1, UINT32_MAX);
+    deleted("places outside the names", "2222222222");
+
+    lend_names(BYTES("/a//b c\0\x7f"));
+    lend_place(0, 2);
+    lend_place(1, 4);
+    lend_place(4, 3);
+    lend_place(6, 2);
+    lend_place(8, 1);
+    lend_place(9, 0);
+    lend_place(6, 1);
+    deleted("bad names, then an absent one", "2222223");
+    lend_names(BYTES("r"));
+    lend_place(0, 1);
+    deleted("an upload is no object", "3");
+    check("nothing was deleted", memcmp(tables, now.tables, sizeof tables) == 0 &&
+                                     memcmp(arena, now.arena, sizeof arena) == 0);
+
+    lend_names(BYTES("ab"));
+    lend_place(0, 1);
+    lend_place(0, 3);
+    lend_place(0, 2);
+    lend_place(0, 1);
+    lend_place(1, 1);
+    answer_len = 5;
+    deleted("places that overlap, to the end of the names, one listed twice", "02030");
+    answer_len = 0;
+    accepted("list of nothing left", good(LIST));
+}
+
+static void refused_places(void)
+{
+    start();
+    lend_names(BYTES("a"));
+    while (places_len < 8 * RATHNODI_PLACES_MAX) {
+        lend_place(0, 1);
+    }
+    mark();
+    answer_len = RATHNODI_PLACES_MAX - 1;
+    refused("1,000 places, a byte short", good(DELETE_OBJECTS), RATHNODI_BUFFER_SHORT);
+    answer_len = 0;
+    refused("1,000 places, no room", good(DELETE_OBJECTS), RATHNODI_BUFFER_SHORT);
+    for (size_t left_over = 1; left_over < 8; left_over++) {
+        answer_len = left_over % 2 == 0 ? 0 : ROOM;
+        places_len = left_over;
+        refused("bytes left over alone", good(DELETE_OBJECTS), RATHNODI_BAD_REQUEST);
+        places_len = 8 + left_over;
+        refused("a place and bytes left over", good(DELETE_OBJECTS), RATHNODI_BAD_REQUEST);
+        places_len = 8 * RATHNODI_PLACES_MAX + left_over;
+        refused("1,000 places and bytes left over", good(DELETE_OBJECTS), RATHNODI_BAD_REQUEST);
+        places_len += 8;
+        refused("1,001 places and bytes left over", good(DELETE_OBJECTS), RATHNODI_TOO_MANY);
+    }
+    places_len = 8 * RATHNODI_PLACES_MAX;
+    lend_place(0, 1);
+    mark();
+    answer_len = ROOM;
+    refused("1,001 places", good(DELETE_OBJECTS), RATHNODI_TOO_MANY);
+    answer_len = 0;
+    refused("1,001 places, no room", good(DELETE_OBJECTS), RATHNODI_TOO_MANY);
+    tables_len = RATHNODI_TABLES_LEN - 1;
+    refused("tables too short are seen before 1,001 places", good(DELETE_OBJECTS), RATHNODI_NOT_A_STORE);
+    tables_len = RATHNODI_TABLES_LEN;
+    places_len = 8 * RATHNODI_PLACES_MAX;
+    answer_len = RATHNODI_PLACES_MAX;
+    accepted("1,000 places, just room", good(DELETE_OBJECTS));
+    int as_expected = now.answer[1] == RATHNODI_OK;
+    for (int i = 1; i < RATHNODI_PLACES_MAX; i++) {
+        as_expected &= now.answer[1 + i] == RATHNODI_NOT_FOUND;
+    }
+    check("one name 1,000 times", as_expected);
+}
+
 /* The reply's bytes, by offset and through the struct. */
 static void replies(void)
 {
@@ -314,6 +453,10 @@ static void shared_arguments(void)
     accepted("copy onto itself", rathnodi_copy(STORE, 6, both, 4, both, 4));
     accepted("get", rathnodi_get(STORE, both, 4, ANSWER, REPLY));
     check("the path is the data", memcmp(now.answer + 1, both, 4) == 0);
+    static const uint8_t place[] = {8, 0, 0, 0, 1, 0, 0, 0, 'a'};
+    accepted("delete_objects, names with the places in them",
+             rathnodi_delete_objects(STORE, place, sizeof place, place, 8, ANSWER));
+    check("the name after the place", now.answer[1] == RATHNODI_OK);
 }
 
 int main(void)
@@ -322,6 +465,8 @@ int main(void)
     no_store();
     bad_arguments();
     short_answers();
+    places();
+    refused_places();
     replies();
     shared_arguments();
     return counted("edges");

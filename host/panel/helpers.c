@@ -1,7 +1,7 @@
 /*
  * The header's own functions: the text of a result, part lists, places, and the readers of records. These read answers
- * that are cut at every length and answers of any bytes, each right before a page that may not be touched. The last line
- * counts.
+ * that are cut at every length and answers of any bytes, each right before a page that may not be touched. The last
+ * line counts.
  */
 #define _DEFAULT_SOURCE
 #include <string.h>

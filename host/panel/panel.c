@@ -1,7 +1,7 @@
 /*
  * A short shift at a bakery terminal, as the panel's program would make it: recipes and a label picture are put, a
  * scale sends its weighings as parts while the panel lists, the upload is committed; another scale is given up and its
- * upload aborted. Each call is printed with its answer.
+ * upload aborted; a shelf of old recipes is cleared in one call. Each call is printed with its answer.
  */
 #include <inttypes.h>
 #include <stdio.h>
@@ -126,6 +126,26 @@ static void list(const char *prefix, const char *suffix, size_t room, uint32_t e
                (const char *)record.path, record.length, record.created, (int)record.etag_len, record.etag);
     }
     surprises += records != reply.records;
+}
+
+/* Deletes what the last list found in one call: the paths stand in its answer, which is lent as the names. */
+static void delete_listed(uint32_t expected, uint32_t expected_each)
+{
+    static uint8_t places[8 * RATHNODI_OBJECTS_MAX], results[RATHNODI_OBJECTS_MAX];
+    struct rathnodi_list_record record;
+    size_t count = 0;
+    for (size_t at = 0; rathnodi_list_next(answer, reply.bytes, &at, &record); count++) {
+        rathnodi_place_set(places, count, (uint32_t)(record.path - answer), (uint32_t)record.path_len);
+    }
+    printf("  delete    all %zu that were listed ", count);
+    uint32_t number = rathnodi_delete_objects(STORE, answer, reply.bytes, places, 8 * count, results, count);
+    int deleted = answered(number, expected);
+    printf("\n");
+    for (size_t i = 0, at = 0; deleted && rathnodi_list_next(answer, reply.bytes, &at, &record); i++) {
+        printf("              %-24.*s %s\n", (int)record.path_len, (const char *)record.path,
+               rathnodi_result_text(results[i]));
+        surprises += results[i] != expected_each;
+    }
 }
 
 /* The number of the upload, 0 if none was opened. */
@@ -264,6 +284,14 @@ int main(void)
     put(SHIFT + 950, "label/poster.pbm", large, ARENA_LEN, RATHNODI_ARENA_FULL);
     free(large);
     list("", "", 46, RATHNODI_BUFFER_SHORT);
+
+    say("A shelf of old recipes is cleared in one call; a second one finds none of them.");
+    copy(SHIFT + 960, "recipe/rye", "recipe/old/rye-1", RATHNODI_OK);
+    copy(SHIFT + 961, "recipe/rye", "recipe/old/rye-2", RATHNODI_OK);
+    copy(SHIFT + 962, "recipe/roll", "recipe/old/roll", RATHNODI_OK);
+    list("recipe/old/", "", sizeof answer, RATHNODI_OK);
+    delete_listed(RATHNODI_OK, RATHNODI_OK);
+    delete_listed(RATHNODI_OK, RATHNODI_NOT_FOUND);
 
     say("The end of the shift.");
     delete("recipe/roll-sunday", RATHNODI_OK);

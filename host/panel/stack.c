@@ -1,6 +1,7 @@
 /*
  * How much stack the calls use: they run on a stack of their own, painted beforehand, over a store with many objects and
- * parts. The header has the figure; more than LIMIT fails.
+ * parts; delete_objects, with as many places as it takes, runs on one more. The header has the figure; more than LIMIT
+ * fails.
  */
 #define _XOPEN_SOURCE 600
 #include <stdio.h>
@@ -9,13 +10,16 @@
 
 #include "rathnodi.h"
 
-enum { LIMIT = 16384, PAINT = 0xc7 };
+enum { LIMIT = 16384, PAINT = 0xc7, OBJECTS = 100 };
 
 static uint8_t tables[RATHNODI_TABLES_LEN];
 static uint8_t arena[65536];
 static uint8_t answer[65536];
 static uint8_t reply[RATHNODI_REPLY_LEN];
 static uint8_t data[4096];
+static uint8_t names[10 * OBJECTS];
+static uint8_t places[8 * RATHNODI_PLACES_MAX];
+static uint8_t results[RATHNODI_PLACES_MAX];
 static uint8_t stack[1 << 20];
 static uint32_t refusals;
 
@@ -27,9 +31,10 @@ static void calls(void)
     uint8_t path[] = "object/000";
     uint8_t forward[64], backward[64];
     refusals += rathnodi_fresh(STORE);
-    for (int i = 0; i < 100; i++) {
+    for (int i = 0; i < OBJECTS; i++) {
         path[8] = (uint8_t)('0' + i / 10);
         path[9] = (uint8_t)('0' + i % 10);
+        memcpy(names + 10 * i, path, 10);
         refusals += rathnodi_put(STORE, 1, path, 10, data, (size_t)(3 * i));
         refusals += rathnodi_copy(STORE, 2, path, 10, BYTES("copy"));
     }
@@ -55,7 +60,13 @@ static void calls(void)
     refusals += rathnodi_delete(STORE, BYTES("joined"));
 }
 
-static void run_on_painted_stack(void)
+static void delete_objects(void)
+{
+    refusals += rathnodi_delete_objects(STORE, names, sizeof names, places, sizeof places, results, sizeof results);
+}
+
+/* The bytes of stack that the work uses. */
+static size_t used_by(void (*work)(void))
 {
     static ucontext_t here, there;
     memset(stack, PAINT, sizeof stack);
@@ -63,18 +74,25 @@ static void run_on_painted_stack(void)
     there.uc_stack.ss_sp = stack;
     there.uc_stack.ss_size = sizeof stack;
     there.uc_link = &here;
-    makecontext(&there, calls, 0);
+    makecontext(&there, work, 0);
     swapcontext(&here, &there);
-}
-
-int main(void)
-{
-    run_on_painted_stack();
     size_t untouched = 0;
     while (untouched < sizeof stack && stack[untouched] == PAINT) {
         untouched++;
     }
-    size_t used = sizeof stack - untouched;
-    printf("stack: the calls used %zu bytes, %u refused\n", used, refusals);
-    return used > LIMIT || refusals != 0;
+    return sizeof stack - untouched;
+}
+
+int main(void)
+{
+    size_t by_calls = used_by(calls);
+    for (uint32_t i = 0; i < RATHNODI_PLACES_MAX; i++) {
+        rathnodi_place_set(places, i, 10 * (i % OBJECTS), 10);
+    }
+    size_t by_delete_objects = used_by(delete_objects);
+    for (size_t i = 0; i < OBJECTS; i++) {
+        refusals += results[i];
+    }
+    printf("stack: the calls used %zu bytes, delete_objects %zu, %u refused\n", by_calls, by_delete_objects, refusals);
+    return by_calls > LIMIT || by_delete_objects > LIMIT || refusals != 0;
 }

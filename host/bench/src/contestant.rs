@@ -29,6 +29,12 @@ impl Proved {
         done(slices::fresh(&mut store.tables, &mut store.arena));
         store
     }
+
+    /// Each of the objects is there.
+    pub fn delete_objects(&mut self, names: &[u8], places: &[u8], results: &mut [u8]) {
+        done(slices::delete_objects(&mut self.tables, &mut self.arena, names, places, results));
+        results.iter().for_each(|result| done(u32::from(*result)));
+    }
 }
 
 fn done(number: u32) {

@@ -5,6 +5,7 @@
 
 mod chart;
 mod contestant;
+mod shelf;
 mod sqlite;
 mod whole;
 
@@ -210,6 +211,7 @@ fn main() {
     table("A half-full store: 128 objects of 3,840 bytes", &state(128), rounds);
     table("A full store: 255 objects of 3,840 bytes", &state(255), rounds);
 
+    shelf::table(rounds / 4 + 1);
     whole::table();
 
     let calls = ["PUT, new", "GET", "HEAD", "LIST, all", "DELETE", "COMMIT, ascending"];

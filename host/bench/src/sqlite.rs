@@ -221,6 +221,13 @@ impl Sqlite {
             base,
         }
     }
+
+    /// In one transaction.
+    pub fn delete_all(&mut self, paths: &[Vec<u8>]) {
+        self.begin.run(&[]);
+        paths.iter().for_each(|path| self.delete(path));
+        self.end.run(&[]);
+    }
 }
 
 impl Contestant for Sqlite {

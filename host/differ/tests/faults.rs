@@ -290,7 +290,7 @@ faulty!(reuses_an_aborted_number {
     }
 });
 
-faulty_deletes!(results_in_another_order, |t, a, n, p, r| {
+faulty_deletes!(gives_results_in_another_order, |t, a, n, p, r| {
     let number = slices::delete_objects(t, a, n, p, r);
     if number == 0 {
         r[..p.len() / 8].reverse();
@@ -335,7 +335,7 @@ faulty_deletes!(a_place_ends_modulo_32_bits, |t, a, n, p, r| {
     slices::delete_objects(t, a, n, &changed(p, wrapped), r)
 });
 
-faulty_deletes!(results_are_written_before_a_refusal_by_7, |t, a, n, p, r| {
+faulty_deletes!(writes_results_before_a_refusal_by_7, |t, a, n, p, r| {
     let number = slices::delete_objects(t, a, n, p, r);
     if number == 7 {
         let (mut results, room) = (vec![0; p.len() / 8], r.len());

@@ -117,7 +117,7 @@ impl fmt::Display for Tally {
         for (verb, counts) in VERBS.iter().zip(&self.answers) {
             row(verb, counts)?;
         }
-        row("a place there", &self.places)?;
+        row("its places", &self.places)?;
         write!(
             f,
             "\ndamaged memory: {} times no longer whole, {} times whole",

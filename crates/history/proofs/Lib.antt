@@ -4,4 +4,5 @@ pub mod LastWrites
 pub mod Concluding
 pub mod Reading
 pub mod Aborted
+pub mod InPlace
 pub mod DeleteObjects

@@ -2,5 +2,6 @@ pub mod Runs
 pub mod Demand3
 pub mod LastWrites
 pub mod Questions
+pub mod InPlace
 pub mod DeleteObjects
 pub mod Batch

@@ -9,12 +9,12 @@ use lib.ListN.{length, drop}
 use Rattle.machine.specs.Names.{Bytes, pathOk, requestPathOk}
 use Rattle.machine.specs.State.{State, fresh}
 use Rattle.machine.specs.Calls.{Call, DELETE, DELETE-OBJECTS, NamePlace, nothing, badRequest, bufferShort, tooMany, accept, Outcome, _else_then_}
-use Rattle.machine.specs.Steps.{deleteAt, deletePlace, placeResults, afterPlaces, act, replyOf, after, reply, next}
-use Rattle.machine.specs.Lists.{Trace, trace, final}
+use Rattle.machine.specs.Steps.{deleteAt, deletePlace, placeResults, afterPlaces, act, replyOf, after}
+use Rattle.machine.specs.Lists.{trace, final}
 use Rattle.machine.specs.Demand3.{accepted}
 use Rattle.machine.specs.DeleteObjects.{nameAt, singleDeletes, resultsOf, AsDeletes, AmidAnyList}
 use Rattle.machine.proofs.Places.{placed}
-use Rattle.machine.proofs.Traces.{final-append, trace-append, calls-trace}
+use Rattle.machine.proofs.InPlace.{same-in-place}
 
 -- a place is deleted as its DELETE call does
 pub place-is : (A : ℕ) (s : State) (names : Bytes) (p : NamePlace) → deletePlace s names p ≡ act A s (DELETE (nameAt names p))
@@ -65,24 +65,6 @@ module _ (A : ℕ) (s : State) (names : Bytes) (ps : List NamePlace) (over : ℕ
         refused = h .1;
       }
 
--- Amid any list --------------------------------------------------------------------------------------------------------
-
-pub amid-any-list : (A : ℕ) (before : List Call) (names : Bytes) (ps : List NamePlace) (over : ℕ) (b : Bytes) (later : List Call) →
-    accepted (reply A (final A fresh before) (DELETE-OBJECTS names ps over b)) ≡ true → AmidAnyList A before names ps over b later
+pub amid-any-list : (A : ℕ) (before : List Call) (names : Bytes) (ps : List NamePlace) (over : ℕ) (b : Bytes) (later : List Call) → AmidAnyList A before names ps over b later
 amid-any-list A before names ps over b later h =
-    let there : State = final A fresh before in
-    let ds : List Call = singleDeletes names ps in
-    let is = as-deletes A there names ps over b .state h in
-    record {
-      state = final-append A fresh before (DELETE-OBJECTS names ps over b ∷ later) ∙ ap (λ (z : State). final A z later) is
-          ∙ sym (final-append A fresh before (ds ++ later) ∙ final-append A there ds later);
-      first = trace A fresh before;
-      last = trace A (next A there (DELETE-OBJECTS names ps over b)) later;
-      with-call = (reply A there (DELETE-OBJECTS names ps over b), trace-append A fresh before (DELETE-OBJECTS names ps over b ∷ later));
-      with-deletes = (
-        trace A there ds,
-        calls-trace A there ds,
-        trace-append A fresh before (ds ++ later)
-            ∙ ap (λ (t : Trace). trace A fresh before ++ t) (trace-append A there ds later ∙ ap (λ (z : State). trace A there ds ++ trace A z later) (sym is)),
-      );
-    }
+    same-in-place A before (DELETE-OBJECTS names ps over b) (singleDeletes names ps) later (as-deletes A (final A fresh before) names ps over b .state h)

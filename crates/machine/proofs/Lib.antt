@@ -20,4 +20,5 @@ pub mod Commits
 pub mod Alike
 pub mod Unseen
 pub mod Demand3
+pub mod InPlace
 pub mod DeleteObjects

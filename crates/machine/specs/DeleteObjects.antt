@@ -2,7 +2,7 @@
 use Prim.Native.Nat.{ℕ, _+_}
 use mathlib.Core.Path.{_≡_}
 use mathlib.Core.Bool.{true, false, cond}
-use mathlib.Core.List.{List, [], _∷_, _++_, map}
+use mathlib.Core.List.{List, [], _++_, map}
 use lib.Dec.{leb}
 use lib.ListN.{length, take, drop}
 use Rattle.machine.specs.Names.{Bytes}
@@ -10,7 +10,8 @@ use Rattle.machine.specs.State.{State, fresh}
 use Rattle.machine.specs.Calls.{Call, DELETE, DELETE-OBJECTS, NamePlace, nothing, Reply}
 use Rattle.machine.specs.Steps.{reply, next}
 use Rattle.machine.specs.Lists.{Trace, trace, final}
-use Rattle.machine.specs.Demand3.{accepted, calls}
+use Rattle.machine.specs.Demand3.{accepted}
+use Rattle.machine.specs.InPlace.{SameInPlace}
 
 -- the path of a place: the name that is there; "A place outside the name buffer has result 2", as DELETE of the empty path has
 abbrev pub nameAt : (names : Bytes) → NamePlace → Bytes
@@ -35,12 +36,9 @@ pub record AsDeletes (A : ℕ) (s : State) (names : Bytes) (ps : List NamePlace)
   pub refused : accepted (reply A s (DELETE-OBJECTS names ps over results)) ≡ false →
       (next A s (DELETE-OBJECTS names ps over results) ≡ s) × (reply A s (DELETE-OBJECTS names ps over results) .buffer ≡ results)
 
--- "The lists of calls that demand 3 speaks of now include this call": where it is accepted amid a list, the list with its single deletes in its
--- place ends in the same state, and every other call of the two answers the same.
-pub record AmidAnyList (A : ℕ) (before : List Call) (names : Bytes) (ps : List NamePlace) (over : ℕ) (results : Bytes) (later : List Call) : Type 0 where
-  pub state : final A fresh (before ++ DELETE-OBJECTS names ps over results ∷ later) ≡ final A fresh (before ++ (singleDeletes names ps ++ later))
-  -- the replies of the calls before it and after it
-  pub first : Trace
-  pub last : Trace
-  pub with-call : (r : Reply) × (trace A fresh (before ++ DELETE-OBJECTS names ps over results ∷ later) ≡ first ++ (DELETE-OBJECTS names ps over results, r) ∷ last)
-  pub with-deletes : (t : Trace) × (calls t ≡ singleDeletes names ps) × (trace A fresh (before ++ (singleDeletes names ps ++ later)) ≡ first ++ (t ++ last))
+-- "The lists of calls that demand 3 speaks of now include this call": where it is accepted amid a list, its single deletes may stand in its
+-- place.
+abbrev pub AmidAnyList : (A : ℕ) (before : List Call) (names : Bytes) (ps : List NamePlace) (over : ℕ) (results : Bytes) (later : List Call) → Type 0
+AmidAnyList A before names ps over results later =
+    accepted (reply A (final A fresh before) (DELETE-OBJECTS names ps over results)) ≡ true →
+    SameInPlace A before (DELETE-OBJECTS names ps over results) (singleDeletes names ps) later

@@ -9,6 +9,7 @@ pub mod Lists
 pub mod Valid
 pub mod Fits
 pub mod Demand3
+pub mod InPlace
 pub mod DeleteObjects
 pub mod Marked
 pub mod Unmarked

@@ -3,3 +3,6 @@ pub mod Folding
 pub mod Judging
 pub mod Walking
 pub mod Packed
+pub mod LentAgain
+pub mod Lending
+pub mod Listed

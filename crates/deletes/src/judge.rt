@@ -26,6 +26,15 @@ pub(crate) fn refusal(tables: &[u8], arena: &[u8], count: usize, left: usize, re
     0
 }
 
+// The same of a list that is no bytes, over memory lent to be changed, which it leaves as it was.
+pub(crate) fn list_refusal(tables: &mut [u8], arena: &mut [u8], count: usize, results: usize) -> u8
+    ensures { λ r. ⌜ Judged count 0 results (memory (now (tables .entry)) (now (arena .entry))) r
+        × (now (tables .exit) ≡ now (tables .entry))
+        × (now (arena .exit) ≡ now (arena .entry)) ⌝ }
+{
+    refusal(tables, arena, count, 0, results)
+}
+
 // How many of the places are deleted: all, or none where the call is refused.
 pub(crate) fn turns(refusal: u8, count: usize) -> usize
     ensures { λ r. ⌜ r ≡ turnsOf refusal count ⌝ }

@@ -17,7 +17,7 @@ use Rattle.machine.proofs.Fit.{given-fit}
 use Rattle.machine.proofs.KeepsValid.{next-valid}
 use Rattle.layout.specs.Memory.{whole, stateOf}
 use Rattle.layout.proofs.WholeLaws.{whole-stands}
-use Rattle.find.specs.declared.Place.{Place}
+use Rattle.find.specs.declared.Lookup.{Lookup}
 use Rattle.find.specs.Places.{uploadPlace}
 use Rattle.find.proofs.Found.{is-some, is-none}
 use Rattle.contract.specs.Answers.{partList}
@@ -90,10 +90,10 @@ module _ (m : Memory) (u : ℕ) (ns : List ℕ) where
 
 -- What `commit_judge` finds in whole memory ------------------------------------------------------------------------------
 
-module _ (t a : List ℕ) (u : ℕ) (list : Bytes) (place : Place) (place-is : place ≡ uploadPlace (stateOf t a) u) where
+module _ (t a : List ℕ) (u : ℕ) (list : Bytes) (place : Lookup) (place-is : place ≡ uploadPlace (stateOf t a) u) where
   pub open-found : (e : Bool) → place .found ≡ e → isSome (lookup byNumber u (stateOf t a .U)) ≡ e
   unfolding uploadPlace
-  open-found e f = sym (ap (λ (p : Place). p .found) place-is) ∙ f
+  open-found e f = sym (ap (λ (p : Lookup). p .found) place-is) ∙ f
 
   pub missing-judged : place .found ≡ false → 2 ≡ resultOf (outcome (COMMIT u (partList list)) (memory t a))
   missing-judged e = not-open (memory t a) u (partList list) (open-found false e)

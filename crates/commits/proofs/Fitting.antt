@@ -20,9 +20,9 @@ use Rattle.machine.proofs.Options.{both}
 use Rattle.machine.proofs.Fit.{fits-fit, fit-length, distinct-snoc, found-append}
 use Rattle.layout.specs.Memory.{whole, stateOf, Stands}
 use Rattle.layout.proofs.WholeLaws.{whole-stands}
-use Rattle.find.specs.declared.Place.{Place}
-use Rattle.find.specs.declared.Parts.{Parts}
-use Rattle.find.specs.Places.{partPlace, partsOf}
+use Rattle.find.specs.declared.Lookup.{Lookup}
+use Rattle.find.specs.declared.PassedParts.{PassedParts}
+use Rattle.find.specs.Places.{partPlace, passedParts}
 use Rattle.find.proofs.Found.{is-some}
 use Rattle.contract.specs.Answers.{partList}
 use Rattle.join_order.proofs.Listed.{fit-count}
@@ -112,10 +112,10 @@ there-is : {X : Type 0} (o : Option X) → isSome o ≡ isSome o
 there-is none = refl
 there-is (some x) = refl
 
-module _ (s : State) (u : ℕ) (x : Upload) (list : Bytes) (i n : ℕ) (told : n ≡ numberAt list i) (place : Place) (place-is : place ≡ partPlace s u x n) where
+module _ (s : State) (u : ℕ) (x : Upload) (list : Bytes) (i n : ℕ) (told : n ≡ numberAt list i) (place : Lookup) (place-is : place ≡ partPlace s u x n) where
   there : isSome (lookup byNumber n (x .parts)) ≡ place .found
   unfolding partPlace
-  there = there-is (lookup byNumber n (x .parts)) ∙ sym (ap (λ (p : Place). p .found) place-is)
+  there = there-is (lookup byNumber n (x .parts)) ∙ sym (ap (λ (p : Lookup). p .found) place-is)
 
   pub number-absent : place .found ≡ false → false ≡ numberFits (x .parts) list i
   unfolding numberFits
@@ -129,17 +129,17 @@ pub upload-ok : (A : ℕ) (s : State) → Valid A s → (u : ℕ) (x : Upload) �
 upload-ok A s v u x f = every-lookup numbers (UploadOk (s .N)) u x (s .U) (v .upload) f
 
 -- what `list_fits` finds in whole memory
-module _ (t a : List ℕ) (b : AreBytes t) (w : whole t a ≡ true) (u : ℕ) (parts : Parts) where
+module _ (t a : List ℕ) (b : AreBytes t) (w : whole t a ≡ true) (u : ℕ) (parts : PassedParts) where
   abbrev s : State
   s = stateOf t a
 
   abbrev h : Stands t a s
   h = whole-stands t a b w
 
-  module _ (x : Upload) (f : lookup byNumber u (s .U) ≡ some x) (parts-are : parts ≡ partsOf s u x) where
+  module _ (x : Upload) (f : lookup byNumber u (s .U) ≡ some x) (parts-are : parts ≡ passedParts s u x) where
     count-is : parts .count ≡ length (x .parts)
-    unfolding partsOf
-    count-is = ap (λ (k : Parts). k .count) parts-are
+    unfolding passedParts
+    count-is = ap (λ (k : PassedParts). k .count) parts-are
 
     pub unfit-list : (list : Bytes) → (length list ≡ 2 * parts .count → ⊥) → false ≡ fits (partList list) (x .parts)
     unfit-list list other =
@@ -149,7 +149,7 @@ module _ (t a : List ℕ) (b : AreBytes t) (w : whole t a ≡ true) (u : ℕ) (p
     pub fit-list : (list : Bytes) → length list ≡ 2 * parts .count → Passed (x .parts) list (parts .count) → true ≡ fits (partList list) (x .parts)
     fit-list list e p = passed-all (x .parts) list (e ∙ ap (λ (n : ℕ). 2 * n) count-is) (subst (Passed (x .parts) list) count-is p)
 
-  pub count-few : isSome (lookup byNumber u (s .U)) ≡ true → ((x : Upload) → lookup byNumber u (s .U) ≡ some x → parts ≡ partsOf s u x) → parts .count ≤ 256
+  pub count-few : isSome (lookup byNumber u (s .U)) ≡ true → ((x : Upload) → lookup byNumber u (s .U) ≡ some x → parts ≡ passedParts s u x) → parts .count ≤ 256
   count-few is-open parts-are =
       let x = is-some (lookup byNumber u (s .U)) is-open in
       omega (arith, count-is (x .0) (x .1) (parts-are (x .0) (x .1)), few-parts t a s h u (x .0) (x .1))

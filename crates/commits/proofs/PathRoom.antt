@@ -25,7 +25,7 @@ use Rattle.row.specs.declared.Head.{Head}
 use Rattle.row.specs.Row.{headAt, headLength, span}
 use Rattle.layout.specs.Memory.{whole, stateOf, Stands}
 use Rattle.layout.proofs.WholeLaws.{whole-stands}
-use Rattle.find.specs.declared.Place.{Place}
+use Rattle.find.specs.declared.Lookup.{Lookup}
 use Rattle.find.specs.Places.{uploadPlace}
 use Rattle.find.proofs.Found.{is-some}
 use Rattle.contract.specs.Made.{resultOf}
@@ -53,7 +53,7 @@ module _ (A : ℕ) (s : State) (v : Valid A s) (u : ℕ) (p : Bytes) (y : Object
       ∙ ap (λ (b : Bool). cond b 0 4) same-counted
 
 -- what `commit_room` reads off whole memory
-module _ (t a : List ℕ) (b : AreBytes t) (w : whole t a ≡ true) (u : ℕ) (place : Place) (place-is : place ≡ uploadPlace (stateOf t a) u) where
+module _ (t a : List ℕ) (b : AreBytes t) (w : whole t a ≡ true) (u : ℕ) (place : Lookup) (place-is : place ≡ uploadPlace (stateOf t a) u) where
   abbrev s : State
   s = stateOf t a
 

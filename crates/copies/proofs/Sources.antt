@@ -22,7 +22,7 @@ use Rattle.row.specs.Row.{encodeRows, contentsOf, headAt, numbersLength}
 use Rattle.layout.specs.Header.{headerLength}
 use Rattle.layout.specs.Memory.{objectRow, whole, stateOf, Stands, arenaMost}
 use Rattle.layout.proofs.WholeLaws.{whole-stands}
-use Rattle.find.specs.declared.Place.{Place}
+use Rattle.find.specs.declared.Lookup.{Lookup}
 use Rattle.find.specs.Places.{beforeObject, afterObject, objectPlace}
 use Rattle.find.proofs.Splits.{object-found}
 use Rattle.find.proofs.RowsAt.{At, row-at}
@@ -35,7 +35,7 @@ use Rattle.contract.proofs.Judging.{result-pass, result-stop, passed, result-fo
 use Rattle.copies.specs.Source.{sourceOutcome}
 
 -- the source, read off whole memory
-module _ (t a p : List ℕ) (b : AreBytes t) (w : whole t a ≡ true) (place : Place) (place-is : place ≡ objectPlace (stateOf t a) p) (there : isSome (lookup byBytes p (stateOf t a .O)) ≡ true) where
+module _ (t a p : List ℕ) (b : AreBytes t) (w : whole t a ≡ true) (place : Lookup) (place-is : place ≡ objectPlace (stateOf t a) p) (there : isSome (lookup byBytes p (stateOf t a .O)) ≡ true) where
   abbrev s : State
   s = stateOf t a
 
@@ -53,11 +53,11 @@ module _ (t a p : List ℕ) (b : AreBytes t) (w : whole t a ≡ true) (place : P
 
   at-is : place .at ≡ headerLength + length (encodeRows (beforeObject s p))
   unfolding objectPlace
-  at-is = ap (λ (z : Place). z .at) place-is
+  at-is = ap (λ (z : Lookup). z .at) place-is
 
   base-is : place .base ≡ length (contentsOf (beforeObject s p))
   unfolding objectPlace
-  base-is = ap (λ (z : Place). z .base) place-is
+  base-is = ap (λ (z : Lookup). z .base) place-is
 
   pub head-inside : place .at + numbersLength ≤ length t
   head-inside = omega (arith, at-is, here .inside)

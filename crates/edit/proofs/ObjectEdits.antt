@@ -28,10 +28,10 @@ use Rattle.layout.proofs.TestLaws.{stored-path-length}
 use Rattle.layout.proofs.ObjectLaws.{Etagged, etagged, object-encodable}
 use Rattle.layout.proofs.WholeLaws.{whole-stands}
 use Rattle.layout.proofs.StandsLaws.{header-back}
-use Rattle.layout.specs.declared.Offset.{Offset}
+use Rattle.find.specs.declared.RowPlace.{RowPlace}
 use Rattle.layout.specs.Header.{headerOf, headed, headerAt, headerLength}
-use Rattle.find.specs.declared.Place.{Place}
-use Rattle.find.specs.Places.{behind, beforeObject, afterObject, fromObject, objectPlace}
+use Rattle.find.specs.declared.Lookup.{Lookup}
+use Rattle.find.specs.Places.{placeAfter, beforeObject, afterObject, fromObject, objectPlace}
 use Rattle.find.proofs.Splits.{object-place, object-found}
 use Rattle.find.proofs.Found.{is-some}
 use Rattle.edit.specs.Objects.{objectBehind, Addable}
@@ -55,20 +55,20 @@ module _ (t a : List ℕ) (b : AreBytes t) (w : whole t a ≡ true) where
   header-is : headerAt t ≡ headerOf (length a) s
   header-is = header-back t a s stands
 
-  module _ (p : List ℕ) (place : Place) (place-is : place ≡ objectPlace s p) (end : Offset) (end-is : end ≡ behind (rowsOf s)) where
+  module _ (p : List ℕ) (place : Lookup) (place-is : place ≡ objectPlace s p) (end : RowPlace) (end-is : end ≡ placeAfter (rowsOf s)) where
     at-is : place .at ≡ headerLength + length (encodeRows (beforeObject s p))
     unfolding objectPlace
-    at-is = ap (λ (x : Place). x .at) place-is
+    at-is = ap (λ (x : Lookup). x .at) place-is
 
     base-is : place .base ≡ length (contentsOf (beforeObject s p))
     unfolding objectPlace
-    base-is = ap (λ (x : Place). x .base) place-is
+    base-is = ap (λ (x : Lookup). x .base) place-is
 
     used-is : end .at ≡ headerLength + length (encodeRows (rowsOf s))
-    used-is = ap (λ (x : Offset). x .at) end-is
+    used-is = ap (λ (x : RowPlace). x .at) end-is
 
     held-is : end .base ≡ length (contentsOf (rowsOf s))
-    held-is = ap (λ (x : Offset). x .base) end-is
+    held-is = ap (λ (x : RowPlace). x .base) end-is
 
     -- taken out
     module _ (there : isSome (lookup byBytes p (s .O)) ≡ true) where

@@ -21,18 +21,18 @@ use Rattle.layout.specs.Memory.{rowsOf, whole, stateOf, Stands}
 use Rattle.layout.proofs.RowCounts.{length-contents}
 use Rattle.layout.proofs.WholeLaws.{whole-stands}
 use Rattle.layout.proofs.StandsLaws.{stands-state, stands-whole}
-use Rattle.layout.specs.declared.Offset.{Offset}
-use Rattle.find.specs.declared.Place.{Place}
-use Rattle.find.specs.Places.{behind, objectPlace}
+use Rattle.find.specs.declared.RowPlace.{RowPlace}
+use Rattle.find.specs.declared.Lookup.{Lookup}
+use Rattle.find.specs.Places.{placeAfter, objectPlace}
 use Rattle.find.proofs.Found.{is-none}
 use Rattle.edit.specs.Objects.{objectBehind, plainWith, Addable}
 use Rattle.edit.proofs.MapEdits.{remove-absent, insert-removed}
 use Rattle.edit.proofs.Tail.{tail-stands, tail-read}
 
 -- the place says whether there is one
-pub place-found : (s : State) (p : List ℕ) (place : Place) (b : Bool) → place ≡ objectPlace s p → place .found ≡ b → isSome (lookup byBytes p (s .O)) ≡ b
+pub place-found : (s : State) (p : List ℕ) (place : Lookup) (b : Bool) → place ≡ objectPlace s p → place .found ≡ b → isSome (lookup byBytes p (s .O)) ≡ b
 unfolding objectPlace
-place-found s p place b is e = sym (ap (λ (x : Place). x .found) is) ∙ e
+place-found s p place b is e = sym (ap (λ (x : Lookup). x .found) is) ∙ e
 
 -- taking out an object that is not there changes nothing
 pub free-already : (t a p : List ℕ) → AreBytes t → whole t a ≡ true → isSome (lookup byBytes p (stateOf t a .O)) ≡ false → Stands t a (withoutObject (stateOf t a) p)
@@ -42,7 +42,7 @@ free-already t a p b w e =
 -- memory t₁, a₁ stands for s without the object at p; content then goes after the last byte held
 module _ (s : State) (p content : List ℕ) (stamp : ℕ) (digest : Digest) (A : ℕ) (v : Valid A s) (valid : Valid A (withObject s p (plainWith stamp digest content)))
     (t₁ a₁ : List ℕ) (h : Stands t₁ a₁ (withoutObject s p)) (keeps : length a₁ ≡ A)
-    (end : Offset) (end-is : end ≡ behind (rowsOf (stateOf t₁ a₁))) where
+    (end : RowPlace) (end-is : end ≡ placeAfter (rowsOf (stateOf t₁ a₁))) where
   abbrev s₁ : State
   s₁ = withoutObject s p
 
@@ -50,7 +50,7 @@ module _ (s : State) (p content : List ℕ) (stamp : ℕ) (digest : Digest) (A :
   y = plainWith stamp digest content
 
   held-is : end .base ≡ held s₁
-  held-is = ap (λ (x : Offset). x .base) end-is ∙ ap (λ (x : State). length (contentsOf (rowsOf x))) (stands-state t₁ a₁ s₁ h) ∙ length-contents s₁
+  held-is = ap (λ (x : RowPlace). x .base) end-is ∙ ap (λ (x : State). length (contentsOf (rowsOf x))) (stands-state t₁ a₁ s₁ h) ∙ length-contents s₁
 
   pub put-room : end .base + length content ≤ length a₁
   put-room = let r = valid .room in omega (arith, held-is, held-put s p y, held-delete s p)

@@ -21,10 +21,10 @@ use Rattle.layout.specs.Rules.{plainKind}
 use Rattle.layout.specs.Memory.{rowsOf, objectRow, stateOf, Stands}
 use Rattle.layout.proofs.WholeLaws.{whole-stands}
 use Rattle.layout.proofs.StandsLaws.{stands-state}
-use Rattle.layout.specs.declared.Offset.{Offset}
+use Rattle.find.specs.declared.RowPlace.{RowPlace}
 use Rattle.layout.specs.Header.{headerLength}
-use Rattle.find.specs.declared.Place.{Place}
-use Rattle.find.specs.Places.{behind, beforeObject, afterObject, objectPlace}
+use Rattle.find.specs.declared.Lookup.{Lookup}
+use Rattle.find.specs.Places.{placeAfter, beforeObject, afterObject, objectPlace}
 use Rattle.find.proofs.Splits.{object-found}
 use Rattle.find.proofs.RowsAt.{At, row-at}
 use Rattle.find.proofs.Found.{is-some}
@@ -34,7 +34,7 @@ use Rattle.edit_copy.specs.Copy.{contentIn, contentAt, Copiable}
 
 module _ (t a p q : List ℕ) (b : AreBytes t) (stamp : ℕ) (digest : Digest) (pre : Copiable t a stamp digest p q) (other : same p q ≡ false)
     (t₁ a₁ : List ℕ) (h : Stands t₁ a₁ (withoutObject (stateOf t a) q)) (keeps : length a₁ ≡ length a)
-    (end : Offset) (end-is : end ≡ behind (rowsOf (stateOf t₁ a₁))) (place : Place) (place-is : place ≡ objectPlace (stateOf t₁ a₁) p) where
+    (end : RowPlace) (end-is : end ≡ placeAfter (rowsOf (stateOf t₁ a₁))) (place : Lookup) (place-is : place ≡ objectPlace (stateOf t₁ a₁) p) where
   abbrev s : State
   s = stateOf t a
 
@@ -68,11 +68,11 @@ module _ (t a p q : List ℕ) (b : AreBytes t) (stamp : ℕ) (digest : Digest) (
 
   at-is : place .at ≡ headerLength + length (encodeRows (beforeObject s₁ p))
   unfolding objectPlace
-  at-is = ap (λ (z : Place). z .at) place-of
+  at-is = ap (λ (z : Lookup). z .at) place-of
 
   base-is : place .base ≡ length (contentsOf (beforeObject s₁ p))
   unfolding objectPlace
-  base-is = ap (λ (z : Place). z .base) place-of
+  base-is = ap (λ (z : Lookup). z .base) place-of
 
   pub source-inside : place .at + headLength ≤ length t₁
   source-inside = omega (arith, at-is, here .inside)

@@ -25,10 +25,10 @@ use Rattle.layout.specs.Memory.{rowsOf, objectRow, stateOf, Stands}
 use Rattle.layout.proofs.TestLaws.{stored-path-length}
 use Rattle.layout.proofs.WholeLaws.{whole-stands}
 use Rattle.layout.proofs.StandsLaws.{length-header, header-back}
-use Rattle.layout.specs.declared.Offset.{Offset}
+use Rattle.find.specs.declared.RowPlace.{RowPlace}
 use Rattle.layout.specs.Header.{headerOf, headed, encodeHeader, headerAt, headerLength}
-use Rattle.find.specs.declared.Place.{Place}
-use Rattle.find.specs.Places.{behind, beforeObject, afterObject, objectPlace}
+use Rattle.find.specs.declared.Lookup.{Lookup}
+use Rattle.find.specs.Places.{placeAfter, beforeObject, afterObject, objectPlace}
 use Rattle.find.proofs.Splits.{object-found}
 use Rattle.find.proofs.RowsAt.{At, row-at}
 use Rattle.find.proofs.Found.{is-some}
@@ -42,8 +42,8 @@ contents-cons : (r r′ : Row) (rs : List Row) → r .content ≡ r′ .content 
 unfolding contentsOf
 contents-cons r r′ rs e = ap (λ (d : List ℕ). d ++ contentsOf rs) e
 
-module _ (t a p : List ℕ) (b : AreBytes t) (stamp : ℕ) (digest : Digest) (pre : Copiable t a stamp digest p p) (place : Place) (place-is : place ≡ objectPlace (stateOf t a) p)
-    (end : Offset) (end-is : end ≡ behind (rowsOf (stateOf t a))) where
+module _ (t a p : List ℕ) (b : AreBytes t) (stamp : ℕ) (digest : Digest) (pre : Copiable t a stamp digest p p) (place : Lookup) (place-is : place ≡ objectPlace (stateOf t a) p)
+    (end : RowPlace) (end-is : end ≡ placeAfter (rowsOf (stateOf t a))) where
   abbrev s : State
   s = stateOf t a
 
@@ -83,10 +83,10 @@ module _ (t a p : List ℕ) (b : AreBytes t) (stamp : ℕ) (digest : Digest) (pr
 
   at-is : place .at ≡ headerLength + length (encodeRows xs)
   unfolding objectPlace
-  at-is = ap (λ (q : Place). q .at) place-is
+  at-is = ap (λ (q : Lookup). q .at) place-is
 
   used-is : end .at ≡ headerLength + length (encodeRows (rowsOf s))
-  used-is = ap (λ (q : Offset). q .at) end-is
+  used-is = ap (λ (q : RowPlace). q .at) end-is
 
   object-ok : ObjectOk p y
   object-ok = every-lookup bytes ObjectOk p y (s′ .O) (pre .valid .object) (lookup-insert bytes p y (s .O))

@@ -25,10 +25,10 @@ use Rattle.layout.specs.Memory.{rowsOf, partRow, whole, stateOf, Stands}
 use Rattle.layout.proofs.UploadLaws.{part-encodable}
 use Rattle.layout.proofs.WholeLaws.{whole-stands}
 use Rattle.layout.proofs.StandsLaws.{header-back}
-use Rattle.layout.specs.declared.Offset.{Offset}
+use Rattle.find.specs.declared.RowPlace.{RowPlace}
 use Rattle.layout.specs.Header.{headerOf, headed, headerAt, headerLength}
-use Rattle.find.specs.declared.Place.{Place}
-use Rattle.find.specs.Places.{behind, beforePart, afterPart, fromPart, partPlace}
+use Rattle.find.specs.declared.Lookup.{Lookup}
+use Rattle.find.specs.Places.{placeAfter, beforePart, afterPart, fromPart, partPlace}
 use Rattle.find.proofs.RowsAt.{row-at}
 use Rattle.find.proofs.Splits.{part-place, part-found}
 use Rattle.find.proofs.Found.{is-some}
@@ -38,8 +38,8 @@ use Rattle.edit_uploads.specs.Parts.{withoutPart, partBehind}
 use Rattle.edit_uploads.proofs.PartStates.{open-once, same-uploads, parts-without, without-part-valid}
 
 module _ (t a : List ℕ) (b : AreBytes t) (w : whole t a ≡ true) (u n : ℕ) (x : Upload) (is-open : lookup byNumber u (stateOf t a .U) ≡ some x)
-    (place : Place) (place-is : (y : Upload) → lookup byNumber u (stateOf t a .U) ≡ some y → place ≡ partPlace (stateOf t a) u y n)
-    (end : Offset) (end-is : end ≡ behind (rowsOf (stateOf t a))) (header : Header) (read : header ≡ headerAt t) where
+    (place : Lookup) (place-is : (y : Upload) → lookup byNumber u (stateOf t a .U) ≡ some y → place ≡ partPlace (stateOf t a) u y n)
+    (end : RowPlace) (end-is : end ≡ placeAfter (rowsOf (stateOf t a))) (header : Header) (read : header ≡ headerAt t) where
   abbrev s : State
   s = stateOf t a
 
@@ -54,17 +54,17 @@ module _ (t a : List ℕ) (b : AreBytes t) (w : whole t a ≡ true) (u n : ℕ) 
 
   at-is : place .at ≡ headerLength + length (encodeRows (beforePart s u x n))
   unfolding partPlace
-  at-is = ap (λ (k : Place). k .at) (place-is x is-open)
+  at-is = ap (λ (k : Lookup). k .at) (place-is x is-open)
 
   base-is : place .base ≡ length (contentsOf (beforePart s u x n))
   unfolding partPlace
-  base-is = ap (λ (k : Place). k .base) (place-is x is-open)
+  base-is = ap (λ (k : Lookup). k .base) (place-is x is-open)
 
   used-is : end .at ≡ headerLength + length (encodeRows (rowsOf s))
-  used-is = ap (λ (k : Offset). k .at) end-is
+  used-is = ap (λ (k : RowPlace). k .at) end-is
 
   held-is : end .base ≡ length (contentsOf (rowsOf s))
-  held-is = ap (λ (k : Offset). k .base) end-is
+  held-is = ap (λ (k : RowPlace). k .base) end-is
 
   abbrev counting : ℕ → Header
   counting m = record { arena = header .arena; next = header .next; objects = header .objects; uploads = header .uploads; parts = m }

@@ -20,9 +20,9 @@ use Rattle.layout.specs.Memory.{rowsOf, whole, stateOf, Stands}
 use Rattle.layout.proofs.RowCounts.{length-contents}
 use Rattle.layout.proofs.WholeLaws.{whole-stands}
 use Rattle.layout.proofs.StandsLaws.{stands-state, stands-whole}
-use Rattle.layout.specs.declared.Offset.{Offset}
-use Rattle.find.specs.declared.Place.{Place}
-use Rattle.find.specs.Places.{behind, partPlace}
+use Rattle.find.specs.declared.RowPlace.{RowPlace}
+use Rattle.find.specs.declared.Lookup.{Lookup}
+use Rattle.find.specs.Places.{placeAfter, partPlace}
 use Rattle.find.proofs.Found.{is-none}
 use Rattle.edit.proofs.MapEdits.{remove-absent, insert-removed}
 use Rattle.edit.proofs.Tail.{tail-stands, tail-read}
@@ -40,12 +40,12 @@ module _ {K X : Type 0} {cmp : K → K → Ordering} (L : Lawful cmp) where
       (λ q. simp q (ap (λ (r : Map K X). e ∷ r) (insert-again k v w m)))
 
 -- the place says whether there is one
-place-found : (s : State) (u : ℕ) (x : Upload) (n : ℕ) (place : Place) (b : Bool) → place ≡ partPlace s u x n → place .found ≡ b → isSome (lookup byNumber n (x .parts)) ≡ b
+place-found : (s : State) (u : ℕ) (x : Upload) (n : ℕ) (place : Lookup) (b : Bool) → place ≡ partPlace s u x n → place .found ≡ b → isSome (lookup byNumber n (x .parts)) ≡ b
 unfolding partPlace
-place-found s u x n place b is e = sym (ap (λ (k : Place). k .found) is) ∙ e
+place-found s u x n place b is e = sym (ap (λ (k : Lookup). k .found) is) ∙ e
 
 module _ (t a : List ℕ) (w : whole t a ≡ true) (u n : ℕ) (x : Upload) (is-open : lookup byNumber u (stateOf t a .U) ≡ some x)
-    (place : Place) (place-is : (y : Upload) → lookup byNumber u (stateOf t a .U) ≡ some y → place ≡ partPlace (stateOf t a) u y n) where
+    (place : Lookup) (place-is : (y : Upload) → lookup byNumber u (stateOf t a .U) ≡ some y → place ≡ partPlace (stateOf t a) u y n) where
   pub free-there : place .found ≡ true → PartRemovable t a u n
   free-there e = record { is-whole = w; upload = x; is-open = is-open; there = place-found (stateOf t a) u x n place true (place-is x is-open) e }
 
@@ -62,7 +62,7 @@ module _ (t a : List ℕ) (w : whole t a ≡ true) (u n : ℕ) (x : Upload) (is-
 module _ (s : State) (u n : ℕ) (x : Upload) (is-open : lookup byNumber u (s .U) ≡ some x) (content : List ℕ) (digest : Digest) (A : ℕ) (v : Valid A s)
     (valid : Valid A (withUpload s u (withPart x n (partWith digest content)))) (t₁ a₁ : List ℕ)
     (h : (z : Upload) → lookup byNumber u (s .U) ≡ some z → Stands t₁ a₁ (withUpload s u (withoutPart z n))) (keeps : length a₁ ≡ A)
-    (end : Offset) (end-is : end ≡ behind (rowsOf (stateOf t₁ a₁))) where
+    (end : RowPlace) (end-is : end ≡ placeAfter (rowsOf (stateOf t₁ a₁))) where
   abbrev x₁ : Upload
   x₁ = withoutPart x n
 
@@ -76,7 +76,7 @@ module _ (s : State) (u n : ℕ) (x : Upload) (is-open : lookup byNumber u (s .U
   ok = every-lookup numbers (UploadOk (s .N)) u x (s .U) (v .upload) is-open
 
   held-is : end .base ≡ held s₁
-  held-is = ap (λ (k : Offset). k .base) end-is ∙ ap (λ (k : State). length (contentsOf (rowsOf k))) (stands-state t₁ a₁ s₁ (h x is-open)) ∙ length-contents s₁
+  held-is = ap (λ (k : RowPlace). k .base) end-is ∙ ap (λ (k : State). length (contentsOf (rowsOf k))) (stands-state t₁ a₁ s₁ (h x is-open)) ∙ length-contents s₁
 
   pub put-room : end .base + length content ≤ length a₁
   put-room = let r = valid .room in omega (arith, held-is, held-part s u n x y is-open, held-without s u x is-open n)

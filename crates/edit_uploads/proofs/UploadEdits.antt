@@ -29,11 +29,11 @@ use Rattle.layout.proofs.UploadLaws.{upload-encodable}
 use Rattle.layout.proofs.WholeLaws.{whole-stands}
 use Rattle.layout.proofs.StandsLaws.{header-back}
 use Rattle.layout.proofs.RowCounts.{length-contents}
-use Rattle.layout.specs.declared.Offset.{Offset}
+use Rattle.find.specs.declared.RowPlace.{RowPlace}
 use Rattle.layout.specs.Header.{headerOf, headed, headerAt, headerLength}
-use Rattle.find.specs.declared.Place.{Place}
-use Rattle.find.specs.declared.Parts.{Parts}
-use Rattle.find.specs.Places.{behind, beforeUpload, beforeParts, afterUpload, throughParts, uploadPlace, partsOf}
+use Rattle.find.specs.declared.Lookup.{Lookup}
+use Rattle.find.specs.declared.PassedParts.{PassedParts}
+use Rattle.find.specs.Places.{placeAfter, beforeUpload, beforeParts, afterUpload, throughParts, uploadPlace, passedParts}
 use Rattle.find.proofs.Splits.{upload-found, parts-behind}
 use Rattle.find.proofs.Found.{is-some}
 use Rattle.edit.proofs.Changes.{new-upload-rows, without-upload-rows}
@@ -61,7 +61,7 @@ rotated-none a at =
     let i : at + 0 + 0 ≡ at = omega arith in
     ap (λ (n : ℕ). rotated a at n 0) z ∙ ap (λ (n : ℕ). take at a ++ drop n a) i ∙ take-append-drop at a
 
-module _ (t a : List ℕ) (b : AreBytes t) (w : whole t a ≡ true) (end : Offset) (end-is : end ≡ behind (rowsOf (stateOf t a)))
+module _ (t a : List ℕ) (b : AreBytes t) (w : whole t a ≡ true) (end : RowPlace) (end-is : end ≡ placeAfter (rowsOf (stateOf t a)))
     (header : Header) (read : header ≡ headerAt t) where
   abbrev s : State
   s = stateOf t a
@@ -79,10 +79,10 @@ module _ (t a : List ℕ) (b : AreBytes t) (w : whole t a ≡ true) (end : Offse
   parts-are = ap (λ (h : Header). h .parts) header-is
 
   used-is : end .at ≡ headerLength + length (encodeRows (rowsOf s))
-  used-is = ap (λ (x : Offset). x .at) end-is
+  used-is = ap (λ (x : RowPlace). x .at) end-is
 
   held-is : end .base ≡ length (contentsOf (rowsOf s))
-  held-is = ap (λ (x : Offset). x .base) end-is
+  held-is = ap (λ (x : RowPlace). x .base) end-is
 
   -- opened
   module _ (stamp : ℕ) (p : List ℕ) (valid : Valid (length a) (withNext (withUpload s (s .N) (newUpload stamp p)))) where
@@ -155,8 +155,8 @@ module _ (t a : List ℕ) (b : AreBytes t) (w : whole t a ≡ true) (end : Offse
         }
 
   -- taken out
-  module _ (u : ℕ) (there : isSome (lookup byNumber u (s .U)) ≡ true) (place : Place) (place-is : place ≡ uploadPlace s u)
-      (parts : Parts) (parts-told : (x : Upload) → lookup byNumber u (s .U) ≡ some x → parts ≡ partsOf s u x) where
+  module _ (u : ℕ) (there : isSome (lookup byNumber u (s .U)) ≡ true) (place : Lookup) (place-is : place ≡ uploadPlace s u)
+      (parts : PassedParts) (parts-told : (x : Upload) → lookup byNumber u (s .U) ≡ some x → parts ≡ passedParts s u x) where
     abbrev y : Upload
     y = is-some (lookup byNumber u (s .U)) there .0
 
@@ -172,25 +172,25 @@ module _ (t a : List ℕ) (b : AreBytes t) (w : whole t a ≡ true) (end : Offse
 
     at-is : place .at ≡ headerLength + length (encodeRows (beforeUpload s u))
     unfolding uploadPlace
-    at-is = ap (λ (k : Place). k .at) place-is
+    at-is = ap (λ (k : Lookup). k .at) place-is
 
     base-is : place .base ≡ length (contentsOf (beforeUpload s u))
     unfolding uploadPlace
-    base-is = ap (λ (k : Place). k .base) place-is
+    base-is = ap (λ (k : Lookup). k .base) place-is
 
     count-is : parts .count ≡ length (y .parts)
-    unfolding partsOf
-    count-is = ap (λ (k : Parts). k .count) (parts-told y found)
+    unfolding passedParts
+    count-is = ap (λ (k : PassedParts). k .count) (parts-told y found)
 
-    at-through : parts .at ≡ headerLength + length (encodeRows (throughParts s u y))
-    unfolding partsOf
-    at-through = ap (λ (k : Parts). k .at) (parts-told y found)
+    at-through : parts .next .at ≡ headerLength + length (encodeRows (throughParts s u y))
+    unfolding passedParts
+    at-through = ap (λ (k : PassedParts). k .next .at) (parts-told y found)
 
-    base-through : parts .base ≡ length (contentsOf (throughParts s u y))
-    unfolding partsOf
-    base-through = ap (λ (k : Parts). k .base) (parts-told y found)
+    base-through : parts .next .base ≡ length (contentsOf (throughParts s u y))
+    unfolding passedParts
+    base-through = ap (λ (k : PassedParts). k .next .base) (parts-told y found)
 
-    parts-at : parts .at ≡ place .at + length (encodeRows gone)
+    parts-at : parts .next .at ≡ place .at + length (encodeRows gone)
     parts-at =
         omega (
           arith,
@@ -200,7 +200,7 @@ module _ (t a : List ℕ) (b : AreBytes t) (w : whole t a ≡ true) (end : Offse
           length-append (encodeRows (beforeUpload s u)) (encodeRows gone),
         )
 
-    parts-base : parts .base ≡ place .base + length (contentsOf gone)
+    parts-base : parts .next .base ≡ place .base + length (contentsOf gone)
     parts-base =
         omega (
           arith,
@@ -210,7 +210,7 @@ module _ (t a : List ℕ) (b : AreBytes t) (w : whole t a ≡ true) (end : Offse
           length-append (contentsOf (beforeUpload s u)) (contentsOf gone),
         )
 
-    rows-length : end .at ≡ parts .at + length (encodeRows (afterUpload s u))
+    rows-length : end .at ≡ parts .next .at + length (encodeRows (afterUpload s u))
     rows-length =
         omega (
           arith,
@@ -220,7 +220,7 @@ module _ (t a : List ℕ) (b : AreBytes t) (w : whole t a ≡ true) (end : Offse
           length-append (encodeRows (throughParts s u y)) (encodeRows (afterUpload s u)),
         )
 
-    data-length : end .base ≡ parts .base + length (contentsOf (afterUpload s u))
+    data-length : end .base ≡ parts .next .base + length (contentsOf (afterUpload s u))
     data-length =
         omega (
           arith,
@@ -240,20 +240,20 @@ module _ (t a : List ℕ) (b : AreBytes t) (w : whole t a ≡ true) (end : Offse
         rw (header-is, one, less)
 
     pub record Removal : Type 0 where
-      pub span : place .at ≤ parts .at
-      pub size : place .base ≤ parts .base
+      pub span : place .at ≤ parts .next .at
+      pub size : place .base ≤ parts .next .base
       pub uploads : 1 ≤ header .uploads
       pub count : parts .count ≤ header .parts
       pub few : header .parts ≤ partsMost
-      pub rows : (headerLength ≤ place .at) × (place .at + (parts .at - place .at) ≤ end .at) × (end .at ≤ length t)
-      pub content : (place .base + (parts .base - place .base) ≤ end .base) × (end .base ≤ length a)
-      pub stands : (t′ a′ : List ℕ) → t′ ≡ headed (spliced t (place .at) (parts .at - place .at) (end .at) []) closed
-          → a′ ≡ spliced a (place .base) (parts .base - place .base) (end .base) [] → length t′ ≡ length t → length a′ ≡ length a → Stands t′ a′ (withoutUpload s u)
+      pub rows : (headerLength ≤ place .at) × (place .at + (parts .next .at - place .at) ≤ end .at) × (end .at ≤ length t)
+      pub content : (place .base + (parts .next .base - place .base) ≤ end .base) × (end .base ≤ length a)
+      pub stands : (t′ a′ : List ℕ) → t′ ≡ headed (spliced t (place .at) (parts .next .at - place .at) (end .at) []) closed
+          → a′ ≡ spliced a (place .base) (parts .next .base - place .base) (end .base) [] → length t′ ≡ length t → length a′ ≡ length a → Stands t′ a′ (withoutUpload s u)
 
     pub removal : Removal
     removal =
-        let span : place .at ≤ parts .at = omega (arith, parts-at) in
-        let size : place .base ≤ parts .base = omega (arith, parts-base) in
+        let span : place .at ≤ parts .next .at = omega (arith, parts-at) in
+        let size : place .base ≤ parts .next .base = omega (arith, parts-base) in
         record {
           span = span;
           size = size;
@@ -267,6 +267,6 @@ module _ (t a : List ℕ) (b : AreBytes t) (w : whole t a ≡ true) (end : Offse
           stands =
               λ t′ a′ e e′ l l′.
               removed t a s stands (withoutUpload s u) (without-upload-valid (length a) s u (stands .valid)) _ t′ a′ _ closed-is e l l′ (beforeUpload s u) gone (afterUpload s u)
-              (place .at) (parts .at - place .at) (end .at) (place .base) (parts .base - place .base) (end .base) (upload-found s u y found) (without-upload-rows s u y found)
+              (place .at) (parts .next .at - place .at) (end .at) (place .base) (parts .next .base - place .base) (end .base) (upload-found s u y found) (without-upload-rows s u y found)
               at-is (omega (arith, parts-at)) used-is refl base-is (omega (arith, parts-base)) held-is e′;
         }

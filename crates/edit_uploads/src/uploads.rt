@@ -54,8 +54,9 @@ pub fn remove_upload(tables: &mut [u8], arena: &mut [u8], upload: u32)
     let header = layout::headers::read_header(tables);
     let at = place.at;
     let base = place.base;
-    let n = parts.at - at;
-    let m = parts.base - base;
+    let next = parts.next;
+    let n = next.at - at;
+    let m = next.base - base;
     let after = Header {
         arena: header.arena,
         next: header.next,

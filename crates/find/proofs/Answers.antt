@@ -15,10 +15,9 @@ use Rattle.layout.specs.Header.{headerLength}
 use Rattle.layout.specs.Memory.{uploadRow, partRows, rowsOf}
 use Rattle.layout.proofs.UploadLaws.{length-part-rows}
 use Rattle.find.specs.declared.RowPlace.{RowPlace}
-use Rattle.find.specs.declared.PassedParts.{PassedParts}
 use Rattle.find.specs.declared.search.Goal.{Goal}
 use Rattle.find.specs.declared.search.Goal.the-variants as goal
-use Rattle.find.specs.Places.{behind, beforeUpload, beforeParts, beforePart, throughParts, fromUpload, afterUpload, fromPart, uploadPlace, partPlace, passedParts, partsOf}
+use Rattle.find.specs.Places.{placeAfter, beforeUpload, beforeParts, beforePart, throughParts, fromUpload, afterUpload, fromPart, uploadPlace, partPlace, passedParts}
 use Rattle.find.specs.Search.{reach, stopsOf, rowPlaceAt, IsRowPlace, sought, leads}
 use Rattle.find.proofs.Splits.{upload-place, upload-found, parts-place, parts-behind, part-place}
 use Rattle.find.proofs.Walk.{rowPlace}
@@ -51,7 +50,13 @@ pub sought-row-place : (g : Goal) (rs : List Row) (p : RowPlace) (i : ℕ) → p
 unfolding sought
 sought-row-place g rs p i e l = is-row-place rs p _ e (omega (arith, reach-length (stopsOf g) (drop i rs), length-drop i rs))
 
--- a place after the rows xs, where ys are the rest
+-- the place of the row after the rows xs, where ys are the rest
+pub place-after : (rs xs ys : List Row) → rs ≡ xs ++ ys → rowPlaceAt rs (length xs) ≡ placeAfter xs
+unfolding rowPlaceAt
+place-after rs xs ys e =
+    ap (λ (l : List Row). record { row = length xs; at = headerLength + length (encodeRows l); base = length (contentsOf l) })
+    (ap (take (length xs)) e ∙ take-at xs ys (length xs) refl)
+
 pub record Behind (rs xs ys : List Row) (p : RowPlace) : Type 0 where
   pub at : p .at ≡ headerLength + length (encodeRows xs)
   pub base : p .base ≡ length (contentsOf xs)
@@ -59,13 +64,12 @@ pub record Behind (rs xs ys : List Row) (p : RowPlace) : Type 0 where
   pub rest : drop (p .row) rs ≡ ys
 
 pub place-behind : (rs xs ys : List Row) (p : RowPlace) → rs ≡ xs ++ ys → p ≡ rowPlaceAt rs (length xs) → Behind rs xs ys p
-unfolding rowPlaceAt
 place-behind rs xs ys p e q =
-    let front : take (length xs) rs ≡ xs = ap (take (length xs)) e ∙ take-at xs ys (length xs) refl in
-    let n : p .row ≡ length xs = ap (λ (z : RowPlace). z .row) q in
+    let a : p ≡ placeAfter xs = q ∙ place-after rs xs ys e in
+    let n : p .row ≡ length xs = ap (λ (z : RowPlace). z .row) a in
     record {
-      at = ap (λ (z : RowPlace). z .at) q ∙ ap (λ (l : List Row). headerLength + length (encodeRows l)) front;
-      base = ap (λ (z : RowPlace). z .base) q ∙ ap (λ (l : List Row). length (contentsOf l)) front;
+      at = ap (λ (z : RowPlace). z .at) a;
+      base = ap (λ (z : RowPlace). z .base) a;
       row = n;
       rest = ap (λ (i : ℕ). drop i rs) n ∙ ap (drop (length xs)) e ∙ drop-at xs ys (length xs) refl;
     }
@@ -80,10 +84,8 @@ sought-behind g rs xs ys zs i e n r =
 
 -- The end of the rows ----------------------------------------------------------------------------------------------------
 
-pub end-answer : (rs : List Row) (p : RowPlace) → p ≡ sought goal.End rs 0 → record { at = p .at; base = p .base } ≡ behind rs
-end-answer rs p e =
-    let k = place-behind rs rs [] p (sym (append-nil rs)) (e ∙ sought-behind goal.End rs [] rs rs 0 refl refl (reach-end rs)) in
-    λ i. record { at = k .at i; base = k .base i }
+pub end-answer : (rs : List Row) (p : RowPlace) → p ≡ sought goal.End rs 0 → p ≡ placeAfter rs
+end-answer rs p e = e ∙ sought-behind goal.End rs [] rs rs 0 refl refl (reach-end rs) ∙ place-after rs rs [] (sym (append-nil rs))
 
 -- Uploads ----------------------------------------------------------------------------------------------------------------
 
@@ -95,12 +97,12 @@ pub upload-within : (s : State) (u : ℕ) → length (beforeUpload s u) ≤ leng
 upload-within s u = omega (arith, ap length (upload-place s u), length-append (beforeUpload s u) (fromUpload s u))
 
 pub found-upload : (s : State) (u : ℕ) (p : RowPlace) (found : Bool) → p ≡ rowPlaceAt (rowsOf s) (length (beforeUpload s u)) → found ≡ leads uploadKind u (drop (p .row) (rowsOf s))
-    → record { found = found; row = p .row; at = p .at; base = p .base } ≡ uploadPlace s u
+    → record { found = found; at = p .at; base = p .base } ≡ uploadPlace s u
 unfolding uploadPlace fromUpload
 found-upload s u p found e f =
     let k = place-behind (rowsOf s) (beforeUpload s u) (fromUpload s u) p (upload-place s u) e in
     let g : found ≡ isSome (lookup byNumber u (s .U)) = f ∙ ap (leads uploadKind u) (k .rest) ∙ upload-leads u (s .U) in
-    λ i. record { found = g i; row = k .row i; at = k .at i; base = k .base i }
+    λ i. record { found = g i; at = k .at i; base = k .base i }
 
 pub open-within : (s : State) (u : ℕ) → isSome (lookup byNumber u (s .U)) ≡ true → length (beforeUpload s u) < length (rowsOf s)
 open-within s u e =
@@ -129,7 +131,7 @@ module _ (s : State) (u : ℕ) (x : Upload) (f : lookup byNumber u (s .U) ≡ so
   first-row = place-row (rowsOf s) first _ e ∙ sym (length-append (beforeUpload s u) (uploadRow u x ∷ []))
 
   pub found-part : (n : ℕ) (p : RowPlace) (found : Bool) → p ≡ sought (goal.Part n) (rowsOf s) (first .row) → found ≡ leads partKind n (drop (p .row) (rowsOf s))
-      → record { found = found; row = p .row; at = p .at; base = p .base } ≡ partPlace s u x n
+      → record { found = found; at = p .at; base = p .base } ≡ partPlace s u x n
   unfolding partPlace beforePart fromPart afterUpload
   found-part n p found q r =
       let ps = x .parts in
@@ -137,7 +139,7 @@ module _ (s : State) (u : ℕ) (x : Upload) (f : lookup byNumber u (s .U) ≡ so
       let m = sought-behind (goal.Part n) (rowsOf s) (beforeParts s u x) (partRows ps ++ afterUpload s u) z (first .row) (parts-place s u x f) first-row (reach-part n ps _) in
       let k = place-behind (rowsOf s) (beforePart s u x n) (fromPart s u x n) p (part-place s u x f n) (q ∙ m) in
       let g : found ≡ isSome (lookup byNumber n ps) = r ∙ ap (leads partKind n) (k .rest) ∙ part-leads n ps _ in
-      λ i. record { found = g i; row = k .row i; at = k .at i; base = k .base i }
+      λ i. record { found = g i; at = k .at i; base = k .base i }
 
   pub all-parts : (p : RowPlace) → p ≡ sought goal.NextUpload (rowsOf s) (first .row) → record { count = p .row - first .row; next = p } ≡ passedParts s u x
   unfolding passedParts throughParts afterUpload
@@ -146,16 +148,8 @@ module _ (s : State) (u : ℕ) (x : Upload) (f : lookup byNumber u (s .U) ≡ so
       let m = sought-behind goal.NextUpload (rowsOf s) (beforeParts s u x) (partRows ps ++ afterUpload s u) (partRows ps) (first .row) (parts-place s u x f) first-row (reach-next ps _) in
       let n = place-row (rowsOf s) p (length (beforeParts s u x ++ partRows ps)) (q ∙ m) in
       let c : p .row - first .row ≡ length ps = omega (arith, first-row, length-append (beforeParts s u x) (partRows ps), length-part-rows ps) in
-      λ i. record { count = c i; next = (q ∙ m) i }
-
--- the offset after the parts
-pub parts-answer : (s : State) (u : ℕ) (x : Upload) → lookup byNumber u (s .U) ≡ some x → (p : PassedParts) → p ≡ passedParts s u x
-    → record { count = p .count; at = p .next .at; base = p .next .base } ≡ partsOf s u x
-unfolding passedParts partsOf
-parts-answer s u x f p e =
-    let k = place-behind (rowsOf s) (throughParts s u x) (afterUpload s u) (p .next) (parts-behind s u x f) (ap (λ (q : PassedParts). q .next) e) in
-    let c : p .count ≡ length (x .parts) = ap (λ (q : PassedParts). q .count) e in
-    λ i. record { count = c i; at = k .at i; base = k .base i }
+      let k = q ∙ m ∙ place-after (rowsOf s) (throughParts s u x) (afterUpload s u) (parts-behind s u x f) in
+      λ i. record { count = c i; next = k i }
 
 pub sought-after : (g : Goal) (rs : List Row) (p : RowPlace) (i : ℕ) → p ≡ sought g rs i → i ≤ p .row
 unfolding sought

@@ -8,20 +8,18 @@ use Rattle.machine.specs.Map.{isSome, byNumber, lookup, place}
 use Rattle.machine.specs.Names.{Bytes}
 use Rattle.machine.specs.State.{Upload, State}
 use Rattle.row.specs.Row.{Row, encodeRows, contentsOf}
-use Rattle.layout.specs.Memory.{objectRows, uploadRow, partRows, uploadRows, rowsOf}
-use Rattle.layout.specs.declared.Offset.{Offset}
+use Rattle.layout.specs.Memory.{objectRows, uploadRow, partRows, uploadRows}
+use Rattle.find.specs.declared.RowPlace.{RowPlace}
 use Rattle.layout.specs.Header.{headerLength}
-use Rattle.find.specs.declared.Place.{Place}
-use Rattle.find.specs.declared.Parts.{Parts}
+use Rattle.find.specs.declared.Lookup.{Lookup}
 use Rattle.find.specs.declared.PassedParts.{PassedParts}
-use Rattle.find.specs.Search.{rowPlaceAt}
 
--- where the rows after rs begin, and their data
-abbrev pub behind : List Row → Offset
-behind rs = record { at = headerLength + length (encodeRows rs); base = length (contentsOf rs) }
+-- the place of the row that follows the rows rs, and a lookup that answers it
+abbrev pub placeAfter : List Row → RowPlace
+placeAfter rs = record { row = length rs; at = headerLength + length (encodeRows rs); base = length (contentsOf rs) }
 
-abbrev pub placeBehind : Bool → List Row → Place
-placeBehind found rs = record { found = found; row = length rs; at = headerLength + length (encodeRows rs); base = length (contentsOf rs) }
+abbrev pub lookupAfter : (found : Bool) → List Row → Lookup
+lookupAfter found rs = record { found = found; at = placeAfter rs .at; base = placeAfter rs .base }
 
 -- the rows before those of the object at a path, of an upload, of an upload's parts, of a part, and of what follows an upload's parts
 unfoldable pub beforeObject : State → Bytes → List Row
@@ -59,18 +57,15 @@ unfoldable pub afterPart : State → ℕ → Upload → ℕ → List Row
 afterPart s u x n = partRows (drop (suc (place byNumber n (x .parts))) (x .parts)) ++ afterUpload s u
 
 -- the place of an object, of an upload, of a part
-unfoldable pub objectPlace : State → Bytes → Place
-objectPlace s p = placeBehind (isSome (lookup byBytes p (s .O))) (beforeObject s p)
+unfoldable pub objectPlace : State → Bytes → Lookup
+objectPlace s p = lookupAfter (isSome (lookup byBytes p (s .O))) (beforeObject s p)
 
-unfoldable pub uploadPlace : State → ℕ → Place
-uploadPlace s u = placeBehind (isSome (lookup byNumber u (s .U))) (beforeUpload s u)
+unfoldable pub uploadPlace : State → ℕ → Lookup
+uploadPlace s u = lookupAfter (isSome (lookup byNumber u (s .U))) (beforeUpload s u)
 
-unfoldable pub partPlace : State → ℕ → Upload → ℕ → Place
-partPlace s u x n = placeBehind (isSome (lookup byNumber n (x .parts))) (beforePart s u x n)
+unfoldable pub partPlace : State → ℕ → Upload → ℕ → Lookup
+partPlace s u x n = lookupAfter (isSome (lookup byNumber n (x .parts))) (beforePart s u x n)
 
--- how many parts an upload has, and what follows them: the place of a row, or its offset
+-- how many parts an upload has, and the place of the row after them
 unfoldable pub passedParts : State → ℕ → Upload → PassedParts
-passedParts s u x = record { count = length (x .parts); next = rowPlaceAt (rowsOf s) (length (throughParts s u x)) }
-
-unfoldable pub partsOf : State → ℕ → Upload → Parts
-partsOf s u x = record { count = length (x .parts); at = behind (throughParts s u x) .at; base = behind (throughParts s u x) .base }
+passedParts s u x = record { count = length (x .parts); next = placeAfter (throughParts s u x) }

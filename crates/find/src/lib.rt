@@ -18,17 +18,10 @@ pub use uploads::pass_parts;
 pub use uploads::rows_end;
 pub use uploads::upload_row;
 
-// Whether what was looked for is there, and the place of its row, or of the row before which it would stand.
-pub struct Place {
+// What a search found: whether it is there, where its row begins in the tables, and where its data begin in the arena. Where it
+// is not there, the places are those of the row before which it would stand.
+pub struct Lookup {
     pub found: bool,
-    pub row: usize,
-    pub at: usize,
-    pub base: usize,
-}
-
-// How many parts an upload has, and the offset after them.
-pub struct Parts {
-    pub count: usize,
     pub at: usize,
     pub base: usize,
 }

@@ -1,5 +1,5 @@
 // Where an object stands.
-use crate::Place;
+use crate::Lookup;
 use crate::counts::object_count;
 use order::Order;
 ghost use mathlib.Core.Path.{_≡_};
@@ -9,7 +9,7 @@ ghost use Rattle.layout.specs.Memory.{whole, stateOf};
 ghost use Rattle.find.specs.Places.{objectPlace};
 
 // The place of the object at `path`.
-pub fn find_object(tables: &[u8], arena: &[u8], path: &[u8]) -> Place
+pub fn find_object(tables: &[u8], arena: &[u8], path: &[u8]) -> Lookup
     requires { ⌜ whole (now tables) (now arena) ≡ true ⌝ }
     ensures { λ r. ⌜ r ≡ objectPlace (stateOf (now (tables .entry)) (now (arena .entry))) (now (path .entry)) ⌝ }
 {
@@ -25,17 +25,15 @@ pub fn find_object(tables: &[u8], arena: &[u8], path: &[u8]) -> Place
         match o {
             Order::Greater => {}
             Order::Equal => {
-                return Place {
+                return Lookup {
                     found: true,
-                    row: i,
                     at,
                     base,
                 };
             }
             Order::Less => {
-                return Place {
+                return Lookup {
                     found: false,
-                    row: i,
                     at,
                     base,
                 };
@@ -45,9 +43,8 @@ pub fn find_object(tables: &[u8], arena: &[u8], path: &[u8]) -> Place
         base += h.size as usize;
         i += 1;
     }
-    Place {
+    Lookup {
         found: false,
-        row: i,
         at,
         base,
     }

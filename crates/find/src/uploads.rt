@@ -1,13 +1,11 @@
 // Where an upload and its parts stand, where the rows end, and how much is held.
-use crate::Parts;
+use crate::Lookup;
 use crate::PassedParts;
-use crate::Place;
 use crate::RowPlace;
 use crate::search::Goal;
 use crate::search::row_behind;
 use crate::search::seek;
 use crate::search::stands;
-use layout::Offset;
 ghost use mathlib.Core.Path.{_≡_};
 ghost use mathlib.Core.Bool.{true};
 ghost use Prim.Native.Nat.{ℕ, _+_, _<_};
@@ -16,7 +14,7 @@ ghost use mathlib.Core.Option.{some};
 ghost use Rattle.machine.specs.Map.{isSome, byNumber, lookup};
 ghost use Rattle.machine.specs.State.{Upload, held};
 ghost use Rattle.layout.specs.Memory.{whole, stateOf, rowsOf};
-ghost use Rattle.find.specs.Places.{behind, beforeUpload, uploadPlace, partPlace, passedParts, partsOf};
+ghost use Rattle.find.specs.Places.{placeAfter, beforeUpload, uploadPlace, partPlace, passedParts};
 ghost use Rattle.find.specs.Search.{rowPlaceAt, IsRowPlace};
 
 // The row of the upload with this number, or where it would stand.
@@ -42,20 +40,16 @@ pub fn parts_row(tables: &[u8], arena: &[u8], upload: u32) -> RowPlace
 }
 
 // The end of the rows.
-pub fn rows_end(tables: &[u8], arena: &[u8]) -> Offset
+pub fn rows_end(tables: &[u8], arena: &[u8]) -> RowPlace
     requires { ⌜ whole (now tables) (now arena) ≡ true ⌝ }
-    ensures { λ r. ⌜ r ≡ behind (rowsOf (stateOf (now (tables .entry)) (now (arena .entry)))) ⌝ }
+    ensures { λ r. ⌜ r ≡ placeAfter (rowsOf (stateOf (now (tables .entry)) (now (arena .entry)))) ⌝ }
 {
     let first = RowPlace {
         row: 0,
         at: layout::HEADER_LENGTH,
         base: 0,
     };
-    let end = seek(tables, arena, first, Goal::End);
-    Offset {
-        at: end.at,
-        base: end.base,
-    }
+    seek(tables, arena, first, Goal::End)
 }
 
 // The sum of the lengths of all data.
@@ -68,37 +62,35 @@ pub fn held(tables: &[u8], arena: &[u8]) -> usize
 }
 
 // The place of the upload with this number.
-pub fn find_upload(tables: &[u8], arena: &[u8], upload: u32) -> Place
+pub fn find_upload(tables: &[u8], arena: &[u8], upload: u32) -> Lookup
     requires { ⌜ whole (now tables) (now arena) ≡ true ⌝ }
     ensures { λ r. ⌜ r ≡ uploadPlace (stateOf (now (tables .entry)) (now (arena .entry))) upload ⌝ }
 {
     let here = upload_row(tables, arena, upload);
     let found = stands(tables, arena, here, layout::UPLOAD_KIND, upload);
-    Place {
+    Lookup {
         found,
-        row: here.row,
         at: here.at,
         base: here.base,
     }
 }
 
 // The place of a part of an open upload, `first` being the row after the upload's.
-pub fn find_part_from(tables: &[u8], arena: &[u8], first: RowPlace, number: u16) -> Place
+pub fn find_part_from(tables: &[u8], arena: &[u8], first: RowPlace, number: u16) -> Lookup
     requires { ⌜ (whole (now tables) (now arena) ≡ true) × IsRowPlace (rowsOf (stateOf (now tables) (now arena))) first ⌝ }
     ensures { λ r. ⌜ ((u : ℕ) (x : Upload) → first ≡ rowPlaceAt (rowsOf (stateOf (now (tables .entry)) (now (arena .entry)))) (length (beforeUpload (stateOf (now (tables .entry)) (now (arena .entry))) u) + 1) → lookup byNumber u (stateOf (now (tables .entry)) (now (arena .entry)) .U) ≡ some x → r ≡ partPlace (stateOf (now (tables .entry)) (now (arena .entry))) u x number) ⌝ }
 {
     let here = seek(tables, arena, first, Goal::Part(number));
     let found = stands(tables, arena, here, layout::PART_KIND, number as u32);
-    Place {
+    Lookup {
         found,
-        row: here.row,
         at: here.at,
         base: here.base,
     }
 }
 
 // The place of a part of an open upload.
-pub fn find_part(tables: &[u8], arena: &[u8], upload: u32, number: u16) -> Place
+pub fn find_part(tables: &[u8], arena: &[u8], upload: u32, number: u16) -> Lookup
     requires { ⌜ (whole (now tables) (now arena) ≡ true) × (isSome (lookup byNumber upload (stateOf (now tables) (now arena) .U)) ≡ true) ⌝ }
     ensures { λ r. ⌜ ((x : Upload) → lookup byNumber upload (stateOf (now (tables .entry)) (now (arena .entry)) .U) ≡ some x → r ≡ partPlace (stateOf (now (tables .entry)) (now (arena .entry))) upload x number) ⌝ }
 {
@@ -119,17 +111,11 @@ pub fn pass_parts(tables: &[u8], arena: &[u8], here: RowPlace) -> PassedParts
     }
 }
 
-// How many parts an open upload has, and the offset after them.
-pub fn parts_end(tables: &[u8], arena: &[u8], upload: u32) -> Parts
+// How many parts an open upload has, and the row after them.
+pub fn parts_end(tables: &[u8], arena: &[u8], upload: u32) -> PassedParts
     requires { ⌜ (whole (now tables) (now arena) ≡ true) × (isSome (lookup byNumber upload (stateOf (now tables) (now arena) .U)) ≡ true) ⌝ }
-    ensures { λ r. ⌜ ((x : Upload) → lookup byNumber upload (stateOf (now (tables .entry)) (now (arena .entry)) .U) ≡ some x → r ≡ partsOf (stateOf (now (tables .entry)) (now (arena .entry))) upload x) ⌝ }
+    ensures { λ r. ⌜ ((x : Upload) → lookup byNumber upload (stateOf (now (tables .entry)) (now (arena .entry)) .U) ≡ some x → r ≡ passedParts (stateOf (now (tables .entry)) (now (arena .entry))) upload x) ⌝ }
 {
     let here = upload_row(tables, arena, upload);
-    let parts = pass_parts(tables, arena, here);
-    let next = parts.next;
-    Parts {
-        count: parts.count,
-        at: next.at,
-        base: next.base,
-    }
+    pass_parts(tables, arena, here)
 }

@@ -16,19 +16,19 @@ use Rattle.row.specs.Row.{encodeRows, contentsOf, headAt, headLength, span}
 use Rattle.layout.specs.Header.{headerLength}
 use Rattle.layout.specs.Memory.{uploadRow, partRows, Stands}
 use Rattle.layout.proofs.TestLaws.{stored-path-length}
-use Rattle.find.specs.declared.Place.{Place}
+use Rattle.find.specs.declared.Lookup.{Lookup}
 use Rattle.find.specs.Places.{beforeUpload, afterUpload, uploadPlace}
 use Rattle.find.proofs.Splits.{upload-found}
 use Rattle.find.proofs.RowsAt.{At, Read, row-at, row-read}
 
-module _ (t a : List ℕ) (s : State) (h : Stands t a s) (u : ℕ) (x : Upload) (f : lookup byNumber u (s .U) ≡ some x) (place : Place) (place-is : place ≡ uploadPlace s u) where
+module _ (t a : List ℕ) (s : State) (h : Stands t a s) (u : ℕ) (x : Upload) (f : lookup byNumber u (s .U) ≡ some x) (place : Lookup) (place-is : place ≡ uploadPlace s u) where
   at-is : place .at ≡ headerLength + length (encodeRows (beforeUpload s u))
   unfolding uploadPlace
-  at-is = ap (λ (k : Place). k .at) place-is
+  at-is = ap (λ (k : Lookup). k .at) place-is
 
   base-is : place .base ≡ length (contentsOf (beforeUpload s u))
   unfolding uploadPlace
-  base-is = ap (λ (k : Place). k .base) place-is
+  base-is = ap (λ (k : Lookup). k .base) place-is
 
   here : At t a s h (beforeUpload s u) (uploadRow u x) (partRows (x .parts) ++ afterUpload s u)
   here = row-at t a s h (beforeUpload s u) (uploadRow u x) (partRows (x .parts) ++ afterUpload s u) (upload-found s u x f)

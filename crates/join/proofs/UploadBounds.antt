@@ -14,11 +14,11 @@ use Rattle.row.proofs.RowLaws.{encode-append, contents-append, encodable-left, 
 use Rattle.layout.specs.Rules.{partsMost}
 use Rattle.layout.specs.Memory.{uploadRow, partRow, partRows, rowsOf, Stands}
 use Rattle.layout.proofs.StandsLaws.{rows-encodable}
-use Rattle.layout.specs.declared.Offset.{Offset}
+use Rattle.find.specs.declared.RowPlace.{RowPlace}
 use Rattle.layout.specs.Header.{headerLength}
-use Rattle.find.specs.declared.Place.{Place}
-use Rattle.find.specs.declared.Parts.{Parts}
-use Rattle.find.specs.Places.{behind, beforeUpload, beforeParts, throughParts, afterUpload, uploadPlace, partsOf}
+use Rattle.find.specs.declared.Lookup.{Lookup}
+use Rattle.find.specs.declared.PassedParts.{PassedParts}
+use Rattle.find.specs.Places.{placeAfter, beforeUpload, beforeParts, throughParts, afterUpload, uploadPlace, passedParts}
 use Rattle.find.proofs.Splits.{parts-place}
 use Rattle.join.specs.Bounds.{boundsOf}
 
@@ -61,50 +61,50 @@ module _ (t a : List ℕ) (s : State) (h : Stands t a s) (u : ℕ) (x : Upload) 
         ap length (parts-data s u x),
       )
 
-  module _ (place : Place) (place-is : place ≡ uploadPlace s u) (parts : Parts) (parts-are : parts ≡ partsOf s u x) (end : Offset) (end-is : end ≡ behind (rowsOf s)) where
+  module _ (place : Lookup) (place-is : place ≡ uploadPlace s u) (parts : PassedParts) (parts-are : parts ≡ passedParts s u x) (end : RowPlace) (end-is : end ≡ placeAfter (rowsOf s)) where
     at-is : place .at ≡ headerLength + length (encodeRows (beforeUpload s u))
     unfolding uploadPlace
-    at-is = ap (λ (k : Place). k .at) place-is
+    at-is = ap (λ (k : Lookup). k .at) place-is
 
     base-is : place .base ≡ length (contentsOf (beforeUpload s u))
     unfolding uploadPlace
-    base-is = ap (λ (k : Place). k .base) place-is
+    base-is = ap (λ (k : Lookup). k .base) place-is
 
     count-is : parts .count ≡ length (x .parts)
-    unfolding partsOf
-    count-is = ap (λ (k : Parts). k .count) parts-are
+    unfolding passedParts
+    count-is = ap (λ (k : PassedParts). k .count) parts-are
 
-    behind-is : parts .at ≡ headerLength + length (encodeRows (throughParts s u x))
-    unfolding partsOf
-    behind-is = ap (λ (k : Parts). k .at) parts-are
+    behind-is : parts .next .at ≡ headerLength + length (encodeRows (throughParts s u x))
+    unfolding passedParts
+    behind-is = ap (λ (k : PassedParts). k .next .at) parts-are
 
-    data-behind : parts .base ≡ length (contentsOf (throughParts s u x))
-    unfolding partsOf
-    data-behind = ap (λ (k : Parts). k .base) parts-are
+    data-behind : parts .next .base ≡ length (contentsOf (throughParts s u x))
+    unfolding passedParts
+    data-behind = ap (λ (k : PassedParts). k .next .base) parts-are
 
     pub count-small : parts .count ≤ partsMost
     count-small = omega (arith, count-is, few-parts)
 
-    pub rows-behind : headLength * parts .count ≤ parts .at
+    pub rows-behind : headLength * parts .count ≤ parts .next .at
     rows-behind = omega (arith, count-is, behind-is, rows-through)
 
-    pub base-behind : place .base ≤ parts .base
+    pub base-behind : place .base ≤ parts .next .base
     base-behind = omega (arith, base-is, data-behind, data-through)
 
     pub bounds-are : record {
       at = place .at;
-      first = parts .at - headLength * parts .count;
-      behind = parts .at;
+      first = parts .next .at - headLength * parts .count;
+      behind = parts .next .at;
       used = end .at;
       base = place .base;
-      size = parts .base - place .base;
+      size = parts .next .base - place .base;
       held = end .base;
       count = parts .count;
     } ≡ boundsOf s u x
     unfolding boundsOf
     bounds-are =
-        let first : parts .at - headLength * parts .count ≡ headerLength + length (encodeRows (beforeParts s u x)) = omega (arith, count-is, behind-is, rows-through) in
-        let size : parts .base - place .base ≡ length (contentsOf (partRows (x .parts))) = omega (arith, base-is, data-behind, data-through) in
-        let used : end .at ≡ headerLength + length (encodeRows (rowsOf s)) = ap (λ (k : Offset). k .at) end-is in
-        let held : end .base ≡ length (contentsOf (rowsOf s)) = ap (λ (k : Offset). k .base) end-is in
+        let first : parts .next .at - headLength * parts .count ≡ headerLength + length (encodeRows (beforeParts s u x)) = omega (arith, count-is, behind-is, rows-through) in
+        let size : parts .next .base - place .base ≡ length (contentsOf (partRows (x .parts))) = omega (arith, base-is, data-behind, data-through) in
+        let used : end .at ≡ headerLength + length (encodeRows (rowsOf s)) = ap (λ (k : RowPlace). k .at) end-is in
+        let held : end .base ≡ length (contentsOf (rowsOf s)) = ap (λ (k : RowPlace). k .base) end-is in
         λ i. record { at = at-is i; first = first i; behind = behind-is i; used = used i; base = base-is i; size = size i; held = held i; count = count-is i }

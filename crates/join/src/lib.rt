@@ -44,13 +44,14 @@ fn upload_bounds(tables: &[u8], arena: &[u8], upload: u32) -> Bounds
     let place = find::find_upload(tables, arena, upload);
     let parts = find::parts_end(tables, arena, upload);
     let end = find::rows_end(tables, arena);
+    let next = parts.next;
     Bounds {
         at: place.at,
-        first: parts.at - row::HEAD_LENGTH * parts.count,
-        behind: parts.at,
+        first: next.at - row::HEAD_LENGTH * parts.count,
+        behind: next.at,
         used: end.at,
         base: place.base,
-        size: parts.base - place.base,
+        size: next.base - place.base,
         held: end.base,
         count: parts.count,
     }

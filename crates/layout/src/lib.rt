@@ -31,12 +31,6 @@ pub const UPLOAD_KIND: u8 = 2;
 // The kind of a part's row.
 pub const PART_KIND: u8 = 3;
 
-// Where a row stands in the tables, and its data in the arena.
-pub struct Offset {
-    pub at: usize,
-    pub base: usize,
-}
-
 // The upload passed last, and its part passed last; 0 for none.
 pub struct Mark {
     pub upload: u32,

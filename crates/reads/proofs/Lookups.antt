@@ -23,8 +23,8 @@ use Rattle.row.proofs.RowLaws.{row-back}
 use Rattle.layout.specs.Memory.{whole, stateOf, objectRow, objectOf, Stands}
 use Rattle.layout.proofs.ObjectLaws.{object-back}
 use Rattle.layout.proofs.WholeLaws.{whole-stands}
-use Rattle.find.specs.declared.Place.{Place}
-use Rattle.find.specs.Places.{behind, beforeObject, afterObject, objectPlace}
+use Rattle.find.specs.declared.Lookup.{Lookup}
+use Rattle.find.specs.Places.{placeAfter, beforeObject, afterObject, objectPlace}
 use Rattle.find.proofs.RowsAt.{At, row-at}
 use Rattle.find.proofs.Splits.{object-found}
 use Rattle.contract.specs.Answers.{refused}
@@ -43,19 +43,19 @@ unfolding namedIn
 is-bad s [] not e = absurd (not refl)
 is-bad s (c ∷ p) not e = rw e
 
-found-is : (s : State) (p : Bytes) (x : Place) → x ≡ objectPlace s p → isSome (lookup byBytes p (s .O)) ≡ x .found
+found-is : (s : State) (p : Bytes) (x : Lookup) → x ≡ objectPlace s p → isSome (lookup byBytes p (s .O)) ≡ x .found
 unfolding objectPlace
-found-is s p x e = ap (λ (y : Place). y .found) (sym e)
+found-is s p x e = ap (λ (y : Lookup). y .found) (sym e)
 
-pub is-absent : (s : State) (p : Bytes) → (length p ≡ 0 → ⊥) → requestPathOk p ≡ true → (x : Place) → x ≡ objectPlace s p → x .found ≡ false → named.Refused 3 ≡ namedIn s p
+pub is-absent : (s : State) (p : Bytes) → (length p ≡ 0 → ⊥) → requestPathOk p ≡ true → (x : Lookup) → x ≡ objectPlace s p → x .found ≡ false → named.Refused 3 ≡ namedIn s p
 unfolding namedIn
 is-absent s [] not ok x e f = absurd (not refl)
 is-absent s (c ∷ p) not ok x e f = rw (ok, found-is s (c ∷ p) x e, f)
 
-pub is-object : (s : State) (p : Bytes) → (length p ≡ 0 → ⊥) → requestPathOk p ≡ true → (x : Place) → x ≡ objectPlace s p → x .found ≡ true → named.Object (x .at) (x .base) ≡ namedIn s p
+pub is-object : (s : State) (p : Bytes) → (length p ≡ 0 → ⊥) → requestPathOk p ≡ true → (x : Lookup) → x ≡ objectPlace s p → x .found ≡ true → named.Object (x .at) (x .base) ≡ namedIn s p
 unfolding namedIn objectPlace
 is-object s [] not ok x e f = absurd (not refl)
-is-object s (c ∷ p) not ok x e f = rw (ok, found-is s (c ∷ p) x e, f) (ap (λ (y : Place). named.Object (y .at) (y .base)) e)
+is-object s (c ∷ p) not ok x e f = rw (ok, found-is s (c ∷ p) x e, f) (ap (λ (y : Lookup). named.Object (y .at) (y .base)) e)
 
 -- what the machine finds at the path ---------------------------------------------------------------------------------------
 
@@ -66,7 +66,7 @@ named-refused s [] n b k e = let z : _≡_ {A = ℕ} 0 1 = cc in absurd (omega a
 named-refused s (c ∷ p) n b k e = go (requestPathOk (c ∷ p)) (lookup byBytes (c ∷ p) (s .O)) e
   where
     go : (ok : Bool) (o : Option Object)
-        → cond ok (cond (isSome o) (named.Object (behind (beforeObject s (c ∷ p)) .at) (behind (beforeObject s (c ∷ p)) .base)) (named.Refused 3)) (named.Refused 2) ≡ named.Refused n
+        → cond ok (cond (isSome o) (named.Object (placeAfter (beforeObject s (c ∷ p)) .at) (placeAfter (beforeObject s (c ∷ p)) .base)) (named.Refused 3)) (named.Refused 2) ≡ named.Refused n
         → refused n b ≡ replyOf b (ok else badRequest then given o notFound k)
     go true (some x) q = let z : _≡_ {A = ℕ} 0 1 = cc in absurd (omega arith)
     go true none q = let z : n ≡ 3 = cc in rw z
@@ -79,7 +79,7 @@ named-root s [] k e = refl
 named-root s (c ∷ p) k e = absurd (go (requestPathOk (c ∷ p)) (isSome (lookup byBytes (c ∷ p) (s .O))) e)
   where
     go : (ok held : Bool)
-        → cond ok (cond held (named.Object (behind (beforeObject s (c ∷ p)) .at) (behind (beforeObject s (c ∷ p)) .base)) (named.Refused 3)) (named.Refused 2) ≡ named.Root → ⊥
+        → cond ok (cond held (named.Object (placeAfter (beforeObject s (c ∷ p)) .at) (placeAfter (beforeObject s (c ∷ p)) .base)) (named.Refused 3)) (named.Refused 2) ≡ named.Root → ⊥
     go true true q = let z : _≡_ {A = ℕ} 0 1 = cc in omega arith
     go true false q = let z : _≡_ {A = ℕ} 0 1 = cc in omega arith
     go false held q = let z : _≡_ {A = ℕ} 0 1 = cc in omega arith
@@ -99,8 +99,8 @@ object-keeps s (b ∷ p) k h = go (requestPathOk (b ∷ p)) (lookup byBytes (b �
 pub record Here (s : State) (p : Bytes) (at base : ℕ) : Type 0 where
   pub object : Object
   pub found : lookup byBytes p (s .O) ≡ some object
-  pub at-is : at ≡ behind (beforeObject s p) .at
-  pub base-is : base ≡ behind (beforeObject s p) .base
+  pub at-is : at ≡ placeAfter (beforeObject s p) .at
+  pub base-is : base ≡ placeAfter (beforeObject s p) .base
   pub follows : (k : Object → Outcome) → objectAt s p k ≡ k object
 
 pub named-object : (s : State) (p : Bytes) (at base : ℕ) → namedIn s p ≡ named.Object at base → Here s p at base
@@ -109,7 +109,7 @@ named-object s [] at base e = let z : _≡_ {A = ℕ} 0 1 = cc in absurd (omega 
 named-object s (c ∷ p) at base e = go (requestPathOk (c ∷ p)) (lookup byBytes (c ∷ p) (s .O)) refl refl e
   where
     go : (ok : Bool) (o : Option Object) → requestPathOk (c ∷ p) ≡ ok → lookup byBytes (c ∷ p) (s .O) ≡ o
-        → cond ok (cond (isSome o) (named.Object (behind (beforeObject s (c ∷ p)) .at) (behind (beforeObject s (c ∷ p)) .base)) (named.Refused 3)) (named.Refused 2) ≡ named.Object at base
+        → cond ok (cond (isSome o) (named.Object (placeAfter (beforeObject s (c ∷ p)) .at) (placeAfter (beforeObject s (c ∷ p)) .base)) (named.Refused 3)) (named.Refused 2) ≡ named.Object at base
         → Here s (c ∷ p) at base
     go true (some x) f g q = record { object = x; found = g; at-is = cc; base-is = cc; follows = λ k. rw (f, g) }
     go true none f g q = let z : _≡_ {A = ℕ} 0 1 = cc in absurd (omega arith)

@@ -10,7 +10,7 @@ use Rattle.machine.specs.State.{Object, State}
 use Rattle.machine.specs.Calls.{Answer, metadata}
 use Rattle.row.specs.Row.{headAt, digestAt, rowAt}
 use Rattle.layout.specs.Memory.{rowEtag, objectOf}
-use Rattle.find.specs.Places.{behind, beforeObject}
+use Rattle.find.specs.Places.{placeAfter, beforeObject}
 use Rattle.reads.specs.declared.Named.{Named}
 use Rattle.reads.specs.declared.Named.the-variants as named
 
@@ -18,7 +18,7 @@ use Rattle.reads.specs.declared.Named.the-variants as named
 unfoldable pub namedIn : State → Bytes → Named
 namedIn s [] = named.Root
 namedIn s (b ∷ p) =
-    let place = behind (beforeObject s (b ∷ p)) in
+    let place = placeAfter (beforeObject s (b ∷ p)) in
     cond (requestPathOk (b ∷ p)) (cond (isSome (lookup byBytes (b ∷ p) (s .O))) (named.Object (place .at) (place .base)) (named.Refused 3)) (named.Refused 2)
 
 -- the metadata in the row at the front of t

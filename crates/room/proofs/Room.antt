@@ -17,7 +17,7 @@ use Rattle.row.specs.Row.{encodeRows, headAt, numbersLength}
 use Rattle.layout.specs.Header.{headerLength}
 use Rattle.layout.specs.Memory.{objectRow, whole, stateOf, Stands}
 use Rattle.layout.proofs.WholeLaws.{whole-stands}
-use Rattle.find.specs.declared.Place.{Place}
+use Rattle.find.specs.declared.Lookup.{Lookup}
 use Rattle.find.specs.Places.{beforeObject, afterObject, objectPlace}
 use Rattle.find.proofs.Splits.{object-found}
 use Rattle.find.proofs.RowsAt.{row-at}
@@ -26,7 +26,7 @@ use Rattle.edit.proofs.PutLaws.{place-found}
 use Rattle.contract.specs.Made.{resultOf}
 use Rattle.room.proofs.PutAt.{object-share, room-old, room-new, room-none}
 
-module _ (t a : List ℕ) (b : AreBytes t) (w : whole t a ≡ true) (p : List ℕ) (place : Place) (place-is : place ≡ objectPlace (stateOf t a) p)
+module _ (t a : List ℕ) (b : AreBytes t) (w : whole t a ≡ true) (p : List ℕ) (place : Lookup) (place-is : place ≡ objectPlace (stateOf t a) p)
     (bytes : ℕ) (bytes-are : bytes ≡ held (stateOf t a)) where
   abbrev s : State
   s = stateOf t a
@@ -51,7 +51,7 @@ module _ (t a : List ℕ) (b : AreBytes t) (w : whole t a ≡ true) (p : List �
 
     at-is : place .at ≡ headerLength + length (encodeRows (beforeObject s p))
     unfolding objectPlace
-    at-is = ap (λ (y : Place). y .at) place-is
+    at-is = ap (λ (y : Lookup). y .at) place-is
 
     pub head-inside : place .at + numbersLength ≤ length t
     head-inside = let i = row-at t a s stands (beforeObject s p) (objectRow p x) (afterObject s p) (object-found s p x found) .inside in omega (arith, at-is)

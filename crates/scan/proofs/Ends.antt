@@ -13,7 +13,7 @@ use Rattle.row.proofs.RowLaws.{here-inside, rest-good}
 use Rattle.layout.specs.declared.Header.{Header}
 use Rattle.layout.specs.Rules.{all, objectOk, objectNext, start}
 use Rattle.layout.specs.Memory.{tablesLength, headerOk, uploadTables, uploadArena, uploadRowsAt, objectsGood, uploadsGood, wholeOf, whole}
-use Rattle.layout.specs.declared.Offset.{Offset}
+use Rattle.scan.specs.declared.Offset.{Offset}
 use Rattle.layout.specs.Header.{headerAt, headerLength}
 use Rattle.scan.specs.declared.Scan.{Scan}
 use Rattle.scan.specs.declared.Scan.the-variants.{Bad, Good}

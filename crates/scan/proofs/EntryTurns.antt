@@ -11,7 +11,7 @@ use Rattle.number.specs.Number.{AreBytes}
 use Rattle.row.specs.declared.Head.{Head}
 use Rattle.row.specs.Row.{Row, rowAt, rowsAt}
 use Rattle.layout.specs.declared.Mark.{Mark}
-use Rattle.layout.specs.declared.Offset.{Offset}
+use Rattle.scan.specs.declared.Offset.{Offset}
 use Rattle.scan.specs.declared.Reading.the-variants.{Short, Fits}
 use Rattle.layout.specs.Rules.{entryRule, uploadKind, entryOk, entryNext, markAfter}
 use Rattle.layout.specs.Memory.{uploadsAmong}

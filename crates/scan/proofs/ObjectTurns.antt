@@ -7,7 +7,7 @@ use lib.ListN.{drop}
 use Rattle.number.specs.Number.{AreBytes}
 use Rattle.row.specs.declared.Head.{Head}
 use Rattle.row.specs.Row.{rowAt}
-use Rattle.layout.specs.declared.Offset.{Offset}
+use Rattle.scan.specs.declared.Offset.{Offset}
 use Rattle.scan.specs.declared.Reading.the-variants.{Short, Fits}
 use Rattle.scan.specs.declared.Scan.the-variants.{Bad, Good}
 use Rattle.layout.specs.Rules.{objectRule, objectOk, objectNext}

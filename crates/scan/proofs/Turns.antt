@@ -12,7 +12,7 @@ use Rattle.number.specs.Number.{AreBytes}
 use Rattle.row.specs.declared.Head.{Head}
 use Rattle.row.specs.Row.{Row, headAt, digestAt, pathAt, spanAt, rowAt, inside, headOf, good, numbersLength, headLength, span}
 use Rattle.row.proofs.RowLaws.{Inside, inside-true, head-at}
-use Rattle.layout.specs.declared.Offset.{Offset}
+use Rattle.scan.specs.declared.Offset.{Offset}
 use Rattle.scan.specs.declared.Reading.the-variants.{Short, Fits}
 use Rattle.scan.specs.Scan.{readingOf, past, pastAll}
 

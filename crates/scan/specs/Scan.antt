@@ -8,7 +8,7 @@ use Rattle.row.specs.declared.Head.{Head}
 use Rattle.row.specs.Row.{headAt, rowsAt, inside, good, headLength}
 use Rattle.layout.specs.declared.Mark.{Mark}
 use Rattle.layout.specs.declared.Header.{Header}
-use Rattle.layout.specs.declared.Offset.{Offset}
+use Rattle.scan.specs.declared.Offset.{Offset}
 use Rattle.layout.specs.Header.{headerLength}
 use Rattle.scan.specs.declared.Reading.{Reading}
 use Rattle.scan.specs.declared.Reading.the-variants.{Short, Fits}

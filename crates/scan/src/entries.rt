@@ -5,10 +5,10 @@ ghost use lib.ListN.{length};
 ghost use Rattle.order.specs.Order.{same};
 ghost use Rattle.layout.specs.Rules.{entryRule, noDigest, uploadRule, partRule, markAfter, start};
 ghost use Rattle.scan.specs.Scan.{opensOne, entriesOk};
+use crate::Offset;
 use crate::Reading;
 use crate::rows;
 use layout::Mark;
-use layout::Offset;
 use row::Head;
 
 // Whether 16 bytes are 0.

@@ -4,7 +4,6 @@ mod objects;
 mod rows;
 
 use layout::Header;
-use layout::Offset;
 use layout::headers;
 use row::Head;
 ghost use mathlib.Core.Path.{_≡_};
@@ -18,6 +17,12 @@ ghost use Rattle.layout.specs.Memory as memory;
 pub enum Reading {
     Short,
     Fits(Head),
+}
+
+// Where a row stands in the tables, and its data in the arena.
+pub struct Offset {
+    pub at: usize,
+    pub base: usize,
 }
 
 // What a scan of rows finds: that they do not stand, or where they end.

@@ -8,10 +8,10 @@ ghost use lib.ListN.{length};
 ghost use Rattle.order.specs.Order.{byBytes};
 ghost use Rattle.layout.specs.Rules.{plainKind, partsMost, isLess, objectRule};
 ghost use Rattle.scan.specs.Scan.{objectScan};
+use crate::Offset;
 use crate::Reading;
 use crate::Scan;
 use crate::rows;
-use layout::Offset;
 use order::Order;
 use row::Head;
 

@@ -7,7 +7,7 @@ use Rattle.machine.specs.Map.{isSome, byNumber, lookup}
 use Rattle.machine.specs.State.{State, withoutUpload}
 use Rattle.machine.specs.Calls.{ABORT, nothing, badRequest, accept}
 use Rattle.machine.specs.Steps.{act}
-use Rattle.find.specs.declared.Place.{Place}
+use Rattle.find.specs.declared.Lookup.{Lookup}
 use Rattle.find.specs.Places.{uploadPlace}
 use Rattle.find.proofs.Found.{is-some, is-none}
 use Rattle.contract.specs.Made.{Memory, stateIn, resultOf, outcome}
@@ -17,10 +17,10 @@ module _ (m : Memory) (u : ℕ) where
   abbrev s : State
   s = stateIn m
 
-  module _ (place : Place) (is : place ≡ uploadPlace s u) where
+  module _ (place : Lookup) (is : place ≡ uploadPlace s u) where
     found-is : place .found ≡ isSome (lookup byNumber u (s .U))
     unfolding uploadPlace
-    found-is = ap (λ (p : Place). p .found) is
+    found-is = ap (λ (p : Lookup). p .found) is
 
     pub abort-open : place .found ≡ true → 0 ≡ resultOf (outcome (ABORT u) m)
     unfolding outcome act

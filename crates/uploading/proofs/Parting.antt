@@ -28,7 +28,7 @@ use Rattle.row.specs.Row.{encodeRows, headAt, numbersLength}
 use Rattle.layout.specs.Header.{headerLength}
 use Rattle.layout.specs.Memory.{partRow, whole, stateOf, Stands, arenaMost}
 use Rattle.layout.proofs.WholeLaws.{whole-stands}
-use Rattle.find.specs.declared.Place.{Place}
+use Rattle.find.specs.declared.Lookup.{Lookup}
 use Rattle.find.specs.Places.{beforePart, afterPart, partPlace, uploadPlace}
 use Rattle.find.proofs.Splits.{part-found}
 use Rattle.find.proofs.RowsAt.{At, row-at}
@@ -81,7 +81,7 @@ module _ (A : ℕ) (s : State) (v : Valid A s) (u n : ℕ) (d : Bytes) (x : Uplo
 
 -- the same over whole memory, by what the readers give
 module _ (t a d : List ℕ) (b : AreBytes t) (w : whole t a ≡ true) (u n : ℕ) (is-open : isSome (lookup byNumber u (stateOf t a .U)) ≡ true)
-    (place : Place) (place-is : (x : Upload) → lookup byNumber u (stateOf t a .U) ≡ some x → place ≡ partPlace (stateOf t a) u x n)
+    (place : Lookup) (place-is : (x : Upload) → lookup byNumber u (stateOf t a .U) ≡ some x → place ≡ partPlace (stateOf t a) u x n)
     (bytes : ℕ) (bytes-are : bytes ≡ held (stateOf t a)) where
   abbrev m : State
   m = stateOf t a
@@ -103,7 +103,7 @@ module _ (t a d : List ℕ) (b : AreBytes t) (w : whole t a ≡ true) (u n : ℕ
 
   found-is : place .found ≡ isSome (lookup byNumber n (x₀ .parts))
   unfolding partPlace
-  found-is = ap (λ (p : Place). p .found) place-at
+  found-is = ap (λ (p : Lookup). p .found) place-at
 
   module _ (yes : place .found ≡ true) where
     abbrev y₀ : Part
@@ -117,7 +117,7 @@ module _ (t a d : List ℕ) (b : AreBytes t) (w : whole t a ≡ true) (u n : ℕ
 
     at-is : place .at ≡ headerLength + length (encodeRows (beforePart m u x₀ n))
     unfolding partPlace
-    at-is = ap (λ (p : Place). p .at) place-at
+    at-is = ap (λ (p : Lookup). p .at) place-at
 
     pub old-inside : place .at + numbersLength ≤ length t
     old-inside = omega (arith, at-is, here .inside)
@@ -161,14 +161,14 @@ module _ (m : Memory) (u n : ℕ) (d : Bytes) where
   unfolding outcome act partOutcome partIn
   number-ok e = pass (requestPartOk n) badRequest (partOutcome A s u n d) e
 
-  pub not-open : requestPartOk n ≡ true → (place : Place) → place ≡ uploadPlace s u → place .found ≡ false → 2 ≡ resultOf (outcome (PART u n d) m)
+  pub not-open : requestPartOk n ≡ true → (place : Lookup) → place ≡ uploadPlace s u → place .found ≡ false → 2 ≡ resultOf (outcome (PART u n d) m)
   unfolding partOutcome uploadPlace
   not-open e place is f =
-      sym (ap resultOf (number-ok e) ∙ result-missing (lookup byNumber u (s .U)) badRequest (partIn A s u n d) (is-none _ (sym (ap (λ (p : Place). p .found) is) ∙ f)))
+      sym (ap resultOf (number-ok e) ∙ result-missing (lookup byNumber u (s .U)) badRequest (partIn A s u n d) (is-none _ (sym (ap (λ (p : Lookup). p .found) is) ∙ f)))
 
-  pub open-found : (place : Place) → place ≡ uploadPlace s u → place .found ≡ true → isSome (lookup byNumber u (s .U)) ≡ true
+  pub open-found : (place : Lookup) → place ≡ uploadPlace s u → place .found ≡ true → isSome (lookup byNumber u (s .U)) ≡ true
   unfolding uploadPlace
-  open-found place is f = sym (ap (λ (p : Place). p .found) is) ∙ f
+  open-found place is f = sym (ap (λ (p : Lookup). p .found) is) ∙ f
 
   pub part-judged : requestPartOk n ≡ true → (r : ℕ) → r ≡ resultOf (partOutcome A s u n d) → r ≡ resultOf (outcome (PART u n d) m)
   part-judged e r is = is ∙ sym (ap resultOf (number-ok e))

@@ -9,7 +9,7 @@ use Rattle.machine.specs.Names.{Bytes, requestPathOk}
 use Rattle.machine.specs.State.{Object, State, withoutObject}
 use Rattle.machine.specs.Calls.{DELETE, nothing, Outcome, accept, badRequest, notFound, given}
 use Rattle.machine.specs.Steps.{deleteAt, act}
-use Rattle.find.specs.declared.Place.{Place}
+use Rattle.find.specs.declared.Lookup.{Lookup}
 use Rattle.find.specs.Places.{objectPlace}
 use Rattle.find.proofs.Found.{is-some, is-none}
 use Rattle.edit.proofs.PutLaws.{place-found}
@@ -29,7 +29,7 @@ module _ (m : Memory) (p : Bytes) where
   unfolding outcome act deleteAt
   delete-bad e = sym (result-stop (requestPathOk p) badRequest removal e)
 
-  module _ (ok : requestPathOk p ≡ true) (place : Place) (place-is : place ≡ objectPlace s p) where
+  module _ (ok : requestPathOk p ≡ true) (place : Lookup) (place-is : place ≡ objectPlace s p) where
     checked : resultOf (outcome (DELETE p) m) ≡ resultOf removal
     unfolding outcome act deleteAt
     checked = result-pass (requestPathOk p) badRequest removal ok

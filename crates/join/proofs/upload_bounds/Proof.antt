@@ -48,24 +48,24 @@ module _ (c : tie.After-rows-end) where
   few : c .before .parts-end .result .count ≤ partsMost
   few = count-small t a s stands (start .args .upload) (found .0) (found .1) _ (c .before .before .find-upload .ensures) _ (c .before .parts-end .ensures (found .0) (found .1)) _ (c .rows-end .ensures)
 
-  rows : headLength * c .before .parts-end .result .count ≤ c .before .parts-end .result .at
+  rows : headLength * c .before .parts-end .result .count ≤ c .before .parts-end .result .next .at
   rows = rows-behind t a s stands (start .args .upload) (found .0) (found .1) _ (c .before .before .find-upload .ensures) _ (c .before .parts-end .ensures (found .0) (found .1)) _ (c .rows-end .ensures)
 
-  bytes : c .before .before .find-upload .result .base ≤ c .before .parts-end .result .base
+  bytes : c .before .before .find-upload .result .base ≤ c .before .parts-end .result .next .base
   bytes = base-behind t a s stands (start .args .upload) (found .0) (found .1) _ (c .before .before .find-upload .ensures) _ (c .before .parts-end .ensures (found .0) (found .1)) _ (c .rows-end .ensures)
 
-mul-t7 : tie.Need-mul-t7
-mul-t7 c = omega (arith, few (c .before))
-
-sub-t8 : tie.Need-sub-t8
-sub-t8 c = omega (arith, rows (c .before .before))
+mul-t8 : tie.Need-mul-t8
+mul-t8 c = omega (arith, few (c .before .before))
 
 sub-t9 : tie.Need-sub-t9
-sub-t9 c = omega (arith, bytes (c .before .before .before .before))
+sub-t9 c = omega (arith, rows (c .before .before .before))
+
+sub-t10 : tie.Need-sub-t10
+sub-t10 c = omega (arith, bytes (c .before .before .before .before .before))
 
 returns : tie.Need-returns
 returns c =
-    let e = c .before .before .before .before in
+    let e = c .before .before .before .before .before in
     λ x f. bounds-are (t e) (a e) (s e) (stands e) (start e .args .upload) x f _ (e .before .before .find-upload .ensures) _ (e .before .parts-end .ensures x f) _ (e .rows-end .ensures)
 
 pub upload-bounds-spec : {M : Type 1} → statement M
@@ -75,7 +75,7 @@ upload-bounds-spec =
     find-upload-requires
     parts-end-requires
     rows-end-requires
-    mul-t7
-    sub-t8
+    mul-t8
     sub-t9
+    sub-t10
     returns)

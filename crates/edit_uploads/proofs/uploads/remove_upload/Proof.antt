@@ -33,28 +33,28 @@ known : (k : tie.After-read-header)
 known k = removal _ _ _ _ _ _ _ _ _ _ _ _ _ _
 
 sub-n : tie.Need-sub-n
-sub-n c = let z = known (c .before) .span in omega arith
+sub-n c = let z = known (c .before .before) .span in omega arith
 
 sub-m : tie.Need-sub-m
-sub-m c = let z = known (c .before .before) .size in omega arith
+sub-m c = let z = known (c .before .before .before) .size in omega arith
 
-sub-t27 : tie.Need-sub-t27
-sub-t27 c = let z = known (c .before .before .before) .uploads in omega arith
+sub-t28 : tie.Need-sub-t28
+sub-t28 c = let z = known (c .before .before .before .before) .uploads in omega arith
 
-cast-t28 : tie.Need-cast-t28
-cast-t28 c =
-    let k = known (c .before .before .before .before) in
+cast-t29 : tie.Need-cast-t29
+cast-t29 c =
+    let k = known (c .before .before .before .before .before) in
     let n = k .count in
     let m = k .few in omega arith
 
-sub-t29 : tie.Need-sub-t29
-sub-t29 c = let z = known (c .before .before .before .before .before) .count in omega arith
+sub-t30 : tie.Need-sub-t30
+sub-t30 c = let z = known (c .before .before .before .before .before .before) .count in omega arith
 
 remove-rows-requires : tie.Need-remove-rows-requires
-remove-rows-requires c κs = known (c .before .before .before .before .before .before) .rows
+remove-rows-requires c κs = known (c .before .before .before .before .before .before .before) .rows
 
 remove-requires : tie.Need-remove-requires
-remove-requires c κs = known (c .before .before .before .before .before .before .before .before .before .before) .content
+remove-requires c κs = known (c .before .before .before .before .before .before .before .before .before .before .before) .content
 
 same-length : tie.Need-same-length
 same-length c = search needs
@@ -66,7 +66,7 @@ returns : tie.Need-returns
 returns c =
     let two = c .before .before in
     let one = two .before .before .before .before in
-    known (one .before .before .before .before .before .before .before) .stands (one .remove-rows .last .0) (two .remove .last .0)
+    known (one .before .before .before .before .before .before .before .before) .stands (one .remove-rows .last .0) (two .remove .last .0)
     (one .remove-rows .ensures) (two .remove .ensures) (one .remove-rows .kept .0) (two .remove .kept .0)
 
 pub remove-upload-spec : {M : Type 1} → statement M
@@ -79,9 +79,9 @@ remove-upload-spec =
     read-header-requires
     sub-n
     sub-m
-    sub-t27
-    cast-t28
-    sub-t29
+    sub-t28
+    cast-t29
+    sub-t30
     remove-rows-requires
     remove-requires
     same-length

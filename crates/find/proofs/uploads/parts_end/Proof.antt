@@ -2,7 +2,7 @@
 use borrow.Author.Needs.{needs}
 use Rattle.machine.specs.State.{State}
 use Rattle.layout.specs.Memory.{stateOf}
-use Rattle.find.proofs.Answers.{open-row-place, parts-answer}
+use Rattle.find.proofs.Answers.{open-row-place}
 use Rattle.find.proofs.uploads.parts_end.Statement.{statement}
 use Rattle.find.proofs.uploads.parts_end.Tie as tie
 
@@ -20,10 +20,7 @@ pass-parts-requires : tie.Need-pass-parts-requires
 pass-parts-requires c κs = (start c .pre .0, open-row-place (s c) (start c .args .upload) (c .upload-row .result) (c .upload-row .ensures) (start c .pre .1))
 
 returns : tie.Need-returns
-returns c x f =
-    let p = c .before in
-    let r = p .before in
-    parts-answer (s r) (start r .args .upload) x f (p .pass-parts .result) (p .pass-parts .ensures (start r .args .upload) x (r .upload-row .ensures) f)
+returns c x f = c .pass-parts .ensures (start (c .before) .args .upload) x (c .before .upload-row .ensures) f
 
 pub parts-end-spec : {M : Type 1} → statement M
 parts-end-spec = tie.close (tie.spec upload-row-requires pass-parts-requires returns)

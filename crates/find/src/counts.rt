@@ -1,44 +1,30 @@
 // How many objects, uploads, parts and rows there are.
 ghost use mathlib.Core.Path.{_≡_};
 ghost use mathlib.Core.Bool.{true};
-ghost use Prim.Native.Nat.{_+_};
-ghost use lib.ListN.{length};
-ghost use Rattle.machine.specs.Map.{total};
-ghost use Rattle.machine.specs.State.{partsIn};
-ghost use Rattle.layout.specs.Memory.{whole, stateOf, rowsOf};
+ghost use Rattle.layout.specs.Memory.{whole, stateOf};
+ghost use Rattle.find.specs.Counts.{CountsOf};
 
-// How many objects there are.
-pub fn object_count(tables: &[u8], arena: &[u8]) -> usize
-    requires { ⌜ whole (now tables) (now arena) ≡ true ⌝ }
-    ensures { λ r. ⌜ r ≡ length (stateOf (now (tables .entry)) (now (arena .entry)) .O) ⌝ }
-{
-    let header = layout::headers::read_header(tables);
-    header.objects as usize
+// How many objects, open uploads, parts over all uploads, and rows in all.
+pub struct RowCounts {
+    pub objects: usize,
+    pub uploads: usize,
+    pub parts: usize,
+    pub rows: usize,
 }
 
-// How many uploads are open.
-pub fn upload_count(tables: &[u8], arena: &[u8]) -> usize
+// The counts, as the header has them.
+pub fn read_counts(tables: &[u8], arena: &[u8]) -> RowCounts
     requires { ⌜ whole (now tables) (now arena) ≡ true ⌝ }
-    ensures { λ r. ⌜ r ≡ length (stateOf (now (tables .entry)) (now (arena .entry)) .U) ⌝ }
+    ensures { λ r. ⌜ CountsOf (stateOf (now (tables .entry)) (now (arena .entry))) r ⌝ }
 {
     let header = layout::headers::read_header(tables);
-    header.uploads as usize
-}
-
-// How many parts there are over all uploads.
-pub fn part_count(tables: &[u8], arena: &[u8]) -> usize
-    requires { ⌜ whole (now tables) (now arena) ≡ true ⌝ }
-    ensures { λ r. ⌜ r ≡ total partsIn (stateOf (now (tables .entry)) (now (arena .entry)) .U) ⌝ }
-{
-    let header = layout::headers::read_header(tables);
-    header.parts as usize
-}
-
-// How many rows there are.
-pub(crate) fn row_count(tables: &[u8], arena: &[u8]) -> usize
-    requires { ⌜ whole (now tables) (now arena) ≡ true ⌝ }
-    ensures { λ r. ⌜ r ≡ length (rowsOf (stateOf (now (tables .entry)) (now (arena .entry)))) ⌝ }
-{
-    let h = layout::headers::read_header(tables);
-    h.objects as usize + (h.uploads as usize + h.parts as usize)
+    let objects = header.objects as usize;
+    let uploads = header.uploads as usize;
+    let parts = header.parts as usize;
+    RowCounts {
+        objects,
+        uploads,
+        parts,
+        rows: objects + (uploads + parts),
+    }
 }

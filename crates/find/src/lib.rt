@@ -4,9 +4,7 @@ pub mod objects;
 mod search;
 pub mod uploads;
 
-pub use counts::object_count;
-pub use counts::part_count;
-pub use counts::upload_count;
+pub use counts::read_counts;
 pub use objects::find_object;
 pub use uploads::find_part;
 pub use uploads::find_part_from;

@@ -1,6 +1,6 @@
 // Where an object stands.
 use crate::Lookup;
-use crate::counts::object_count;
+use crate::counts::read_counts;
 use order::Order;
 ghost use mathlib.Core.Path.{_≡_};
 ghost use mathlib.Core.Bool.{true};
@@ -13,7 +13,8 @@ pub fn find_object(tables: &[u8], arena: &[u8], path: &[u8]) -> Lookup
     requires { ⌜ whole (now tables) (now arena) ≡ true ⌝ }
     ensures { λ r. ⌜ r ≡ objectPlace (stateOf (now (tables .entry)) (now (arena .entry))) (now (path .entry)) ⌝ }
 {
-    let objects = object_count(tables, arena);
+    let counts = read_counts(tables, arena);
+    let objects = counts.objects;
     let mut at: usize = layout::HEADER_LENGTH;
     let mut base: usize = 0;
     let mut i: usize = 0;

@@ -1,6 +1,6 @@
 // A search along the rows.
 use crate::RowPlace;
-use crate::counts::row_count;
+use crate::counts::read_counts;
 use row::Head;
 ghost use mathlib.Core.Path.{_≡_};
 ghost use mathlib.Core.Bool.{true};
@@ -49,7 +49,8 @@ pub(crate) fn seek(tables: &[u8], arena: &[u8], from: RowPlace, goal: Goal) -> R
     requires { ⌜ (whole (now tables) (now arena) ≡ true) × IsRowPlace (rowsOf (stateOf (now tables) (now arena))) from ⌝ }
     ensures { λ r. ⌜ r ≡ sought goal (rowsOf (stateOf (now (tables .entry)) (now (arena .entry)))) (from .row) ⌝ }
 {
-    let rows = row_count(tables, arena);
+    let counts = read_counts(tables, arena);
+    let rows = counts.rows;
     let mut row = from.row;
     let mut at = from.at;
     let mut base = from.base;
@@ -70,7 +71,9 @@ pub(crate) fn stands(tables: &[u8], arena: &[u8], here: RowPlace, kind: u8, numb
     requires { ⌜ (whole (now tables) (now arena) ≡ true) × IsRowPlace (rowsOf (stateOf (now tables) (now arena))) here ⌝ }
     ensures { λ r. ⌜ r ≡ leads kind number (drop (here .row) (rowsOf (stateOf (now (tables .entry)) (now (arena .entry))))) ⌝ }
 {
-    if row_count(tables, arena) <= here.row {
+    let counts = read_counts(tables, arena);
+    let rows = counts.rows;
+    if rows <= here.row {
         return false;
     }
     let h = row::read_head(tables, here.at);

@@ -48,7 +48,8 @@ pub(crate) fn measure_rows(tables: &[u8], arena: &[u8], prefix: &[u8], suffix: &
     ensures { λ r. ⌜ (r .records ≡ length (listed (now (prefix .entry)) (now (suffix .entry)) (stateOf (now (tables .entry)) (now (arena .entry)) .O)))
         × (r .bytes ≡ length (listBytes (now (prefix .entry)) (now (suffix .entry)) (stateOf (now (tables .entry)) (now (arena .entry))))) ⌝ }
 {
-    let objects = find::object_count(tables, arena);
+    let counts = find::read_counts(tables, arena);
+    let objects = counts.objects;
     let mut at: usize = layout::HEADER_LENGTH;
     let mut records: u32 = 0;
     let mut bytes: u32 = 0;

@@ -38,7 +38,8 @@ pub(crate) fn write_rows(
     requires { ⌜ (whole (now tables) (now arena) ≡ true) × (length (listBytes (now prefix) (now suffix) (stateOf (now tables) (now arena))) ≤ length (now answer)) ⌝ }
     ensures { λ _. ⌜ now (answer .exit) ≡ listBytes (now (prefix .entry)) (now (suffix .entry)) (stateOf (now (tables .entry)) (now (arena .entry))) ++ drop (length (listBytes (now (prefix .entry)) (now (suffix .entry)) (stateOf (now (tables .entry)) (now (arena .entry))))) (now (answer .entry)) ⌝ }
 {
-    let objects = find::object_count(tables, arena);
+    let counts = find::read_counts(tables, arena);
+    let objects = counts.objects;
     let mut at: usize = layout::HEADER_LENGTH;
     let mut to: usize = 0;
     let mut i: usize = 0;

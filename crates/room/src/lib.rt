@@ -32,7 +32,8 @@ pub fn object_judge(tables: &[u8], arena: &[u8], path: &[u8], n: usize) -> u8
         let h = row::read_head(tables, place.at);
         return arena_judge(held - h.size as usize, n, arena.len());
     }
-    let objects = find::object_count(tables, arena);
+    let counts = find::read_counts(tables, arena);
+    let objects = counts.objects;
     if layout::OBJECTS_MOST <= objects {
         return types::TABLE_FULL;
     }

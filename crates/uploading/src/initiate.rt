@@ -20,7 +20,8 @@ fn initiate_judge(tables: &[u8], arena: &[u8], stamp: Stamp, path: &[u8]) -> u8
     if !names::new_path_ok(path) {
         return types::BAD_REQUEST;
     }
-    let uploads = find::upload_count(tables, arena);
+    let counts = find::read_counts(tables, arena);
+    let uploads = counts.uploads;
     if layout::UPLOADS_MOST <= uploads {
         return types::TABLE_FULL;
     }

@@ -30,7 +30,8 @@ fn part_room(
         let h = row::read_head(tables, old.at);
         return room::arena_judge(held - h.size as usize, content.len(), arena.len());
     }
-    let parts = find::part_count(tables, arena);
+    let counts = find::read_counts(tables, arena);
+    let parts = counts.parts;
     if layout::PARTS_MOST <= parts {
         return types::TABLE_FULL;
     }

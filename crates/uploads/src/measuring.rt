@@ -31,7 +31,8 @@ pub(crate) fn measure(tables: &[u8], arena: &[u8], prefix: &[u8]) -> Counts
     requires { ⌜ whole (now tables) (now arena) ≡ true ⌝ }
     ensures { λ r. ⌜ (r .records ≡ length (openUnder (now (prefix .entry)) (stateOf (now (tables .entry)) (now (arena .entry)) .U))) × (r .bytes ≡ length (records uploadRecord (openUnder (now (prefix .entry)) (stateOf (now (tables .entry)) (now (arena .entry)) .U)))) ⌝ }
 {
-    let uploads = find::upload_count(tables, arena);
+    let counts = find::read_counts(tables, arena);
+    let uploads = counts.uploads;
     let mut here = crate::rows::first_row(tables, arena);
     let mut records: u32 = 0;
     let mut bytes: u32 = 0;

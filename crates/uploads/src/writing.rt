@@ -56,7 +56,8 @@ pub(crate) fn write(tables: &[u8], arena: &[u8], prefix: &[u8], answer: &mut [u8
     requires { ⌜ (whole (now tables) (now arena) ≡ true) × (length (records uploadRecord (openUnder (now prefix) (stateOf (now tables) (now arena) .U))) ≤ length (now answer)) ⌝ }
     ensures { λ _. ⌜ now (answer .exit) ≡ records uploadRecord (openUnder (now (prefix .entry)) (stateOf (now (tables .entry)) (now (arena .entry)) .U)) ++ drop (length (records uploadRecord (openUnder (now (prefix .entry)) (stateOf (now (tables .entry)) (now (arena .entry)) .U)))) (now (answer .entry)) ⌝ }
 {
-    let uploads = find::upload_count(tables, arena);
+    let counts = find::read_counts(tables, arena);
+    let uploads = counts.uploads;
     let mut here = crate::rows::first_row(tables, arena);
     let mut n: usize = 0;
     let mut i: usize = 0;

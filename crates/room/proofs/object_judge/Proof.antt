@@ -51,8 +51,8 @@ returns c =
     let h = c .before .before .read-head in
     judged-old (a .tables .now) (a .arena .now) b (c .before .before .before .before .before .before .before .before .before .pre) (a .path .now) (f .result) (f .ensures) (e .result) (e .ensures) (c .before .before .before .if1 .taken) (h .result) (h .ensures) (c .arena-judge .result) (a .n) (c .arena-judge .ensures)
 
-object-count-requires : tie.Need-object-count-requires
-object-count-requires c κs = search needs
+read-counts-requires : tie.Need-read-counts-requires
+read-counts-requires c κs = search needs
 
 returns-2 : tie.Need-returns-2
 returns-2 c =
@@ -60,8 +60,8 @@ returns-2 c =
     let b : AreBytes (a .tables .now) = λ j. c .before .before .before .before .before .before .before .shared-slice-known .given j .fits in
     let f = c .before .before .before .before .find-object in
     let e = c .before .before .before .held in
-    let o = c .before .object-count in
-    λ stamp content _. judged-full (a .tables .now) (a .arena .now) b (c .before .before .before .before .before .before .before .before .pre) (a .path .now) (f .result) (f .ensures) (e .result) (e .ensures) (c .before .before .if1 .left) (o .result) (o .ensures) (c .if2 .taken) stamp content
+    let o = c .before .read-counts in
+    λ stamp content _. judged-full (a .tables .now) (a .arena .now) b (c .before .before .before .before .before .before .before .before .pre) (a .path .now) (f .result) (f .ensures) (e .result) (e .ensures) (c .before .before .if1 .left) (o .result .objects) (o .ensures .objects) (c .if2 .taken) stamp content
 
 arena-judge-requires-2 : tie.Need-arena-judge-requires-2
 arena-judge-requires-2 c κs =
@@ -78,8 +78,8 @@ returns-3 c =
     let b : AreBytes (a .tables .now) = λ j. c .before .before .before .before .before .before .before .before .shared-slice-known .given j .fits in
     let f = c .before .before .before .before .before .find-object in
     let e = c .before .before .before .before .held in
-    let o = c .before .before .object-count in
-    judged-new (a .tables .now) (a .arena .now) b (c .before .before .before .before .before .before .before .before .before .pre) (a .path .now) (f .result) (f .ensures) (e .result) (e .ensures) (c .before .before .before .if1 .left) (o .result) (o .ensures) (c .before .if2 .left) (c .arena-judge2 .result) (a .n) (c .arena-judge2 .ensures)
+    let o = c .before .before .read-counts in
+    judged-new (a .tables .now) (a .arena .now) b (c .before .before .before .before .before .before .before .before .before .pre) (a .path .now) (f .result) (f .ensures) (e .result) (e .ensures) (c .before .before .before .if1 .left) (o .result .objects) (o .ensures .objects) (c .before .if2 .left) (c .arena-judge2 .result) (a .n) (c .arena-judge2 .ensures)
 
 pub object-judge-spec : {M : Type 1} → statement M
 object-judge-spec =
@@ -92,7 +92,7 @@ object-judge-spec =
     sub-arena-judge
     arena-judge-requires
     returns
-    object-count-requires
+    read-counts-requires
     returns-2
     arena-judge-requires-2
     returns-3)

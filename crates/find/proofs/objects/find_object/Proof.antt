@@ -19,7 +19,7 @@ use Rattle.find.proofs.objects.find_object.Statement.{statement}
 use Rattle.find.proofs.objects.find_object.Tie as tie
 use Rattle.find.proofs.objects.find_object.Reads as reads
 use Rattle.find.proofs.objects.find_object.Lts as lts
-use Rattle.find.proofs.counts.object_count.Reads as object-count-reads
+use Rattle.find.proofs.counts.read_counts.Reads as read-counts-reads
 use Rattle.order.proofs.compare.Reads as compare-reads
 use Rattle.row.proofs.read_head.Reads as read-head-reads
 
@@ -29,13 +29,13 @@ Inv-loop tables arena path objects at₀ base₀ i₀ at base i = Passed (stateO
 abbrev μ-loop : tie.MeasureT-loop
 μ-loop tables arena path objects at₀ base₀ i₀ at base i = objects - i
 
-object-count-requires : tie.Need-object-count-requires Inv-loop μ-loop
-object-count-requires c κs = search needs
+read-counts-requires : tie.Need-read-counts-requires Inv-loop μ-loop
+read-counts-requires c κs = search needs
 
 loop-holds : tie.Need-loop-holds Inv-loop μ-loop
 loop-holds c = let k = c .before .before .before .before in passed-none (stateOf (k .args .tables .now) (k .args .arena .now)) (k .args .path .now)
 
--- in the loop: memory stands for its state, and the count is that of its objects
+-- in the loop: memory stands for its state, and the counts are its own
 module _ (c : tie.At-loop Inv-loop μ-loop) where
   abbrev start : tie.Start Inv-loop μ-loop
   start = c .before .before .before .before .before
@@ -52,8 +52,8 @@ module _ (c : tie.At-loop Inv-loop μ-loop) where
   stands : Stands t a s
   stands = whole-stands t a (λ j. c .before .before .before .before .shared-slice-known .given j .fits) (start .pre)
 
-  counted : c .before .object-count .result ≡ length (s .O)
-  counted = c .before .object-count .ensures
+  counted : c .before .read-counts .result .objects ≡ length (s .O)
+  counted = c .before .read-counts .ensures .objects
 
 module _ (c : tie.In-loop Inv-loop μ-loop) where
   abbrev l : tie.At-loop Inv-loop μ-loop
@@ -145,7 +145,7 @@ find-object-spec =
     (tie.spec
     Inv-loop
     μ-loop
-    object-count-requires
+    read-counts-requires
     loop-holds
     read-head-requires
     add-from

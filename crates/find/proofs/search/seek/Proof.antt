@@ -21,13 +21,13 @@ Inv-loop tables arena goal rows row₀ at₀ base₀ row at base =
 abbrev μ-loop : tie.MeasureT-loop
 μ-loop tables arena goal rows row₀ at₀ base₀ row at base = rows - row
 
-row-count-requires : tie.Need-row-count-requires Inv-loop μ-loop
-row-count-requires c κs = search needs
+read-counts-requires : tie.Need-read-counts-requires Inv-loop μ-loop
+read-counts-requires c κs = search needs
 
 loop-holds : tie.Need-loop-holds Inv-loop μ-loop
 loop-holds c = let k = c .before .before .before in (place-reached _ (k .args .from) (k .pre .1 .0) (k .pre .1 .1), refl)
 
--- in the loop: memory stands for its state, and the count is that of its rows
+-- in the loop: memory stands for its state, and the counts are its own
 module _ (c : tie.At-loop Inv-loop μ-loop) where
   abbrev start : tie.Start Inv-loop μ-loop
   start = c .before .before .before .before
@@ -44,8 +44,8 @@ module _ (c : tie.At-loop Inv-loop μ-loop) where
   stands : Stands t a s
   stands = whole-stands t a (λ j. c .before .before .before .shared-slice-known .given j .fits) (start .pre .0)
 
-  counted : c .before .row-count .result ≡ length (rowsOf s)
-  counted = c .before .row-count .ensures
+  counted : c .before .read-counts .result .rows ≡ length (rowsOf s)
+  counted = c .before .read-counts .ensures .rows
 
 more : (c : tie.In-loop Inv-loop μ-loop) → c .before .loop .row < length (rowsOf (s (c .before)))
 more c = let n = c .loop-test .taken in omega (arith, counted (c .before))
@@ -112,7 +112,7 @@ seek-spec =
     (tie.spec
     Inv-loop
     μ-loop
-    row-count-requires
+    read-counts-requires
     loop-holds
     read-head-requires
     stops-requires

@@ -18,15 +18,15 @@ use Rattle.find.proofs.Walk.{Reached, place-reached, row-inside, row-tu
 use Rattle.find.proofs.search.stands.Statement.{statement}
 use Rattle.find.proofs.search.stands.Tie as tie
 
-row-count-requires : tie.Need-row-count-requires
-row-count-requires c κs = search needs
+read-counts-requires : tie.Need-read-counts-requires
+read-counts-requires c κs = search needs
 
 returns : tie.Need-returns
 returns c =
     let k = c .before .before in
     let x = k .before .before .before .args in
     let rs = rowsOf (stateOf (x .tables .now) (x .arena .now)) in
-    let e : k .row-count .result ≡ length rs = k .row-count .ensures in
+    let e : k .read-counts .result .rows ≡ length rs = k .read-counts .ensures .rows in
     let l : length rs ≤ x .here .row = let l = c .if1 .taken in omega arith in
     sym (leads-none (x .kind) (x .number) rs (x .here .row) l)
 
@@ -47,7 +47,7 @@ module _ (c : tie.Else1) where
   stands = whole-stands t a (λ j. c .before .before .before .before .shared-slice-known .given j .fits) (start .pre .0)
 
   more : start .args .here .row < length (rowsOf s)
-  more = let l = c .if1 .left in omega (arith, c .before .before .row-count .ensures)
+  more = let l = c .if1 .left in omega (arith, c .before .before .read-counts .ensures .rows)
 
   reached : Reached s (start .args .here .row) (start .args .here .at) (start .args .here .base)
   reached = place-reached s (start .args .here) (start .pre .1 .0) (start .pre .1 .1)
@@ -76,4 +76,4 @@ returns-3 c = sym (told (c .before .before) ∙ rw (ne-eqb _ _ (c .if2 .left)))
 
 pub stands-spec : {M : Type 1} → statement M
 stands-spec =
-    tie.close (tie.spec row-count-requires returns read-head-requires returns-2 returns-3)
+    tie.close (tie.spec read-counts-requires returns read-head-requires returns-2 returns-3)

@@ -20,13 +20,13 @@ Inv-loop tables arena prefix suffix objects at₀ records₀ bytes₀ i₀ at re
 abbrev μ-loop : tie.MeasureT-loop
 μ-loop tables arena prefix suffix objects at₀ records₀ bytes₀ i₀ at records bytes i = objects - i
 
-object-count-requires : tie.Need-object-count-requires Inv-loop μ-loop
-object-count-requires c κs = search needs
+read-counts-requires : tie.Need-read-counts-requires Inv-loop μ-loop
+read-counts-requires c κs = search needs
 
 loop-holds : tie.Need-loop-holds Inv-loop μ-loop
 loop-holds c = let k = c .before .before .before .before .before in walked-none (stateOf (k .args .tables .now) (k .args .arena .now)) (k .args .prefix .now) (k .args .suffix .now)
 
--- in the loop: memory stands for its state, and the count is that of its objects
+-- in the loop: memory stands for its state, and the counts are its own
 module _ (c : tie.At-loop Inv-loop μ-loop) where
   abbrev start : tie.Start Inv-loop μ-loop
   start = c .before .before .before .before .before .before
@@ -43,8 +43,8 @@ module _ (c : tie.At-loop Inv-loop μ-loop) where
   stands : Stands t a s
   stands = whole-stands t a (λ j. c .before .before .before .before .before .shared-slice-known .given j .fits) (start .pre)
 
-  counted : c .before .object-count .result ≡ length (s .O)
-  counted = c .before .object-count .ensures
+  counted : c .before .read-counts .result .objects ≡ length (s .O)
+  counted = c .before .read-counts .ensures .objects
 
 -- the row at hand
 module _ (c : tie.In-loop Inv-loop μ-loop) where
@@ -106,7 +106,7 @@ measure-rows-spec =
     (tie.spec
     Inv-loop
     μ-loop
-    object-count-requires
+    read-counts-requires
     loop-holds
     read-head-requires
     measure-row-requires

@@ -21,13 +21,13 @@ Inv-loop tables arena prefix suffix answer₀ objects at₀ to₀ i₀ answer at
 abbrev μ-loop : tie.MeasureT-loop
 μ-loop tables arena prefix suffix answer₀ objects at₀ to₀ i₀ answer at to i = objects - i
 
-object-count-requires : tie.Need-object-count-requires Inv-loop μ-loop
-object-count-requires c κs = search needs
+read-counts-requires : tie.Need-read-counts-requires Inv-loop μ-loop
+read-counts-requires c κs = search needs
 
 loop-holds : tie.Need-loop-holds Inv-loop μ-loop
 loop-holds c = let x = c .before .before .before .before .before .before .args in written-none (stateOf (x .tables .now) (x .arena .now)) (x .prefix .now) (x .suffix .now) (x .answer .now)
 
--- in the loop: memory stands for its state, and the count is that of its objects
+-- in the loop: memory stands for its state, and the counts are its own
 module _ (c : tie.At-loop Inv-loop μ-loop) where
   abbrev start : tie.Start Inv-loop μ-loop
   start = c .before .before .before .before .before .before .before
@@ -44,8 +44,8 @@ module _ (c : tie.At-loop Inv-loop μ-loop) where
   stands : Stands t a s
   stands = whole-stands t a (λ j. c .before .before .before .before .before .before .shared-slice-known .given j .fits) (start .pre .0)
 
-  counted : c .before .object-count .result ≡ length (s .O)
-  counted = c .before .object-count .ensures
+  counted : c .before .read-counts .result .objects ≡ length (s .O)
+  counted = c .before .read-counts .ensures .objects
 
 -- the row at hand
 module _ (c : tie.In-loop Inv-loop μ-loop) where
@@ -99,7 +99,7 @@ write-rows-spec =
     (tie.spec
     Inv-loop
     μ-loop
-    object-count-requires
+    read-counts-requires
     loop-holds
     read-head-requires
     write-row-requires

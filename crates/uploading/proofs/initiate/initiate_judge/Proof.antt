@@ -27,16 +27,16 @@ returns-2 c =
     let w = c .before .before .before .before .before .before .before .pre in
     bad-path (a .tables .now) (a .arena .now) (a .path .now) b w (a .stamp .0) (sym (c .before .before .before .stamp-ok .ensures) ∙ not-false _ (c .before .before .if1 .left)) (sym (c .before .new-path-ok .ensures) ∙ not-true _ (c .if2 .taken))
 
-upload-count-requires : tie.Need-upload-count-requires
-upload-count-requires c κs = search needs
+read-counts-requires : tie.Need-read-counts-requires
+read-counts-requires c κs = search needs
 
 returns-3 : tie.Need-returns-3
 returns-3 c =
     let a = c .before .before .before .before .before .before .before .before .before .args in
     let b : AreBytes (a .tables .now) = λ j. c .before .before .before .before .before .before .before .before .shared-slice-known .given j .fits in
     let w = c .before .before .before .before .before .before .before .before .before .pre in
-    let n = c .before .upload-count in
-    full (a .tables .now) (a .arena .now) (a .path .now) b w (a .stamp .0) (sym (c .before .before .before .before .before .stamp-ok .ensures) ∙ not-false _ (c .before .before .before .before .if1 .left)) (sym (c .before .before .before .new-path-ok .ensures) ∙ not-false _ (c .before .before .if2 .left)) (n .result) (n .ensures) (c .if3 .taken)
+    let n = c .before .read-counts in
+    full (a .tables .now) (a .arena .now) (a .path .now) b w (a .stamp .0) (sym (c .before .before .before .before .before .stamp-ok .ensures) ∙ not-false _ (c .before .before .before .before .if1 .left)) (sym (c .before .before .before .new-path-ok .ensures) ∙ not-false _ (c .before .before .if2 .left)) (n .result .uploads) (n .ensures .uploads) (c .if3 .taken)
 
 read-header-requires : tie.Need-read-header-requires
 read-header-requires c κs =
@@ -50,18 +50,18 @@ returns-4 c =
     let a = c .before .before .before .before .before .before .before .before .before .before .before .before .args in
     let b : AreBytes (a .tables .now) = λ j. c .before .before .before .before .before .before .before .before .before .before .before .shared-slice-known .given j .fits in
     let w = c .before .before .before .before .before .before .before .before .before .before .before .before .pre in
-    let n = c .before .before .before .before .upload-count in
+    let n = c .before .before .before .before .read-counts in
     let h = c .before .before .read-header in
-    used-up (a .tables .now) (a .arena .now) (a .path .now) b w (a .stamp .0) (sym (c .before .before .before .before .before .before .before .before .stamp-ok .ensures) ∙ not-false _ (c .before .before .before .before .before .before .before .if1 .left)) (sym (c .before .before .before .before .before .before .new-path-ok .ensures) ∙ not-false _ (c .before .before .before .before .before .if2 .left)) (n .result) (n .ensures) (c .before .before .before .if3 .left) (h .result) (h .ensures) (c .if4 .taken)
+    used-up (a .tables .now) (a .arena .now) (a .path .now) b w (a .stamp .0) (sym (c .before .before .before .before .before .before .before .before .stamp-ok .ensures) ∙ not-false _ (c .before .before .before .before .before .before .before .if1 .left)) (sym (c .before .before .before .before .before .before .new-path-ok .ensures) ∙ not-false _ (c .before .before .before .before .before .if2 .left)) (n .result .uploads) (n .ensures .uploads) (c .before .before .before .if3 .left) (h .result) (h .ensures) (c .if4 .taken)
 
 returns-5 : tie.Need-returns-5
 returns-5 c =
     let a = c .before .before .before .before .before .before .before .before .before .before .before .before .args in
     let b : AreBytes (a .tables .now) = λ j. c .before .before .before .before .before .before .before .before .before .before .before .shared-slice-known .given j .fits in
     let w = c .before .before .before .before .before .before .before .before .before .before .before .before .pre in
-    let n = c .before .before .before .before .upload-count in
+    let n = c .before .before .before .before .read-counts in
     let h = c .before .before .read-header in
-    opened (a .tables .now) (a .arena .now) (a .path .now) b w (a .stamp .0) (sym (c .before .before .before .before .before .before .before .before .stamp-ok .ensures) ∙ not-false _ (c .before .before .before .before .before .before .before .if1 .left)) (sym (c .before .before .before .before .before .before .new-path-ok .ensures) ∙ not-false _ (c .before .before .before .before .before .if2 .left)) (n .result) (n .ensures) (c .before .before .before .if3 .left) (h .result) (h .ensures) (c .if4 .left)
+    opened (a .tables .now) (a .arena .now) (a .path .now) b w (a .stamp .0) (sym (c .before .before .before .before .before .before .before .before .stamp-ok .ensures) ∙ not-false _ (c .before .before .before .before .before .before .before .if1 .left)) (sym (c .before .before .before .before .before .before .new-path-ok .ensures) ∙ not-false _ (c .before .before .before .before .before .if2 .left)) (n .result .uploads) (n .ensures .uploads) (c .before .before .before .if3 .left) (h .result) (h .ensures) (c .if4 .left)
 
 pub initiate-judge-spec : {M : Type 1} → statement M
 initiate-judge-spec =
@@ -71,7 +71,7 @@ initiate-judge-spec =
     returns
     new-path-ok-requires
     returns-2
-    upload-count-requires
+    read-counts-requires
     returns-3
     read-header-requires
     returns-4

@@ -64,16 +64,16 @@ returns c =
     let h = c .before .before .read-head in
     judged-old (t k) (a k) (d k) (bytes k) (s .pre .0) (s .args .upload .0) (s .args .number .0) (s .pre .1) (f .result) (f .ensures) (k .held .result) (k .held .ensures) (c .before .before .before .if1 .taken) (h .result) (h .ensures) (c .arena-judge .result) (c .arena-judge .ensures)
 
-part-count-requires : tie.Need-part-count-requires
-part-count-requires c κs = search needs
+read-counts-requires : tie.Need-read-counts-requires
+read-counts-requires c κs = search needs
 
 returns-2 : tie.Need-returns-2
 returns-2 c =
     let k = c .before .before .before in
     let s = start k in
     let f = k .before .find-part in
-    let n = c .before .part-count in
-    judged-full (t k) (a k) (d k) (bytes k) (s .pre .0) (s .args .upload .0) (s .args .number .0) (s .pre .1) (f .result) (f .ensures) (k .held .result) (k .held .ensures) (c .before .before .if1 .left) (n .result) (n .ensures) (c .if2 .taken)
+    let n = c .before .read-counts in
+    judged-full (t k) (a k) (d k) (bytes k) (s .pre .0) (s .args .upload .0) (s .args .number .0) (s .pre .1) (f .result) (f .ensures) (k .held .result) (k .held .ensures) (c .before .before .if1 .left) (n .result .parts) (n .ensures .parts) (c .if2 .taken)
 
 arena-judge-requires-2 : tie.Need-arena-judge-requires-2
 arena-judge-requires-2 c κs =
@@ -87,8 +87,8 @@ returns-3 c =
     let k = c .before .before .before .before in
     let s = start k in
     let f = k .before .find-part in
-    let n = c .before .before .part-count in
-    judged-new (t k) (a k) (d k) (bytes k) (s .pre .0) (s .args .upload .0) (s .args .number .0) (s .pre .1) (f .result) (f .ensures) (k .held .result) (k .held .ensures) (c .before .before .before .if1 .left) (n .result) (n .ensures) (c .before .if2 .left) (c .arena-judge2 .result) (c .arena-judge2 .ensures)
+    let n = c .before .before .read-counts in
+    judged-new (t k) (a k) (d k) (bytes k) (s .pre .0) (s .args .upload .0) (s .args .number .0) (s .pre .1) (f .result) (f .ensures) (k .held .result) (k .held .ensures) (c .before .before .before .if1 .left) (n .result .parts) (n .ensures .parts) (c .before .if2 .left) (c .arena-judge2 .result) (c .arena-judge2 .ensures)
 
 pub part-room-spec : {M : Type 1} → statement M
 part-room-spec =
@@ -101,7 +101,7 @@ part-room-spec =
     sub-arena-judge
     arena-judge-requires
     returns
-    part-count-requires
+    read-counts-requires
     returns-2
     arena-judge-requires-2
     returns-3)

@@ -16,17 +16,17 @@ module _ (b x y z w : List ℕ) (at n m : ℕ) (told : b ≡ x ++ (y ++ (z ++ w)
   one : take n (drop at b) ≡ y
   one = field-read b x y (z ++ w) at n told place first
 
-  behind : b ≡ (x ++ y) ++ (z ++ w)
-  behind = told ∙ sym (append-assoc x y (z ++ w))
+  regrouped : b ≡ (x ++ y) ++ (z ++ w)
+  regrouped = told ∙ sym (append-assoc x y (z ++ w))
 
   place-two : length (x ++ y) ≡ at + n
   place-two = omega (arith, length-append x y)
 
   two : take m (drop (at + n) b) ≡ z
-  two = field-read b (x ++ y) z w (at + n) m behind place-two second
+  two = field-read b (x ++ y) z w (at + n) m regrouped place-two second
 
   after : drop (at + n + m) b ≡ w
-  after = field-drop b (x ++ y) z w (at + n) m behind place-two second
+  after = field-drop b (x ++ y) z w (at + n) m regrouped place-two second
 
   -- `rotate` exchanges them
   pub rotated-parts : (b′ : List ℕ) → b′ ≡ rotated b at n m → b′ ≡ x ++ (z ++ (y ++ w))

@@ -75,8 +75,8 @@ module _ (b : List ℕ) (at l r : ℕ) (room : at + l + r ≤ length b) where
       told
       ∙ ap (λ (s : List ℕ). pre ++ s) (sym (append-assoc x y z) ∙ ap (λ (s : List ℕ). s ++ z) (sym (take-append-drop r (x ++ y))) ∙ append-assoc u v z)
 
-  behind : (s : List ℕ) → length s ≡ r → length (pre ++ s) ≡ at + r
-  behind s e = omega (arith, length-append pre s, length-pre)
+  length-through : (s : List ℕ) → length s ≡ r → length (pre ++ s) ≡ at + r
+  length-through s e = omega (arith, length-append pre s, length-pre)
 
   module _ (b₁ b₂ h : List ℕ) where
     -- x is held, y moved to its place, and x written after it
@@ -84,14 +84,14 @@ module _ (b : List ℕ) (at l r : ℕ) (room : at + l + r ≤ length b) where
     small-left eh one two =
         let e₁ : b₁ ≡ pre ++ (y ++ (v ++ z)) = field-written b pre u (v ++ z) at r places length-pre length-u b₁ y one in
         let lh : length v ≡ length h = length-v ∙ sym (ap length eh ∙ length-x) in
-        field-written b₁ (pre ++ y) v z (at + r) (length h) (e₁ ∙ sym (append-assoc pre y (v ++ z))) (behind y length-y) lh b₂ h two
+        field-written b₁ (pre ++ y) v z (at + r) (length h) (e₁ ∙ sym (append-assoc pre y (v ++ z))) (length-through y length-y) lh b₂ h two
         ∙ append-assoc pre y (h ++ z)
         ∙ ap (λ (s : List ℕ). pre ++ (y ++ (s ++ z))) eh
 
     -- y is held, x moved to its place, and y written before it
     pub small-right : h ≡ y → b₁ ≡ paste b (at + r) (drop at b) l → b₂ ≡ take at b₁ ++ h ++ drop (at + length h) b₁ → b₂ ≡ rotated b at l r
     small-right eh one two =
-        let e₁ : b₁ ≡ (pre ++ u) ++ (x ++ z) = field-written b (pre ++ u) v z (at + r) l (places ∙ sym (append-assoc pre u (v ++ z))) (behind u length-u) length-v b₁ x one in
+        let e₁ : b₁ ≡ (pre ++ u) ++ (x ++ z) = field-written b (pre ++ u) v z (at + r) l (places ∙ sym (append-assoc pre u (v ++ z))) (length-through u length-u) length-v b₁ x one in
         let lh : length u ≡ length h = length-u ∙ sym (ap length eh ∙ length-y) in
         field-written b₁ pre u (x ++ z) at (length h) (e₁ ∙ append-assoc pre u (x ++ z)) length-pre lh b₂ h two
         ∙ ap (λ (s : List ℕ). pre ++ (s ++ (x ++ z))) eh
@@ -123,7 +123,7 @@ module _ (b : List ℕ) (at l r : ℕ) (room : at + l + r ≤ length b) where
         told ∙ ap (λ (s : List ℕ). pre ++ (s ++ (y ++ z))) ex ∙ ap (λ (s : List ℕ). pre ++ s) (append-assoc x₁ x₂ (y ++ z)) in
         let e₁ : b′ ≡ (pre ++ y) ++ (x₂ ++ (x₁ ++ z)) =
         e ∙ swap-parts b pre x₁ x₂ y z at (at + l) r eb length-pre l₁ length-y (omega arith) ∙ sym (append-assoc pre y (x₂ ++ (x₁ ++ z))) in
-        rotated-parts b′ (pre ++ y) x₂ x₁ z (at + r) (l - r) r e₁ (behind y length-y) l₂ l₁ (rotated b′ (at + r) (l - r) r) refl
+        rotated-parts b′ (pre ++ y) x₂ x₁ z (at + r) (l - r) r e₁ (length-through y length-y) l₂ l₁ (rotated b′ (at + r) (l - r) r) refl
         ∙ append-assoc pre y (x₁ ++ (x₂ ++ z))
         ∙ ap (λ (s : List ℕ). pre ++ (y ++ s)) (sym (append-assoc x₁ x₂ z) ∙ ap (λ (s : List ℕ). s ++ z) (sym ex))
 

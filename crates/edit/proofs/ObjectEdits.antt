@@ -34,7 +34,7 @@ use Rattle.find.specs.declared.Lookup.{Lookup}
 use Rattle.find.specs.Places.{placeAfter, beforeObject, afterObject, fromObject, objectPlace}
 use Rattle.find.proofs.Splits.{object-place, object-found}
 use Rattle.find.proofs.Found.{is-some}
-use Rattle.edit.specs.Objects.{objectBehind, Addable}
+use Rattle.edit.specs.Objects.{objectAfterHeld, Addable}
 use Rattle.edit.proofs.Changes.{without-object-rows, new-object-rows}
 use Rattle.edit.proofs.OneRow as row
 
@@ -107,7 +107,7 @@ module _ (t a : List ℕ) (b : AreBytes t) (w : whole t a ≡ true) where
     -- put in
     module _ (stamp kind count : ℕ) (digest : Digest) (size : ℕ) (pre : Addable t a stamp kind count digest p size) where
       abbrev y : Object
-      y = objectBehind t a stamp kind count digest size
+      y = objectAfterHeld t a stamp kind count digest size
 
       abbrev s′ : State
       s′ = withObject s p y
@@ -116,7 +116,7 @@ module _ (t a : List ℕ) (b : AreBytes t) (w : whole t a ≡ true) where
       tagged = etagged kind count (bytesOf digest) (pre .kind-most) (pre .count-most)
 
       content-length : length (y .content) ≡ size
-      unfolding objectBehind
+      unfolding objectAfterHeld
       content-length = length-take-le size (drop (held s) a) (rw length-drop (let r = pre .room in omega arith))
 
       object-ok : ObjectOk p y
@@ -138,7 +138,7 @@ module _ (t a : List ℕ) (b : AreBytes t) (w : whole t a ≡ true) where
       row-encodable = object-encodable p y (let r = size-small in omega (arith, content-length)) object-ok
 
       content-is : take (length (y .content)) (drop (held s) a) ≡ y .content
-      unfolding objectBehind
+      unfolding objectAfterHeld
       content-is = ap (λ (n : ℕ). take n (drop (held s) a)) content-length
 
       room : held s + length (y .content) ≤ length a
@@ -154,11 +154,11 @@ module _ (t a : List ℕ) (b : AreBytes t) (w : whole t a ≡ true) where
       add-data = let d = row.data-room t a s stands (beforeObject s p) (objectRow p y) (fromObject s p) (place .at) (place .base) (end .at) (end .base) at-is base-is used-is held-is (object-place s p) s′ (pre .valid) (new-object-rows s p y (pre .absent)) path-most row-encodable content-is room in omega (arith, content-length)
 
       new-head : record { size = size; number = 0; stamp = stamp; kind = kind; pathlen = length p; count = count } ≡ headOf (objectRow p y)
-      unfolding objectBehind
+      unfolding objectAfterHeld
       new-head = rw (content-length, tagged .same-kind, tagged .same-count)
 
       digest-is : bytesOf digest ≡ objectRow p y .digest
-      unfolding objectBehind
+      unfolding objectAfterHeld
       digest-is = sym (tagged .same-digest)
 
       pub add-stands : (header : Header) (t′ a′ : List ℕ) → header ≡ headerAt t

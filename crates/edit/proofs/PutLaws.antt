@@ -25,7 +25,7 @@ use Rattle.find.specs.declared.RowPlace.{RowPlace}
 use Rattle.find.specs.declared.Lookup.{Lookup}
 use Rattle.find.specs.Places.{placeAfter, objectPlace}
 use Rattle.find.proofs.Found.{is-none}
-use Rattle.edit.specs.Objects.{objectBehind, plainWith, Addable}
+use Rattle.edit.specs.Objects.{objectAfterHeld, plainWith, Addable}
 use Rattle.edit.proofs.MapEdits.{remove-absent, insert-removed}
 use Rattle.edit.proofs.Tail.{tail-stands, tail-read}
 
@@ -65,13 +65,13 @@ module _ (s : State) (p content : List ℕ) (stamp : ℕ) (digest : Digest) (A :
     state-is : stateOf t₁ a₂ ≡ s₁
     state-is = stands-state t₁ a₂ s₁ there
 
-    object-is : objectBehind t₁ a₂ stamp plainKind 0 digest (length content) ≡ y
-    unfolding objectBehind
+    object-is : objectAfterHeld t₁ a₂ stamp plainKind 0 digest (length content) ≡ y
+    unfolding objectAfterHeld
     object-is =
         let c : take (length content) (drop (held (stateOf t₁ a₂)) a₂) ≡ content = ap (λ (x : State). take (length content) (drop (held x) a₂)) state-is ∙ tail-read t₁ a₁ s₁ h a₂ content (length content) written keeps₂ in
         ap (plainWith stamp digest) c
 
-    target : withObject (stateOf t₁ a₂) p (objectBehind t₁ a₂ stamp plainKind 0 digest (length content)) ≡ withObject s p y
+    target : withObject (stateOf t₁ a₂) p (objectAfterHeld t₁ a₂ stamp plainKind 0 digest (length content)) ≡ withObject s p y
     target = rw (state-is, object-is) (ap (withO s) (insert-removed bytes p y (s .O) (v .objects)))
 
     pub put-addable : Addable t₁ a₂ stamp plainKind 0 digest p (length content)
@@ -85,5 +85,5 @@ module _ (s : State) (p content : List ℕ) (stamp : ℕ) (digest : Digest) (A :
           valid = subst (Valid (length a₂)) (sym target) (subst (λ (n : ℕ). Valid n (withObject s p y)) (sym (keeps₂ ∙ keeps)) valid);
         }
 
-    pub put-stands : (t′ a′ : List ℕ) → Stands t′ a′ (withObject (stateOf t₁ a₂) p (objectBehind t₁ a₂ stamp plainKind 0 digest (length content))) → Stands t′ a′ (withObject s p y)
+    pub put-stands : (t′ a′ : List ℕ) → Stands t′ a′ (withObject (stateOf t₁ a₂) p (objectAfterHeld t₁ a₂ stamp plainKind 0 digest (length content))) → Stands t′ a′ (withObject s p y)
     put-stands t′ a′ g = subst (Stands t′ a′) target g

@@ -17,8 +17,8 @@ use Rattle.machine.specs.Valid.{Valid}
 use Rattle.layout.specs.Rules.{plainKind, joinedKind, partsMost}
 use Rattle.layout.specs.Memory.{whole, stateOf, rowEtag}
 
-unfoldable pub objectBehind : (t a : List ℕ) (stamp kind count : ℕ) (digest : Digest) (size : ℕ) → Object
-objectBehind t a stamp kind count digest size =
+unfoldable pub objectAfterHeld : (t a : List ℕ) (stamp kind count : ℕ) (digest : Digest) (size : ℕ) → Object
+objectAfterHeld t a stamp kind count digest size =
     record { content = take size (drop (held (stateOf t a)) a); created = stamp; etag = rowEtag kind (bytesOf digest) count }
 
 -- an object with a plain etag
@@ -32,4 +32,4 @@ pub record Addable (t a : List ℕ) (stamp kind count : ℕ) (digest : Digest) (
   pub room : held (stateOf t a) + size ≤ length a
   pub kind-most : kind ≤ joinedKind
   pub count-most : count ≤ cond (eqb kind plainKind) 0 partsMost
-  pub valid : Valid (length a) (withObject (stateOf t a) path (objectBehind t a stamp kind count digest size))
+  pub valid : Valid (length a) (withObject (stateOf t a) path (objectAfterHeld t a stamp kind count digest size))

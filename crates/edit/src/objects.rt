@@ -10,7 +10,7 @@ ghost use Rattle.machine.specs.Map.{isSome, lookup};
 ghost use Rattle.machine.specs.State.{withoutObject, withObject};
 ghost use Rattle.layout.specs.Memory.{whole, stateOf, Stands};
 ghost use Rattle.machine.specs.Valid.{Valid};
-ghost use Rattle.edit.specs.Objects.{Addable, objectBehind, plainWith};
+ghost use Rattle.edit.specs.Objects.{Addable, objectAfterHeld, plainWith};
 
 // The object at path, taken out.
 pub fn remove_object(tables: &mut [u8], arena: &mut [u8], path: &[u8])
@@ -48,7 +48,7 @@ pub fn add_object(
     size: usize,
 )
     requires { ⌜ Addable (now tables) (now arena) stamp kind count digest (now path) size ⌝ }
-    ensures { λ _. ⌜ Stands (now (tables .exit)) (now (arena .exit)) (withObject (stateOf (now (tables .entry)) (now (arena .entry))) (now (path .entry)) (objectBehind (now (tables .entry)) (now (arena .entry)) stamp kind count digest size)) ⌝ }
+    ensures { λ _. ⌜ Stands (now (tables .exit)) (now (arena .exit)) (withObject (stateOf (now (tables .entry)) (now (arena .entry))) (now (path .entry)) (objectAfterHeld (now (tables .entry)) (now (arena .entry)) stamp kind count digest size)) ⌝ }
 {
     let place = find::find_object(tables, arena, path);
     let end = find::rows_end(tables, arena);

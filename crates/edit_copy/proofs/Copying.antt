@@ -28,7 +28,7 @@ use Rattle.find.specs.Places.{placeAfter, beforeObject, afterObject, objectPlac
 use Rattle.find.proofs.Splits.{object-found}
 use Rattle.find.proofs.RowsAt.{At, row-at}
 use Rattle.find.proofs.Found.{is-some}
-use Rattle.edit.specs.Objects.{objectBehind, plainWith, Addable}
+use Rattle.edit.specs.Objects.{objectAfterHeld, plainWith, Addable}
 use Rattle.edit.proofs.PutLaws.{put-room, put-addable, put-stands}
 use Rattle.edit_copy.specs.Copy.{contentIn, contentAt, Copiable}
 
@@ -99,11 +99,11 @@ module _ (t a p q : List ℕ) (b : AreBytes t) (stamp : ℕ) (digest : Digest) (
       pub copy-addable : Addable t₁ a₂ stamp plainKind 0 digest q (head .size)
       copy-addable = subst (Addable t₁ a₂ stamp plainKind 0 digest q) (sym size-is) (put-addable s q (x .content) stamp digest (length a) v valid-content t₁ a₁ h keeps end end-is a₂ written keeps₂)
 
-      pub copy-stands : (t′ a′ : List ℕ) → Stands t′ a′ (withObject (stateOf t₁ a₂) q (objectBehind t₁ a₂ stamp plainKind 0 digest (head .size))) → Stands t′ a′ (withObject s q (plainWith stamp digest (contentAt s p)))
+      pub copy-stands : (t′ a′ : List ℕ) → Stands t′ a′ (withObject (stateOf t₁ a₂) q (objectAfterHeld t₁ a₂ stamp plainKind 0 digest (head .size))) → Stands t′ a′ (withObject s q (plainWith stamp digest (contentAt s p)))
       copy-stands t′ a′ g =
           subst (λ (d : List ℕ). Stands t′ a′ (withObject s q (plainWith stamp digest d))) (sym content-is)
           (put-stands s q (x .content) stamp digest (length a) v valid-content t₁ a₁ h keeps end end-is a₂ written keeps₂ t′ a′
-          (subst (λ (n : ℕ). Stands t′ a′ (withObject (stateOf t₁ a₂) q (objectBehind t₁ a₂ stamp plainKind 0 digest n))) size-is g))
+          (subst (λ (n : ℕ). Stands t′ a′ (withObject (stateOf t₁ a₂) q (objectAfterHeld t₁ a₂ stamp plainKind 0 digest n))) size-is g))
 
 -- a copy to the same path
 pub same-path : (t a p q : List ℕ) (stamp : ℕ) (digest : Digest) → p ≡ q → Copiable t a stamp digest p q → Copiable t a stamp digest p p

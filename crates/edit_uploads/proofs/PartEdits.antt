@@ -34,7 +34,7 @@ use Rattle.find.proofs.Splits.{part-place, part-found}
 use Rattle.find.proofs.Found.{is-some}
 use Rattle.edit.proofs.Changes.{without-part-rows, new-part-rows}
 use Rattle.edit.proofs.OneRow as row
-use Rattle.edit_uploads.specs.Parts.{withoutPart, partBehind}
+use Rattle.edit_uploads.specs.Parts.{withoutPart, partAfterHeld}
 use Rattle.edit_uploads.proofs.PartStates.{open-once, same-uploads, parts-without, without-part-valid}
 
 module _ (t a : List ℕ) (b : AreBytes t) (w : whole t a ≡ true) (u n : ℕ) (x : Upload) (is-open : lookup byNumber u (stateOf t a .U) ≡ some x)
@@ -131,19 +131,19 @@ module _ (t a : List ℕ) (b : AreBytes t) (w : whole t a ≡ true) (u n : ℕ) 
 
   -- put in
   module _ (absent : lookup byNumber n (x .parts) ≡ none) (digest : Digest) (size : ℕ) (room : held s + size ≤ length a)
-      (valid : Valid (length a) (withUpload s u (withPart x n (partBehind t a digest size)))) where
+      (valid : Valid (length a) (withUpload s u (withPart x n (partAfterHeld t a digest size)))) where
     abbrev q : Part
-    q = partBehind t a digest size
+    q = partAfterHeld t a digest size
 
     abbrev s₂ : State
     s₂ = withUpload s u (withPart x n q)
 
     content-length : length (q .content) ≡ size
-    unfolding partBehind
+    unfolding partAfterHeld
     content-length = length-take-le size (drop (held s) a) (rw length-drop (let r = room in omega arith))
 
     content-is : take (length (q .content)) (drop (held s) a) ≡ q .content
-    unfolding partBehind
+    unfolding partAfterHeld
     content-is = ap (λ (i : ℕ). take i (drop (held s) a)) content-length
 
     upload-ok : UploadOk (s .N) u (withPart x n q)
@@ -177,7 +177,7 @@ module _ (t a : List ℕ) (b : AreBytes t) (w : whole t a ≡ true) (u n : ℕ) 
     new-head-is = rw content-length
 
     digest-is : bytesOf digest ≡ partRow n q .digest
-    unfolding partBehind
+    unfolding partAfterHeld
     digest-is = refl
 
     pub record Adding : Type 0 where

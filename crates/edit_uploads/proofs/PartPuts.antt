@@ -26,7 +26,7 @@ use Rattle.find.specs.Places.{placeAfter, partPlace}
 use Rattle.find.proofs.Found.{is-none}
 use Rattle.edit.proofs.MapEdits.{remove-absent, insert-removed}
 use Rattle.edit.proofs.Tail.{tail-stands, tail-read}
-use Rattle.edit_uploads.specs.Parts.{withoutPart, partWith, partBehind, PartRemovable, PartAddable}
+use Rattle.edit_uploads.specs.Parts.{withoutPart, partWith, partAfterHeld, PartRemovable, PartAddable}
 use Rattle.edit_uploads.proofs.PartStates.{open-once, held-without}
 
 -- a key set twice has the later value
@@ -94,8 +94,8 @@ module _ (s : State) (u n : ℕ) (x : Upload) (is-open : lookup byNumber u (s .U
     open₁ : lookup byNumber u (stateOf t₁ a₂ .U) ≡ some x₁
     open₁ = ap (λ (k : State). lookup byNumber u (k .U)) state-is ∙ lookup-insert numbers u x₁ (s .U)
 
-    part-is : partBehind t₁ a₂ digest (length content) ≡ y
-    unfolding partBehind
+    part-is : partAfterHeld t₁ a₂ digest (length content) ≡ y
+    unfolding partAfterHeld
     part-is =
         ap (partWith digest)
         (ap (λ (k : State). take (length content) (drop (held k) a₂)) state-is ∙ tail-read t₁ a₁ s₁ (h x is-open) a₂ content (length content) written keeps₂)
@@ -104,7 +104,7 @@ module _ (s : State) (u n : ℕ) (x : Upload) (is-open : lookup byNumber u (s .U
     put-back : withPart x₁ n y ≡ withPart x n y
     put-back = ap (λ (ps : Map ℕ Part). record { path = x .path; started = x .started; parts = ps }) (insert-removed numbers n y (x .parts) (ok .sorted))
 
-    target : withUpload (stateOf t₁ a₂) u (withPart x₁ n (partBehind t₁ a₂ digest (length content))) ≡ withUpload s u (withPart x n y)
+    target : withUpload (stateOf t₁ a₂) u (withPart x₁ n (partAfterHeld t₁ a₂ digest (length content))) ≡ withUpload s u (withPart x n y)
     target =
         ap₂ (λ (k : State) (z : Part). withUpload k u (withPart x₁ n z)) state-is part-is
         ∙ ap (withU s) (insert-again numbers u x₁ (withPart x₁ n y) (s .U))
@@ -113,7 +113,7 @@ module _ (s : State) (u n : ℕ) (x : Upload) (is-open : lookup byNumber u (s .U
     pub record Putting : Type 0 where
       pub addable : PartAddable t₁ a₂ u n digest (length content)
       pub stands : (t′ a′ : List ℕ)
-          → ((z : Upload) → lookup byNumber u (stateOf t₁ a₂ .U) ≡ some z → Stands t′ a′ (withUpload (stateOf t₁ a₂) u (withPart z n (partBehind t₁ a₂ digest (length content)))))
+          → ((z : Upload) → lookup byNumber u (stateOf t₁ a₂ .U) ≡ some z → Stands t′ a′ (withUpload (stateOf t₁ a₂) u (withPart z n (partAfterHeld t₁ a₂ digest (length content)))))
           → (z : Upload) → lookup byNumber u (s .U) ≡ some z → Stands t′ a′ (withUpload s u (withPart z n y))
 
     pub putting : Putting

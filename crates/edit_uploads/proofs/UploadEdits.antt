@@ -34,7 +34,7 @@ use Rattle.layout.specs.Header.{headerOf, headed, headerAt, headerLength}
 use Rattle.find.specs.declared.Lookup.{Lookup}
 use Rattle.find.specs.declared.PassedParts.{PassedParts}
 use Rattle.find.specs.Places.{placeAfter, beforeUpload, beforeParts, afterUpload, throughParts, uploadPlace, passedParts}
-use Rattle.find.proofs.Splits.{upload-found, parts-behind}
+use Rattle.find.proofs.Splits.{upload-found, parts-after}
 use Rattle.find.proofs.Found.{is-some}
 use Rattle.edit.proofs.Changes.{new-upload-rows, without-upload-rows}
 use Rattle.edit.proofs.Fit.{tables-fit}
@@ -216,7 +216,7 @@ module _ (t a : List ℕ) (b : AreBytes t) (w : whole t a ≡ true) (end : RowPl
           arith,
           used-is,
           at-through,
-          ap length (ap encodeRows (parts-behind s u y found) ∙ encode-append (throughParts s u y) (afterUpload s u)),
+          ap length (ap encodeRows (parts-after s u y found) ∙ encode-append (throughParts s u y) (afterUpload s u)),
           length-append (encodeRows (throughParts s u y)) (encodeRows (afterUpload s u)),
         )
 
@@ -226,7 +226,7 @@ module _ (t a : List ℕ) (b : AreBytes t) (w : whole t a ≡ true) (end : RowPl
           arith,
           held-is,
           base-through,
-          ap length (ap contentsOf (parts-behind s u y found) ∙ contents-append (throughParts s u y) (afterUpload s u)),
+          ap length (ap contentsOf (parts-after s u y found) ∙ contents-append (throughParts s u y) (afterUpload s u)),
           length-append (contentsOf (throughParts s u y)) (contentsOf (afterUpload s u)),
         )
 

@@ -19,8 +19,8 @@ withoutPart x n = record { path = x .path; started = x .started; parts = remove 
 abbrev pub partWith : Digest → (content : List ℕ) → Part
 partWith digest content = record { content = content; digest = bytesOf digest }
 
-unfoldable pub partBehind : (t a : List ℕ) → Digest → (size : ℕ) → Part
-partBehind t a digest size = partWith digest (take size (drop (held (stateOf t a)) a))
+unfoldable pub partAfterHeld : (t a : List ℕ) → Digest → (size : ℕ) → Part
+partAfterHeld t a digest size = partWith digest (take size (drop (held (stateOf t a)) a))
 
 -- upload u is open and has part n
 pub record PartRemovable (t a : List ℕ) (u n : ℕ) : Type 0 where
@@ -36,7 +36,7 @@ pub record PartAddable (t a : List ℕ) (u n : ℕ) (digest : Digest) (size : �
   pub is-open : lookup byNumber u (stateOf t a .U) ≡ some upload
   pub absent : lookup byNumber n (upload .parts) ≡ none
   pub room : held (stateOf t a) + size ≤ length a
-  pub valid : Valid (length a) (withUpload (stateOf t a) u (withPart upload n (partBehind t a digest size)))
+  pub valid : Valid (length a) (withUpload (stateOf t a) u (withPart upload n (partAfterHeld t a digest size)))
 
 -- upload u is open, and the state with this part keeps the rules and ceilings
 pub record PartPuttable (t a : List ℕ) (u n : ℕ) (digest : Digest) (content : List ℕ) : Type 0 where

@@ -8,7 +8,7 @@ ghost use mathlib.Core.Option.{some};
 ghost use Rattle.machine.specs.Map.{isSome, byNumber, lookup};
 ghost use Rattle.machine.specs.State.{Upload, withUpload, withPart};
 ghost use Rattle.layout.specs.Memory.{whole, stateOf, Stands};
-ghost use Rattle.edit_uploads.specs.Parts.{withoutPart, partWith, partBehind, PartRemovable, PartAddable, PartPuttable};
+ghost use Rattle.edit_uploads.specs.Parts.{withoutPart, partWith, partAfterHeld, PartRemovable, PartAddable, PartPuttable};
 
 // A part that is there, taken out.
 fn remove_part(tables: &mut [u8], arena: &mut [u8], upload: u32, number: u16)
@@ -43,7 +43,7 @@ fn add_part(
     size: usize,
 )
     requires { ⌜ PartAddable (now tables) (now arena) upload number digest size ⌝ }
-    ensures { λ _. ⌜ ((x : Upload) → lookup byNumber upload (stateOf (now (tables .entry)) (now (arena .entry)) .U) ≡ some x → Stands (now (tables .exit)) (now (arena .exit)) (withUpload (stateOf (now (tables .entry)) (now (arena .entry))) upload (withPart x number (partBehind (now (tables .entry)) (now (arena .entry)) digest size)))) ⌝ }
+    ensures { λ _. ⌜ ((x : Upload) → lookup byNumber upload (stateOf (now (tables .entry)) (now (arena .entry)) .U) ≡ some x → Stands (now (tables .exit)) (now (arena .exit)) (withUpload (stateOf (now (tables .entry)) (now (arena .entry))) upload (withPart x number (partAfterHeld (now (tables .entry)) (now (arena .entry)) digest size)))) ⌝ }
 {
     let place = find::find_part(tables, arena, upload, number);
     let end = find::rows_end(tables, arena);

@@ -19,7 +19,7 @@ use Rattle.find.specs.declared.search.Goal.{Goal}
 use Rattle.find.specs.declared.search.Goal.the-variants as goal
 use Rattle.find.specs.Places.{placeAfter, beforeUpload, beforeParts, beforePart, throughParts, fromUpload, afterUpload, fromPart, uploadPlace, partPlace, passedParts}
 use Rattle.find.specs.Search.{reach, stopsOf, rowPlaceAt, IsRowPlace, sought, leads}
-use Rattle.find.proofs.Splits.{upload-place, upload-found, parts-place, parts-behind, part-place}
+use Rattle.find.proofs.Splits.{upload-place, upload-found, parts-place, parts-after, part-place}
 use Rattle.find.proofs.Walk.{rowPlace}
 use Rattle.find.proofs.Searches.{reach-end, reach-upload, upload-leads, reach-part, part-leads, reach-next}
 use Rattle.find.proofs.Found.{is-some}
@@ -57,14 +57,14 @@ place-after rs xs ys e =
     ap (λ (l : List Row). record { row = length xs; at = headerLength + length (encodeRows l); base = length (contentsOf l) })
     (ap (take (length xs)) e ∙ take-at xs ys (length xs) refl)
 
-pub record Behind (rs xs ys : List Row) (p : RowPlace) : Type 0 where
+pub record PlacedAfter (rs xs ys : List Row) (p : RowPlace) : Type 0 where
   pub at : p .at ≡ headerLength + length (encodeRows xs)
   pub base : p .base ≡ length (contentsOf xs)
   pub row : p .row ≡ length xs
   pub rest : drop (p .row) rs ≡ ys
 
-pub place-behind : (rs xs ys : List Row) (p : RowPlace) → rs ≡ xs ++ ys → p ≡ rowPlaceAt rs (length xs) → Behind rs xs ys p
-place-behind rs xs ys p e q =
+pub placed-after : (rs xs ys : List Row) (p : RowPlace) → rs ≡ xs ++ ys → p ≡ rowPlaceAt rs (length xs) → PlacedAfter rs xs ys p
+placed-after rs xs ys p e q =
     let a : p ≡ placeAfter xs = q ∙ place-after rs xs ys e in
     let n : p .row ≡ length xs = ap (λ (z : RowPlace). z .row) a in
     record {
@@ -75,9 +75,9 @@ place-behind rs xs ys p e q =
     }
 
 -- a search from after the rows xs passes zs
-sought-behind : (g : Goal) (rs xs ys zs : List Row) (i : ℕ) → rs ≡ xs ++ ys → i ≡ length xs → reach (stopsOf g) ys ≡ length zs → sought g rs i ≡ rowPlaceAt rs (length (xs ++ zs))
+sought-passes : (g : Goal) (rs xs ys zs : List Row) (i : ℕ) → rs ≡ xs ++ ys → i ≡ length xs → reach (stopsOf g) ys ≡ length zs → sought g rs i ≡ rowPlaceAt rs (length (xs ++ zs))
 unfolding sought
-sought-behind g rs xs ys zs i e n r =
+sought-passes g rs xs ys zs i e n r =
     let d : drop i rs ≡ ys = ap (λ (j : ℕ). drop j rs) n ∙ ap (drop (length xs)) e ∙ drop-at xs ys (length xs) refl in
     let m : i + reach (stopsOf g) (drop i rs) ≡ length (xs ++ zs) = omega (arith, ap (reach (stopsOf g)) d, length-append xs zs) in
     ap (rowPlaceAt rs) m
@@ -85,13 +85,13 @@ sought-behind g rs xs ys zs i e n r =
 -- The end of the rows ----------------------------------------------------------------------------------------------------
 
 pub end-answer : (rs : List Row) (p : RowPlace) → p ≡ sought goal.End rs 0 → p ≡ placeAfter rs
-end-answer rs p e = e ∙ sought-behind goal.End rs [] rs rs 0 refl refl (reach-end rs) ∙ place-after rs rs [] (sym (append-nil rs))
+end-answer rs p e = e ∙ sought-passes goal.End rs [] rs rs 0 refl refl (reach-end rs) ∙ place-after rs rs [] (sym (append-nil rs))
 
 -- Uploads ----------------------------------------------------------------------------------------------------------------
 
 pub upload-answer : (s : State) (u : ℕ) (p : RowPlace) → p ≡ sought (goal.Upload u) (rowsOf s) 0 → p ≡ rowPlaceAt (rowsOf s) (length (beforeUpload s u))
 unfolding beforeUpload
-upload-answer s u p e = e ∙ sought-behind (goal.Upload u) (rowsOf s) [] (rowsOf s) (beforeUpload s u) 0 refl refl (reach-upload s u)
+upload-answer s u p e = e ∙ sought-passes (goal.Upload u) (rowsOf s) [] (rowsOf s) (beforeUpload s u) 0 refl refl (reach-upload s u)
 
 pub upload-within : (s : State) (u : ℕ) → length (beforeUpload s u) ≤ length (rowsOf s)
 upload-within s u = omega (arith, ap length (upload-place s u), length-append (beforeUpload s u) (fromUpload s u))
@@ -100,7 +100,7 @@ pub found-upload : (s : State) (u : ℕ) (p : RowPlace) (found : Bool) → p ≡
     → record { found = found; at = p .at; base = p .base } ≡ uploadPlace s u
 unfolding uploadPlace fromUpload
 found-upload s u p found e f =
-    let k = place-behind (rowsOf s) (beforeUpload s u) (fromUpload s u) p (upload-place s u) e in
+    let k = placed-after (rowsOf s) (beforeUpload s u) (fromUpload s u) p (upload-place s u) e in
     let g : found ≡ isSome (lookup byNumber u (s .U)) = f ∙ ap (leads uploadKind u) (k .rest) ∙ upload-leads u (s .U) in
     λ i. record { found = g i; at = k .at i; base = k .base i }
 
@@ -136,8 +136,8 @@ module _ (s : State) (u : ℕ) (x : Upload) (f : lookup byNumber u (s .U) ≡ so
   found-part n p found q r =
       let ps = x .parts in
       let z = partRows (take (place byNumber n ps) ps) in
-      let m = sought-behind (goal.Part n) (rowsOf s) (beforeParts s u x) (partRows ps ++ afterUpload s u) z (first .row) (parts-place s u x f) first-row (reach-part n ps _) in
-      let k = place-behind (rowsOf s) (beforePart s u x n) (fromPart s u x n) p (part-place s u x f n) (q ∙ m) in
+      let m = sought-passes (goal.Part n) (rowsOf s) (beforeParts s u x) (partRows ps ++ afterUpload s u) z (first .row) (parts-place s u x f) first-row (reach-part n ps _) in
+      let k = placed-after (rowsOf s) (beforePart s u x n) (fromPart s u x n) p (part-place s u x f n) (q ∙ m) in
       let g : found ≡ isSome (lookup byNumber n ps) = r ∙ ap (leads partKind n) (k .rest) ∙ part-leads n ps _ in
       λ i. record { found = g i; at = k .at i; base = k .base i }
 
@@ -145,10 +145,10 @@ module _ (s : State) (u : ℕ) (x : Upload) (f : lookup byNumber u (s .U) ≡ so
   unfolding passedParts throughParts afterUpload
   all-parts p q =
       let ps = x .parts in
-      let m = sought-behind goal.NextUpload (rowsOf s) (beforeParts s u x) (partRows ps ++ afterUpload s u) (partRows ps) (first .row) (parts-place s u x f) first-row (reach-next ps _) in
+      let m = sought-passes goal.NextUpload (rowsOf s) (beforeParts s u x) (partRows ps ++ afterUpload s u) (partRows ps) (first .row) (parts-place s u x f) first-row (reach-next ps _) in
       let n = place-row (rowsOf s) p (length (beforeParts s u x ++ partRows ps)) (q ∙ m) in
       let c : p .row - first .row ≡ length ps = omega (arith, first-row, length-append (beforeParts s u x) (partRows ps), length-part-rows ps) in
-      let k = q ∙ m ∙ place-after (rowsOf s) (throughParts s u x) (afterUpload s u) (parts-behind s u x f) in
+      let k = q ∙ m ∙ place-after (rowsOf s) (throughParts s u x) (afterUpload s u) (parts-after s u x f) in
       λ i. record { count = c i; next = k i }
 
 pub sought-after : (g : Goal) (rs : List Row) (p : RowPlace) (i : ℕ) → p ≡ sought g rs i → i ≤ p .row

@@ -16,10 +16,10 @@ use Rattle.layout.specs.Header.{encodeHeader, headerLength}
 -- tables and arena, cut after the rows xs, where ys are the rest
 pub record Cut (t a : List ℕ) (s : State) (h : Stands t a s) (xs ys : List Row) : Type 0 where
   pub before : take (headerLength + length (encodeRows xs)) t ≡ encodeHeader (length a) s ++ encodeRows xs
-  pub behind : drop (headerLength + length (encodeRows xs)) t ≡ encodeRows ys ++ h .tables-free
+  pub after : drop (headerLength + length (encodeRows xs)) t ≡ encodeRows ys ++ h .tables-free
   pub inside : headerLength + length (encodeRows xs) ≤ length t
   pub arena-before : take (length (contentsOf xs)) a ≡ contentsOf xs
-  pub arena-behind : drop (length (contentsOf xs)) a ≡ contentsOf ys ++ h .arena-free
+  pub arena-after : drop (length (contentsOf xs)) a ≡ contentsOf ys ++ h .arena-free
   pub arena-inside : length (contentsOf xs) ≤ length a
 
 module _ (t a : List ℕ) (s : State) (h : Stands t a s) (xs ys : List Row) (e : rowsOf s ≡ xs ++ ys) where
@@ -36,10 +36,10 @@ module _ (t a : List ℕ) (s : State) (h : Stands t a s) (xs ys : List Row) (e :
   cut =
       record {
         before = ap (take (headerLength + length (encodeRows xs))) tables-cut ∙ take-at (encodeHeader (length a) s ++ encodeRows xs) (encodeRows ys ++ h .tables-free) (headerLength + length (encodeRows xs)) length-front;
-        behind = ap (drop (headerLength + length (encodeRows xs))) tables-cut ∙ drop-at (encodeHeader (length a) s ++ encodeRows xs) (encodeRows ys ++ h .tables-free) (headerLength + length (encodeRows xs)) length-front;
+        after = ap (drop (headerLength + length (encodeRows xs))) tables-cut ∙ drop-at (encodeHeader (length a) s ++ encodeRows xs) (encodeRows ys ++ h .tables-free) (headerLength + length (encodeRows xs)) length-front;
         inside = omega (arith, ap length tables-cut, length-append (encodeHeader (length a) s ++ encodeRows xs) (encodeRows ys ++ h .tables-free), length-front);
         arena-before = ap (take (length (contentsOf xs))) arena-cut ∙ take-at (contentsOf xs) (contentsOf ys ++ h .arena-free) (length (contentsOf xs)) refl;
-        arena-behind = ap (drop (length (contentsOf xs))) arena-cut ∙ drop-at (contentsOf xs) (contentsOf ys ++ h .arena-free) (length (contentsOf xs)) refl;
+        arena-after = ap (drop (length (contentsOf xs))) arena-cut ∙ drop-at (contentsOf xs) (contentsOf ys ++ h .arena-free) (length (contentsOf xs)) refl;
         arena-inside = omega (arith, ap length arena-cut, length-append (contentsOf xs) (contentsOf ys ++ h .arena-free));
       }
 
@@ -66,11 +66,11 @@ module _ (t a : List ℕ) (s : State) (h : Stands t a s) (xs : List Row) (r : Ro
 
   row-here : drop place t ≡ encodeRow r ++ (encodeRows ys ++ h .tables-free)
   unfolding encodeRows
-  row-here = cut t a s h xs (r ∷ ys) e .behind ∙ append-assoc (encodeRow r) (encodeRows ys) (h .tables-free)
+  row-here = cut t a s h xs (r ∷ ys) e .after ∙ append-assoc (encodeRow r) (encodeRows ys) (h .tables-free)
 
   content-here : drop (length (contentsOf xs)) a ≡ r .content ++ (contentsOf ys ++ h .arena-free)
   unfolding contentsOf
-  content-here = cut t a s h xs (r ∷ ys) e .arena-behind ∙ append-assoc (r .content) (contentsOf ys) (h .arena-free)
+  content-here = cut t a s h xs (r ∷ ys) e .arena-after ∙ append-assoc (r .content) (contentsOf ys) (h .arena-free)
 
   head-here : headAt (drop place t) ≡ headOf r
   head-here = ap headAt row-here ∙ head-back r row-encodable (encodeRows ys ++ h .tables-free) []

@@ -75,9 +75,9 @@ module _ (s : State) (u : ℕ) (x : Upload) (f : lookup byNumber u (s .U) ≡ so
   unfolding beforeParts
   parts-place = upload-found ∙ sym (append-assoc (beforeUpload s u) (uploadRow u x ∷ []) (partRows (x .parts) ++ afterUpload s u))
 
-  pub parts-behind : rowsOf s ≡ throughParts s u x ++ afterUpload s u
+  pub parts-after : rowsOf s ≡ throughParts s u x ++ afterUpload s u
   unfolding throughParts
-  parts-behind = parts-place ∙ sym (append-assoc (beforeParts s u x) (partRows (x .parts)) (afterUpload s u))
+  parts-after = parts-place ∙ sym (append-assoc (beforeParts s u x) (partRows (x .parts)) (afterUpload s u))
 
   -- at a part
   pub part-place : (n : ℕ) → rowsOf s ≡ beforePart s u x n ++ fromPart s u x n

@@ -31,7 +31,7 @@ fn stops(h: Head, goal: Goal) -> bool
 }
 
 // The row after a row.
-pub(crate) fn row_behind(tables: &[u8], arena: &[u8], from: RowPlace) -> RowPlace
+pub(crate) fn next_row(tables: &[u8], arena: &[u8], from: RowPlace) -> RowPlace
     requires { ⌜ (whole (now tables) (now arena) ≡ true) × ((from ≡ rowPlaceAt (rowsOf (stateOf (now tables) (now arena))) (from .row)) × (from .row < length (rowsOf (stateOf (now tables) (now arena))))) ⌝ }
     ensures { λ r. ⌜ r ≡ rowPlaceAt (rowsOf (stateOf (now (tables .entry)) (now (arena .entry)))) (from .row + 1) ⌝ }
 {

@@ -3,7 +3,7 @@ use crate::Lookup;
 use crate::PassedParts;
 use crate::RowPlace;
 use crate::search::Goal;
-use crate::search::row_behind;
+use crate::search::next_row;
 use crate::search::seek;
 use crate::search::stands;
 ghost use mathlib.Core.Path.{_≡_};
@@ -36,7 +36,7 @@ pub fn parts_row(tables: &[u8], arena: &[u8], upload: u32) -> RowPlace
     ensures { λ r. ⌜ r ≡ rowPlaceAt (rowsOf (stateOf (now (tables .entry)) (now (arena .entry)))) (length (beforeUpload (stateOf (now (tables .entry)) (now (arena .entry))) upload) + 1) ⌝ }
 {
     let here = upload_row(tables, arena, upload);
-    row_behind(tables, arena, here)
+    next_row(tables, arena, here)
 }
 
 // The end of the rows.
@@ -103,7 +103,7 @@ pub fn pass_parts(tables: &[u8], arena: &[u8], here: RowPlace) -> PassedParts
     requires { ⌜ (whole (now tables) (now arena) ≡ true) × ((here ≡ rowPlaceAt (rowsOf (stateOf (now tables) (now arena))) (here .row)) × (here .row < length (rowsOf (stateOf (now tables) (now arena))))) ⌝ }
     ensures { λ r. ⌜ ((u : ℕ) (x : Upload) → here ≡ rowPlaceAt (rowsOf (stateOf (now (tables .entry)) (now (arena .entry)))) (length (beforeUpload (stateOf (now (tables .entry)) (now (arena .entry))) u)) → lookup byNumber u (stateOf (now (tables .entry)) (now (arena .entry)) .U) ≡ some x → r ≡ passedParts (stateOf (now (tables .entry)) (now (arena .entry))) u x) ⌝ }
 {
-    let first = row_behind(tables, arena, here);
+    let first = next_row(tables, arena, here);
     let next = seek(tables, arena, first, Goal::NextUpload);
     PassedParts {
         count: next.row - first.row,

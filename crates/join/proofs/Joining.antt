@@ -15,7 +15,7 @@ use Rattle.machine.proofs.Fit.{fit-length}
 use Rattle.machine.proofs.MapLaws.{lookup-remove}
 use Rattle.layout.specs.Memory.{stateOf, Stands}
 use Rattle.layout.proofs.StandsLaws.{stands-state, stands-whole}
-use Rattle.edit.specs.Objects.{objectBehind, Addable}
+use Rattle.edit.specs.Objects.{objectAfterHeld, Addable}
 use Rattle.edit.proofs.MapEdits.{insert-removed}
 use Rattle.contract.specs.Answers.{partList}
 use Rattle.join.specs.declared.Taken.{Taken}
@@ -44,16 +44,16 @@ module _ (t a : List ℕ) (s : State) (h : Stands t a s) (u : ℕ) (list : Bytes
     same : stateOf t₂ a₂ ≡ s₂
     same = stands-state t₂ a₂ s₂ (g .stands)
 
-    object-is : objectBehind t₂ a₂ stamp 1 (r .count) (r .digest) (r .size) ≡ y
-    unfolding objectBehind
+    object-is : objectAfterHeld t₂ a₂ stamp 1 (r .count) (r .digest) (r .size) ≡ y
+    unfolding objectAfterHeld
     object-is =
-        let c : take (r .size) (drop (held (stateOf t₂ a₂)) a₂) ≡ contents (k .listed) = ap (λ (z : State). take (r .size) (drop (held z) a₂)) same ∙ g .behind in
+        let c : take (r .size) (drop (held (stateOf t₂ a₂)) a₂) ≡ contents (k .listed) = ap (λ (z : State). take (r .size) (drop (held z) a₂)) same ∙ g .content in
         rw (c, stamp-is, g .digest-is, g .count-is)
 
     put-same : insert byBytes p y (remove byBytes p (s .O)) ≡ insert byBytes (k .upload .path) y (s .O)
     put-same = insert-removed bytes p y (s .O) (h .valid .objects) ∙ ap (λ (q : Bytes). insert byBytes q y (s .O)) p-is
 
-    pub state-is : withObject (stateOf t₂ a₂) p (objectBehind t₂ a₂ stamp 1 (r .count) (r .digest) (r .size)) ≡ joinedState s u (partList list) k
+    pub state-is : withObject (stateOf t₂ a₂) p (objectAfterHeld t₂ a₂ stamp 1 (r .count) (r .digest) (r .size)) ≡ joinedState s u (partList list) k
     state-is =
         ap₂ (λ (z : State) (o : Object). withObject z p o) (same ∙ ap (λ (z : State). withoutUpload z u) (stands-state t₁ a₁ (withoutObject s p) h₁)) object-is
         ∙ (λ i. record { O = put-same i; U = withoutUpload s u .U; N = s .N })
@@ -65,9 +65,9 @@ module _ (t a : List ℕ) (s : State) (h : Stands t a s) (u : ℕ) (list : Bytes
           is-whole = stands-whole t₂ a₂ s₂ (g .stands);
           absent = ap (λ (z : State). lookup byBytes p (z .O)) (same ∙ ap (λ (z : State). withoutUpload z u) (stands-state t₁ a₁ (withoutObject s p) h₁)) ∙ lookup-remove bytes p (s .O) (h .valid .objects);
           room = subst (λ (z : State). held z + r .size ≤ length a₂) (sym same)
-              (omega (arith, ap length (g .behind), g .size-is, length-take (r .size) (drop (held s₂) a₂), length-drop (held s₂) a₂));
+              (omega (arith, ap length (g .content), g .size-is, length-take (r .size) (drop (held s₂) a₂), length-drop (held s₂) a₂));
           kind-most = omega arith;
           count-most = omega (arith, g .count-is, fit-length (partList list) (k .upload .parts) (k .listed) (k .fits), few-parts t a s h u (k .upload) (k .found));
-          valid = subst (λ (A : ℕ). Valid A (withObject (stateOf t₂ a₂) p (objectBehind t₂ a₂ stamp 1 (r .count) (r .digest) (r .size)))) (sym l₂)
+          valid = subst (λ (A : ℕ). Valid A (withObject (stateOf t₂ a₂) p (objectAfterHeld t₂ a₂ stamp 1 (r .count) (r .digest) (r .size)))) (sym l₂)
               (subst (λ (z : State). Valid (length a) z) (sym state-is) valid);
         }

@@ -32,7 +32,7 @@ use Rattle.layout.proofs.RowCounts.{length-contents, length-part-contents}
 use Rattle.layout.proofs.StandsLaws.{length-header}
 use Rattle.layout.specs.Header.{headerOf, headed, encodeHeader, headerLength}
 use Rattle.find.specs.Places.{beforeUpload, beforeParts, throughParts, afterUpload}
-use Rattle.find.proofs.Splits.{parts-place, parts-behind}
+use Rattle.find.proofs.Splits.{parts-place, parts-after}
 use Rattle.edit.proofs.Changes.{without-upload-rows}
 use Rattle.edit.proofs.Fit.{tables-fit}
 use Rattle.edit.proofs.RowLists.{rows-spliced, header-written}
@@ -94,9 +94,9 @@ module _ (t a : List ℕ) (s : State) (h : Stands t a s) (u : ℕ) (x : Upload) 
   unfolding boundsOf
   first-is = ap (λ (k : Bounds). k .first) b-is
 
-  behind-is : b .behind ≡ headerLength + length (encodeRows (throughParts s u x))
+  after-is : b .after ≡ headerLength + length (encodeRows (throughParts s u x))
   unfolding boundsOf
-  behind-is = ap (λ (k : Bounds). k .behind) b-is
+  after-is = ap (λ (k : Bounds). k .after) b-is
 
   used-is : b .used ≡ headerLength + length (encodeRows (rowsOf s))
   unfolding boundsOf
@@ -125,11 +125,11 @@ module _ (t a : List ℕ) (s : State) (h : Stands t a s) (u : ℕ) (x : Upload) 
         region = record {
           parts = x .parts;
           before = header ++ encodeRows ahead;
-          behind = encodeRows after ++ h .tables-free;
+          after = encodeRows after ++ h .tables-free;
           tables = tables-told;
           starts = omega (arith, length-append header (encodeRows ahead), length-header (length a) s (h .small) (h .valid), first-is);
           arena-before = contentsOf ahead;
-          arena-behind = contentsOf after ++ h .arena-free;
+          arena-after = contentsOf after ++ h .arena-free;
           arena = arena-told;
           arena-starts = ap length (parts-data s u x) ∙ sym base-is;
           encodable = parts-encodable t a s h u x f;
@@ -155,13 +155,13 @@ module _ (t a : List ℕ) (s : State) (h : Stands t a s) (u : ℕ) (x : Upload) 
 
   -- what `cut` asks, in memory of the same lengths
   pub cut-inside : (t₁ a₁ : List ℕ) → length t₁ ≡ length t → length a₁ ≡ length a
-      → (headerLength ≤ b .at) × (b .at ≤ b .behind) × (b .behind ≤ b .used) × (b .used ≤ length t₁) × (b .base + b .size ≤ b .held) × (b .held ≤ length a₁)
+      → (headerLength ≤ b .at) × (b .at ≤ b .after) × (b .after ≤ b .used) × (b .used ≤ length t₁) × (b .base + b .size ≤ b .held) × (b .held ≤ length a₁)
   cut-inside t₁ a₁ l l′ =
       let z = h .size in
       let r = h .valid .room in (
         omega (arith, at-is),
-        omega (arith, at-is, behind-is, rows-through t a s h u x f, rows-ahead),
-        omega (arith, behind-is, used-is, rows-used),
+        omega (arith, at-is, after-is, rows-through t a s h u x f, rows-ahead),
+        omega (arith, after-is, used-is, rows-used),
         omega (arith, used-is, tables-fit (length a) s (h .small) (h .valid)),
         omega (arith, base-is, size-is, held-is, data-used),
         omega (arith, held-is, length-contents s),
@@ -172,13 +172,13 @@ module _ (t a : List ℕ) (s : State) (h : Stands t a s) (u : ℕ) (x : Upload) 
 
       rows-used : length (encodeRows (rowsOf s)) ≡ length (encodeRows (throughParts s u x)) + length (encodeRows after)
       rows-used =
-          omega (arith, ap length (ap encodeRows (parts-behind s u x f) ∙ encode-append (throughParts s u x) after), length-append (encodeRows (throughParts s u x)) (encodeRows after))
+          omega (arith, ap length (ap encodeRows (parts-after s u x f) ∙ encode-append (throughParts s u x) after), length-append (encodeRows (throughParts s u x)) (encodeRows after))
 
       data-used : length (contentsOf (rowsOf s)) ≡ length (contentsOf (beforeUpload s u)) + length (contentsOf parts) + length (contentsOf after)
       data-used =
           omega (
             arith,
-            ap length (ap contentsOf (parts-behind s u x f) ∙ contents-append (throughParts s u x) after),
+            ap length (ap contentsOf (parts-after s u x f) ∙ contents-append (throughParts s u x) after),
             length-append (contentsOf (throughParts s u x)) (contentsOf after),
             data-through t a s h u x f,
           )
@@ -234,14 +234,14 @@ module _ (t a : List ℕ) (s : State) (h : Stands t a s) (u : ℕ) (x : Upload) 
           length-append (encodeRows (rowsOf s)) (h .tables-free),
         )
 
-    width : b .behind - b .at ≡ length (encodeRows gone)
+    width : b .after - b .at ≡ length (encodeRows gone)
     width =
         omega (
           arith,
           same-used,
           at-is,
-          behind-is,
-          ap length (ap encodeRows (parts-behind s u x f) ∙ encode-append (throughParts s u x) after),
+          after-is,
+          ap length (ap encodeRows (parts-after s u x f) ∙ encode-append (throughParts s u x) after),
           length-append (encodeRows (throughParts s u x)) (encodeRows after),
           ap length (encode-append (beforeUpload s u) (gone ++ after)),
           length-append (encodeRows (beforeUpload s u)) (encodeRows (gone ++ after)),
@@ -249,7 +249,7 @@ module _ (t a : List ℕ) (s : State) (h : Stands t a s) (u : ℕ) (x : Upload) 
           length-append (encodeRows gone) (encodeRows after),
         )
 
-    pub tables-cut : (t₂ : List ℕ) → t₂ ≡ spliced t₁ (b .at) (b .behind - b .at) (b .used) []
+    pub tables-cut : (t₂ : List ℕ) → t₂ ≡ spliced t₁ (b .at) (b .after - b .at) (b .used) []
         → t₂ ≡ header ++ (encodeRows (rowsOf s′) ++ drop (headerLength + length (encodeRows (beforeUpload s u ++ after))) t₁)
     unfolding encodeRows
     tables-cut t₂ c =
@@ -268,7 +268,7 @@ module _ (t a : List ℕ) (s : State) (h : Stands t a s) (u : ℕ) (x : Upload) 
           base-is,
           size-is,
           held-is,
-          ap length (ap contentsOf (parts-behind s u x f) ∙ contents-append (throughParts s u x) after),
+          ap length (ap contentsOf (parts-after s u x f) ∙ contents-append (throughParts s u x) after),
           length-append (contentsOf (throughParts s u x)) (contentsOf after),
           data-through t a s h u x f,
         )
@@ -284,7 +284,7 @@ module _ (t a : List ℕ) (s : State) (h : Stands t a s) (u : ℕ) (x : Upload) 
 
   -- the upload's rows cut out of the ordered tables, and its data moved to after those still held
   pub taken : (t₁ a₁ t₂ a₂ : List ℕ) (digest : Digest) (head : Header) → Arranged t a (b .first) (b .base) list listed-at t₁ a₁ digest → length t₁ ≡ length t → head ≡ headerOf (length a) s
-      → t₂ ≡ headed (spliced t₁ (b .at) (b .behind - b .at) (b .used) [])
+      → t₂ ≡ headed (spliced t₁ (b .at) (b .after - b .at) (b .used) [])
       (record { arena = head .arena; next = head .next; objects = head .objects; uploads = head .uploads - 1; parts = head .parts - b .count })
       → a₂ ≡ rotated a₁ (b .base) (b .size) (b .held - (b .base + b .size)) → length t₂ ≡ length t → length a₂ ≡ length a
       → Stands t₂ a₂ s′ × (take (b .size) (drop (held s′) a₂) ≡ contents ys) × (b .size ≡ length (contents ys)) × (b .count ≡ length ys) × (bytesOf digest ≡ md5 (digests ys))

@@ -74,27 +74,27 @@ module _ (t a : List ℕ) (s : State) (h : Stands t a s) (u : ℕ) (x : Upload) 
     unfolding passedParts
     count-is = ap (λ (k : PassedParts). k .count) parts-are
 
-    behind-is : parts .next .at ≡ headerLength + length (encodeRows (throughParts s u x))
+    after-is : parts .next .at ≡ headerLength + length (encodeRows (throughParts s u x))
     unfolding passedParts
-    behind-is = ap (λ (k : PassedParts). k .next .at) parts-are
+    after-is = ap (λ (k : PassedParts). k .next .at) parts-are
 
-    data-behind : parts .next .base ≡ length (contentsOf (throughParts s u x))
+    data-after : parts .next .base ≡ length (contentsOf (throughParts s u x))
     unfolding passedParts
-    data-behind = ap (λ (k : PassedParts). k .next .base) parts-are
+    data-after = ap (λ (k : PassedParts). k .next .base) parts-are
 
     pub count-small : parts .count ≤ partsMost
     count-small = omega (arith, count-is, few-parts)
 
-    pub rows-behind : headLength * parts .count ≤ parts .next .at
-    rows-behind = omega (arith, count-is, behind-is, rows-through)
+    pub rows-within : headLength * parts .count ≤ parts .next .at
+    rows-within = omega (arith, count-is, after-is, rows-through)
 
-    pub base-behind : place .base ≤ parts .next .base
-    base-behind = omega (arith, base-is, data-behind, data-through)
+    pub base-within : place .base ≤ parts .next .base
+    base-within = omega (arith, base-is, data-after, data-through)
 
     pub bounds-are : record {
       at = place .at;
       first = parts .next .at - headLength * parts .count;
-      behind = parts .next .at;
+      after = parts .next .at;
       used = end .at;
       base = place .base;
       size = parts .next .base - place .base;
@@ -103,8 +103,8 @@ module _ (t a : List ℕ) (s : State) (h : Stands t a s) (u : ℕ) (x : Upload) 
     } ≡ boundsOf s u x
     unfolding boundsOf
     bounds-are =
-        let first : parts .next .at - headLength * parts .count ≡ headerLength + length (encodeRows (beforeParts s u x)) = omega (arith, count-is, behind-is, rows-through) in
-        let size : parts .next .base - place .base ≡ length (contentsOf (partRows (x .parts))) = omega (arith, base-is, data-behind, data-through) in
+        let first : parts .next .at - headLength * parts .count ≡ headerLength + length (encodeRows (beforeParts s u x)) = omega (arith, count-is, after-is, rows-through) in
+        let size : parts .next .base - place .base ≡ length (contentsOf (partRows (x .parts))) = omega (arith, base-is, data-after, data-through) in
         let used : end .at ≡ headerLength + length (encodeRows (rowsOf s)) = ap (λ (k : RowPlace). k .at) end-is in
         let held : end .base ≡ length (contentsOf (rowsOf s)) = ap (λ (k : RowPlace). k .base) end-is in
-        λ i. record { at = at-is i; first = first i; behind = behind-is i; used = used i; base = base-is i; size = size i; held = held i; count = count-is i }
+        λ i. record { at = at-is i; first = first i; after = after-is i; used = used i; base = base-is i; size = size i; held = held i; count = count-is i }

@@ -13,7 +13,7 @@ boundsOf s u x =
     record {
       at = headerLength + length (encodeRows (beforeUpload s u));
       first = headerLength + length (encodeRows (beforeParts s u x));
-      behind = headerLength + length (encodeRows (throughParts s u x));
+      after = headerLength + length (encodeRows (throughParts s u x));
       used = headerLength + length (encodeRows (rowsOf s));
       base = length (contentsOf (beforeUpload s u));
       size = length (contentsOf (partRows (x .parts)));

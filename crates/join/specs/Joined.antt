@@ -36,7 +36,7 @@ pub record Joinable (t a : List ℕ) (u : ℕ) (list : Bytes) : Type 0 where
 -- the upload is out, and its parts' data stand after the last byte held, in listed order
 pub record TakenOut (t a : List ℕ) (u : ℕ) (list : Bytes) (k : Listed (stateOf t a) u (partList list)) (t′ a′ : List ℕ) (r : Taken) : Type 0 where
   pub stands : Stands t′ a′ (withoutUpload (stateOf t a) u)
-  pub behind : take (r .size) (drop (held (withoutUpload (stateOf t a) u)) a′) ≡ contents (k .listed)
+  pub content : take (r .size) (drop (held (withoutUpload (stateOf t a) u)) a′) ≡ contents (k .listed)
   pub size-is : r .size ≡ length (contents (k .listed))
   pub count-is : r .count ≡ length (k .listed)
   pub digest-is : bytesOf (r .digest) ≡ md5 (digests (k .listed))

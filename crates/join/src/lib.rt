@@ -21,7 +21,7 @@ ghost use Rattle.join.specs.Joined.{Listed, TakenOut, Joinable, Joinable
 pub struct Bounds {
     pub at: usize,
     pub first: usize,
-    pub behind: usize,
+    pub after: usize,
     pub used: usize,
     pub base: usize,
     pub size: usize,
@@ -48,7 +48,7 @@ fn upload_bounds(tables: &[u8], arena: &[u8], upload: u32) -> Bounds
     Bounds {
         at: place.at,
         first: next.at - row::HEAD_LENGTH * parts.count,
-        behind: next.at,
+        after: next.at,
         used: end.at,
         base: place.base,
         size: next.base - place.base,
@@ -59,13 +59,13 @@ fn upload_bounds(tables: &[u8], arena: &[u8], upload: u32) -> Bounds
 
 // The upload's rows cut out, and its parts' data moved to after the last byte that is still held.
 fn cut(tables: &mut [u8], arena: &mut [u8], b: Bounds, header: Header)
-    requires { ⌜ (headerLength ≤ b .at) × (b .at ≤ b .behind) × (b .behind ≤ b .used) × (b .used ≤ length (now tables)) × (b .base + b .size ≤ b .held) × (b .held ≤ length (now arena)) ⌝ }
-    ensures { λ _. ⌜ (now (tables .exit) ≡ headed (spliced (now (tables .entry)) (b .at) (b .behind - b .at) (b .used) []) header)
+    requires { ⌜ (headerLength ≤ b .at) × (b .at ≤ b .after) × (b .after ≤ b .used) × (b .used ≤ length (now tables)) × (b .base + b .size ≤ b .held) × (b .held ≤ length (now arena)) ⌝ }
+    ensures { λ _. ⌜ (now (tables .exit) ≡ headed (spliced (now (tables .entry)) (b .at) (b .after - b .at) (b .used) []) header)
         × (now (arena .exit) ≡ rotated (now (arena .entry)) (b .base) (b .size) (b .held - (b .base + b .size))) ⌝ }
 {
     let end = b.base + b.size;
     buffer::rotate(arena, b.base, b.size, b.held - end);
-    edit::rows::remove_rows(tables, b.at, b.behind - b.at, b.used, header);
+    edit::rows::remove_rows(tables, b.at, b.after - b.at, b.used, header);
 }
 
 // An open upload taken out, its parts' data left after the last byte held, in listed order.

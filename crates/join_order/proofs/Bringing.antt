@@ -60,10 +60,10 @@ module _ (t a : List ℕ) (at base n : ℕ) (k : PartAt t a at base n) where
         let row = encodeRow (partRow n (k .part)) in
         record {
           tables =
-              rotated-parts t (r .before) (rowBytes xs) row (rowBytes zs ++ r .behind) at (f .rows) headLength (tables-split t a at base r xs (n, k .part) zs split) (r .starts) (sym rows) (here .span) t′ e
-              ∙ ap (λ (l : List ℕ). r .before ++ (row ++ l)) (sym (ap (λ (l : List ℕ). l ++ r .behind) (ap rowBytes rest ∙ row-bytes-append xs zs) ∙ append-assoc (rowBytes xs) (rowBytes zs) (r .behind)));
+              rotated-parts t (r .before) (rowBytes xs) row (rowBytes zs ++ r .after) at (f .rows) headLength (tables-split t a at base r xs (n, k .part) zs split) (r .starts) (sym rows) (here .span) t′ e
+              ∙ ap (λ (l : List ℕ). r .before ++ (row ++ l)) (sym (ap (λ (l : List ℕ). l ++ r .after) (ap rowBytes rest ∙ row-bytes-append xs zs) ∙ append-assoc (rowBytes xs) (rowBytes zs) (r .after)));
           arena =
-              rotated-parts a (r .arena-before) (dataBytes xs) (k .part .content) (dataBytes zs ++ r .arena-behind) base (f .bytes) (f .size) (arena-split t a at base r xs (n, k .part) zs split) (r .arena-starts) (sym bytes) (sym size) a′ e′
-              ∙ ap (λ (l : List ℕ). r .arena-before ++ (k .part .content ++ l)) (sym (ap (λ (l : List ℕ). l ++ r .arena-behind) (ap dataBytes rest ∙ data-bytes-append xs zs) ∙ append-assoc (dataBytes xs) (dataBytes zs) (r .arena-behind)));
+              rotated-parts a (r .arena-before) (dataBytes xs) (k .part .content) (dataBytes zs ++ r .arena-after) base (f .bytes) (f .size) (arena-split t a at base r xs (n, k .part) zs split) (r .arena-starts) (sym bytes) (sym size) a′ e′
+              ∙ ap (λ (l : List ℕ). r .arena-before ++ (k .part .content ++ l)) (sym (ap (λ (l : List ℕ). l ++ r .arena-after) (ap dataBytes rest ∙ data-bytes-append xs zs) ∙ append-assoc (dataBytes xs) (dataBytes zs) (r .arena-after)));
           size-is = size;
         }

@@ -51,23 +51,23 @@ module _ (t : List ℕ) (at count : ℕ) (k : OrderedAt t at count) (more : 0 < 
   encodable : EncodableAll (row ∷ rows)
   encodable = subst EncodableAll rows-are (k .encodable)
 
-  told : t ≡ k .before ++ (encodeRow row ++ (encodeRows rows ++ k .behind))
+  told : t ≡ k .before ++ (encodeRow row ++ (encodeRows rows ++ k .after))
   unfolding encodeRows
   told =
       k .tables
-      ∙ ap (λ (rs : List Row). k .before ++ (encodeRows rs ++ k .behind)) rows-are
-      ∙ ap (λ (l : List ℕ). k .before ++ l) (append-assoc (encodeRow row) (encodeRows rows) (k .behind))
+      ∙ ap (λ (rs : List Row). k .before ++ (encodeRows rs ++ k .after)) rows-are
+      ∙ ap (λ (l : List ℕ). k .before ++ l) (append-assoc (encodeRow row) (encodeRows rows) (k .after))
 
-  here : drop at t ≡ encodeRow row ++ (encodeRows rows ++ k .behind)
-  here = ap (drop at) told ∙ drop-at (k .before) (encodeRow row ++ (encodeRows rows ++ k .behind)) at (k .starts)
+  here : drop at t ≡ encodeRow row ++ (encodeRows rows ++ k .after)
+  here = ap (drop at) told ∙ drop-at (k .before) (encodeRow row ++ (encodeRows rows ++ k .after)) at (k .starts)
 
   read : take 16 (drop (at + numbersLength) t) ≡ parts .0 .digest
   unfolding digestAt
-  read = rw (← (drop-drop numbersLength at t)) (ap digestAt here ∙ digest-back row (encodable .0) (encodeRows rows ++ k .behind) [])
+  read = rw (← (drop-drop numbersLength at t)) (ap digestAt here ∙ digest-back row (encodable .0) (encodeRows rows ++ k .after) [])
 
   pub first-row : FirstRow t at count k
   first-row =
-      let rest = encodeRows rows ++ k .behind in
+      let rest = encodeRows rows ++ k .after in
       let span : length (encodeRow row) ≡ headLength = length-row row (encodable .0) in
       let s = k .starts in
       let m = k .many in
@@ -86,7 +86,7 @@ module _ (t : List ℕ) (at count : ℕ) (k : OrderedAt t at count) (more : 0 < 
           numbers = numbers .1;
           listed = parts .1;
           before = k .before ++ encodeRow row;
-          behind = k .behind;
+          after = k .after;
           tables = told ∙ sym (append-assoc (k .before) (encodeRow row) rest);
           starts = omega (arith, length-append (k .before) (encodeRow row));
           numbered = omega (arith, ap length (numbers .2));

@@ -49,7 +49,7 @@ module _ (t a : List ℕ) (at base : ℕ) (list : List ℕ) (k : ListedAt t a at
         numbers = partList list;
         listed = k .listed;
         before = k .region .before;
-        behind = k .region .behind;
+        after = k .region .after;
         tables = e;
         starts = k .region .starts;
         numbered = omega (arith, half);

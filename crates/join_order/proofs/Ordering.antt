@@ -50,8 +50,8 @@ pub within : (t a : List ℕ) (at base : ℕ) → Region t a at base → (at ≤
 within t a at base k =
     let l = k .starts in
     let m = k .arena-starts in (
-      omega (arith, ap length (k .tables), length-append (k .before) (encodeRows (partRows (k .parts)) ++ k .behind)),
-      omega (arith, ap length (k .arena), length-append (k .arena-before) (contentsOf (partRows (k .parts)) ++ k .arena-behind)),
+      omega (arith, ap length (k .tables), length-append (k .before) (encodeRows (partRows (k .parts)) ++ k .after)),
+      omega (arith, ap length (k .arena), length-append (k .arena-before) (contentsOf (partRows (k .parts)) ++ k .arena-after)),
     )
 
 -- What stands there after some turns: the list's rest names what remains, and comes to the same in the end.
@@ -72,8 +72,8 @@ module _ (t a : List ℕ) (at base : ℕ) (list : List ℕ) (k : ListedAt t a at
       let rows : encodeRows (partRows (k .region .parts)) ≡ encodeRows (listedRows (partList list) (k .listed)) =
       ap (λ (m : Map ℕ Part). encodeRows (partRows m)) (z .0) ∙ sym (ap (λ (ns : List ℕ). encodeRows (listedRows ns (k .listed))) (z .2)) in
       let bytes : contentsOf (partRows (k .region .parts)) ≡ contents (k .listed) = ap (λ (m : Map ℕ Part). contentsOf (partRows m)) (z .0) ∙ sym (ap contents (z .1)) in (
-        k .region .tables ∙ ap (λ (l : List ℕ). k .region .before ++ (l ++ k .region .behind)) rows,
-        k .region .arena ∙ ap (λ (l : List ℕ). k .region .arena-before ++ (l ++ k .region .arena-behind)) bytes,
+        k .region .tables ∙ ap (λ (l : List ℕ). k .region .before ++ (l ++ k .region .after)) rows,
+        k .region .arena ∙ ap (λ (l : List ℕ). k .region .arena-before ++ (l ++ k .region .arena-after)) bytes,
       )
 
   -- the next number's part, brought to the front
@@ -119,11 +119,11 @@ module _ (t a : List ℕ) (at base : ℕ) (list : List ℕ) (k : ListedAt t a at
             region = record {
               parts = remove byNumber n (r .parts);
               before = r .before ++ row;
-              behind = r .behind;
+              after = r .after;
               tables = b .tables ∙ sym (append-assoc (r .before) row _);
               starts = omega (arith, length-append (r .before) row);
               arena-before = r .arena-before ++ x .content;
-              arena-behind = r .arena-behind;
+              arena-after = r .arena-after;
               arena = b .arena ∙ sym (append-assoc (r .arena-before) (x .content) _);
               arena-starts = omega (arith, length-append (r .arena-before) (x .content));
               encodable = encodable-remove n x (r .parts) (picked .2) (r .encodable);
@@ -133,11 +133,11 @@ module _ (t a : List ℕ) (at base : ℕ) (list : List ℕ) (k : ListedAt t a at
             even = number .even;
           };
           tables =
-              append-assoc (r .before) row (encodeRows (listedRows ns (picked .1)) ++ r .behind)
-              ∙ ap (λ (l : List ℕ). r .before ++ l) (sym (append-assoc row (encodeRows (listedRows ns (picked .1))) (r .behind)) ∙ ap (λ (l : List ℕ). l ++ r .behind) rows-turned);
+              append-assoc (r .before) row (encodeRows (listedRows ns (picked .1)) ++ r .after)
+              ∙ ap (λ (l : List ℕ). r .before ++ l) (sym (append-assoc row (encodeRows (listedRows ns (picked .1))) (r .after)) ∙ ap (λ (l : List ℕ). l ++ r .after) rows-turned);
           arena =
-              append-assoc (r .arena-before) (x .content) (contents (picked .1) ++ r .arena-behind)
-              ∙ ap (λ (l : List ℕ). r .arena-before ++ l) (sym (append-assoc (x .content) (contents (picked .1)) (r .arena-behind)) ∙ ap (λ (ys : List Part). contents ys ++ r .arena-behind) (picked .4));
+              append-assoc (r .arena-before) (x .content) (contents (picked .1) ++ r .arena-after)
+              ∙ ap (λ (l : List ℕ). r .arena-before ++ l) (sym (append-assoc (x .content) (contents (picked .1)) (r .arena-after)) ∙ ap (λ (ys : List Part). contents ys ++ r .arena-after) (picked .4));
         }
 
 -- One turn, at byte i of the list.

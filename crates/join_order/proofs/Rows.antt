@@ -66,16 +66,16 @@ module _ (t a : List ℕ) (at base : ℕ) (k : Region t a at base) (xs : Map ℕ
   abbrev row : Row
   row = partRow (e .0) (e .1)
 
-  pub tables-split : t ≡ k .before ++ (rowBytes xs ++ (encodeRow row ++ (rowBytes zs ++ k .behind)))
+  pub tables-split : t ≡ k .before ++ (rowBytes xs ++ (encodeRow row ++ (rowBytes zs ++ k .after)))
   tables-split =
       k .tables
-      ∙ ap (λ (l : List ℕ). k .before ++ (l ++ k .behind)) (ap rowBytes split ∙ row-bytes-append xs (e ∷ zs) ∙ ap (λ (l : List ℕ). rowBytes xs ++ l) (row-bytes-cons e zs))
+      ∙ ap (λ (l : List ℕ). k .before ++ (l ++ k .after)) (ap rowBytes split ∙ row-bytes-append xs (e ∷ zs) ∙ ap (λ (l : List ℕ). rowBytes xs ++ l) (row-bytes-cons e zs))
       ∙ simp append-assoc
 
-  pub arena-split : a ≡ k .arena-before ++ (dataBytes xs ++ (e .1 .content ++ (dataBytes zs ++ k .arena-behind)))
+  pub arena-split : a ≡ k .arena-before ++ (dataBytes xs ++ (e .1 .content ++ (dataBytes zs ++ k .arena-after)))
   arena-split =
       k .arena
-      ∙ ap (λ (l : List ℕ). k .arena-before ++ (l ++ k .arena-behind)) (ap dataBytes split ∙ data-bytes-append xs (e ∷ zs) ∙ ap (λ (l : List ℕ). dataBytes xs ++ l) (data-bytes-cons e zs))
+      ∙ ap (λ (l : List ℕ). k .arena-before ++ (l ++ k .arena-after)) (ap dataBytes split ∙ data-bytes-append xs (e ∷ zs) ∙ ap (λ (l : List ℕ). dataBytes xs ++ l) (data-bytes-cons e zs))
       ∙ simp append-assoc
 
   row-encodable : Encodable row
@@ -83,7 +83,7 @@ module _ (t a : List ℕ) (at base : ℕ) (k : Region t a at base) (xs : Map ℕ
 
   pub row-here : Here t a at base xs e
   row-here =
-      let rest = rowBytes zs ++ k .behind in
+      let rest = rowBytes zs ++ k .after in
       let span : length (encodeRow row) ≡ headLength = length-row row row-encodable in
       let front : length (k .before ++ rowBytes xs) ≡ at + length (rowBytes xs) = omega (arith, length-append (k .before) (rowBytes xs), k .starts) in
       let told : t ≡ (k .before ++ rowBytes xs) ++ (encodeRow row ++ rest) = tables-split ∙ sym (append-assoc (k .before) (rowBytes xs) (encodeRow row ++ rest)) in
@@ -94,9 +94,9 @@ module _ (t a : List ℕ) (at base : ℕ) (k : Region t a at base) (xs : Map ℕ
         arena-inside = omega (
           arith,
           ap length arena-split,
-          length-append (k .arena-before) (dataBytes xs ++ (e .1 .content ++ (dataBytes zs ++ k .arena-behind))),
-          length-append (dataBytes xs) (e .1 .content ++ (dataBytes zs ++ k .arena-behind)),
-          length-append (e .1 .content) (dataBytes zs ++ k .arena-behind),
+          length-append (k .arena-before) (dataBytes xs ++ (e .1 .content ++ (dataBytes zs ++ k .arena-after))),
+          length-append (dataBytes xs) (e .1 .content ++ (dataBytes zs ++ k .arena-after)),
+          length-append (e .1 .content) (dataBytes zs ++ k .arena-after),
           k .arena-starts,
         );
       }

@@ -97,10 +97,10 @@ module _ (t a : List ℕ) (at base n : ℕ) (k : PartAt t a at base n) where
           cases (byNumber n (e .0))
           (λ q. absurd (none-some (rw q at (p .found))))
           (λ q. absurd (other (number ∙ sym (numbers .alike n (e .0) q))))
-          (λ q. behind q)
+          (λ q. further q)
         where
-          behind : byNumber n (e .0) ≡ Ordering·gt → Passed t a at base n k (rows + headLength) (bytes + head .size)
-          behind q =
+          further : byNumber n (e .0) ≡ Ordering·gt → Passed t a at base n k (rows + headLength) (bytes + head .size)
+          further q =
               let f : lookup byNumber n (p .rest) ≡ some (k .part) = rw q at (p .found) in
               let m = next-entry n (k .part) (p .rest) f in
               let r = p .rows-are in

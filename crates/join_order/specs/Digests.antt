@@ -12,8 +12,8 @@ pub record OrderedAt (t : List ℕ) (at count : ℕ) : Type 0 where
   pub numbers : List ℕ
   pub listed : List Part
   pub before : List ℕ
-  pub behind : List ℕ
-  pub tables : t ≡ before ++ (encodeRows (listedRows numbers listed) ++ behind)
+  pub after : List ℕ
+  pub tables : t ≡ before ++ (encodeRows (listedRows numbers listed) ++ after)
   pub starts : length before ≡ at
   pub numbered : length numbers ≡ count
   pub many : length listed ≡ count

@@ -18,12 +18,12 @@ use Rattle.join_order.specs.declared.Found.{Found}
 pub record Region (t a : List ℕ) (at base : ℕ) : Type 0 where
   pub parts : Map ℕ Part
   pub before : List ℕ
-  pub behind : List ℕ
-  pub tables : t ≡ before ++ (encodeRows (partRows parts) ++ behind)
+  pub after : List ℕ
+  pub tables : t ≡ before ++ (encodeRows (partRows parts) ++ after)
   pub starts : length before ≡ at
   pub arena-before : List ℕ
-  pub arena-behind : List ℕ
-  pub arena : a ≡ arena-before ++ (contentsOf (partRows parts) ++ arena-behind)
+  pub arena-after : List ℕ
+  pub arena : a ≡ arena-before ++ (contentsOf (partRows parts) ++ arena-after)
   pub arena-starts : length arena-before ≡ base
   pub encodable : EncodableAll (partRows parts)
 
@@ -44,8 +44,8 @@ foundIn m n y =
 
 -- part n has come to stand before the others
 pub record Brought (t a : List ℕ) (at base n : ℕ) (k : PartAt t a at base n) (t′ a′ : List ℕ) (size : ℕ) : Type 0 where
-  pub tables : t′ ≡ k .region .before ++ (encodeRow (partRow n (k .part)) ++ (encodeRows (partRows (remove byNumber n (k .region .parts))) ++ k .region .behind))
-  pub arena : a′ ≡ k .region .arena-before ++ (k .part .content ++ (contentsOf (partRows (remove byNumber n (k .region .parts))) ++ k .region .arena-behind))
+  pub tables : t′ ≡ k .region .before ++ (encodeRow (partRow n (k .part)) ++ (encodeRows (partRows (remove byNumber n (k .region .parts))) ++ k .region .after))
+  pub arena : a′ ≡ k .region .arena-before ++ (k .part .content ++ (contentsOf (partRows (remove byNumber n (k .region .parts))) ++ k .region .arena-after))
   pub size-is : size ≡ length (k .part .content)
 
 -- the rows of parts in listed order
@@ -64,10 +64,10 @@ pub record ListedAt (t a : List ℕ) (at base : ℕ) (list : List ℕ) : Type 0 
 -- tables and arena with the parts in listed order
 module _ (t a : List ℕ) (at base : ℕ) (list : List ℕ) (k : ListedAt t a at base list) where
   unfoldable pub orderedTables : List ℕ
-  orderedTables = k .region .before ++ (encodeRows (listedRows (partList list) (k .listed)) ++ k .region .behind)
+  orderedTables = k .region .before ++ (encodeRows (listedRows (partList list) (k .listed)) ++ k .region .after)
 
   unfoldable pub orderedArena : List ℕ
-  orderedArena = k .region .arena-before ++ (contents (k .listed) ++ k .region .arena-behind)
+  orderedArena = k .region .arena-before ++ (contents (k .listed) ++ k .region .arena-after)
 
 -- the parts in listed order, and the digest of their digests
 pub record Arranged (t a : List ℕ) (at base : ℕ) (list : List ℕ) (k : ListedAt t a at base list) (t′ a′ : List ℕ) (digest : Digest) : Type 0 where

@@ -44,16 +44,16 @@ unfolding headerBytes
 length-header A s l v = length-fields headerWidths _ (header-fits A s l v)
 
 module _ {T : ℕ} (t a : List ℕ) (s : State) (h : StandsOf T t a s) where
-  abbrev behind : List ℕ
-  behind = encodeRows (rowsOf s) ++ h .tables-free
+  abbrev rest : List ℕ
+  rest = encodeRows (rowsOf s) ++ h .tables-free
 
   pub header-back : headerAt t ≡ headerOf (length a) s
   unfolding headerAt headerBytes
   header-back =
-      ap headerFrom (ap (numbersAt headerWidths) (h .tables) ∙ numbers-fields headerWidths _ behind (header-fits (length a) s (h .small) (h .valid)))
+      ap headerFrom (ap (numbersAt headerWidths) (h .tables) ∙ numbers-fields headerWidths _ rest (header-fits (length a) s (h .small) (h .valid)))
 
   pub past-header : drop headerLength t ≡ encodeRows (rowsOf s) ++ h .tables-free
-  past-header = ap (drop headerLength) (h .tables) ∙ drop-at (encodeHeader (length a) s) behind headerLength (length-header (length a) s (h .small) (h .valid))
+  past-header = ap (drop headerLength) (h .tables) ∙ drop-at (encodeHeader (length a) s) rest headerLength (length-header (length a) s (h .small) (h .valid))
 
   encodable : EncodableAll (rowsOf s)
   encodable = rows-encodable (length a) s (h .small) (h .valid)

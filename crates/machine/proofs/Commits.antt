@@ -223,8 +223,8 @@ commit-leaves A s u ns t v a =
 
 pub commits-join : (A : ℕ) (cs : List Call) → CommitsJoin A cs
 unfolding CommitsJoin
-commits-join A cs before behind u ns r e ok =
-    let k = cut A fresh cs before behind (COMMIT u ns) r e in
+commits-join A cs before after u ns r e ok =
+    let k = cut A fresh cs before after (COMMIT u ns) r e in
     let s = final A fresh (calls before) in
     let l = commit-leaves A s u ns (trace A fresh (calls before)) (final-valid A fresh (calls before) (fresh-valid A)) (fresh-agrees A (calls before))
     (ap accepted (k .replied) ∙ ok) in

@@ -45,13 +45,13 @@ numbers-kept A s [] = omega arith
 numbers-kept A s (c ∷ cs) = omega (arith, number-kept A s c, numbers-kept A (next A s c) cs)
 
 -- a number that a call of the list answers is below every number answered after it
-pub numbers-ascend : (A : ℕ) (s : State) (cs : List Call) (before between behind : Trace) (c d : Call) (r q : Reply) (m n : ℕ) →
-    trace A s cs ≡ before ++ (c, r) ∷ (between ++ (d, q) ∷ behind) → r .answer ≡ number m → q .answer ≡ number n → m < n
-numbers-ascend A s cs before between behind c d r q m n e hm hn =
-    let k = cut A s cs before (between ++ (d, q) ∷ behind) c r e in
+pub numbers-ascend : (A : ℕ) (s : State) (cs : List Call) (before between after : Trace) (c d : Call) (r q : Reply) (m n : ℕ) →
+    trace A s cs ≡ before ++ (c, r) ∷ (between ++ (d, q) ∷ after) → r .answer ≡ number m → q .answer ≡ number n → m < n
+numbers-ascend A s cs before between after c d r q m n e hm hn =
+    let k = cut A s cs before (between ++ (d, q) ∷ after) c r e in
     let t = final A s (calls before) in
     let w = number-answered A t c m (ap (λ (x : Reply). x .answer) (k .replied) ∙ hm) in
     let t′ = next A t c in
-    let j = cut A t′ (k .rest) between behind d q (k .last) in
+    let j = cut A t′ (k .rest) between after d q (k .last) in
     let z = number-answered A (final A t′ (calls between)) d n (ap (λ (x : Reply). x .answer) (j .replied) ∙ hn) in
     omega (arith, w .0, w .1, z .0, numbers-kept A t′ (calls between))

@@ -27,8 +27,8 @@ length-under prefix u p t n = go (begins prefix p)
     go false = refl
 
 -- y is written after x
-behind : (b b₁ b₂ x y : List ℕ) (at k j place : ℕ) → length x ≡ k → at + k ≤ length b → place ≡ at + k → b₁ ≡ over b at x k → b₂ ≡ over b₁ place y j → b₂ ≡ over b at (x ++ y) (k + j)
-behind b b₁ b₂ x y at k j place n room e one two = two ∙ ap₂ (λ (c : List ℕ) (i : ℕ). over c i y j) one e ∙ write-next b at x y k j n room
+next-field : (b b₁ b₂ x y : List ℕ) (at k j place : ℕ) → length x ≡ k → at + k ≤ length b → place ≡ at + k → b₁ ≡ over b at x k → b₂ ≡ over b₁ place y j → b₂ ≡ over b at (x ++ y) (k + j)
+next-field b b₁ b₂ x y at k j place n room e one two = two ∙ ap₂ (λ (c : List ℕ) (i : ℕ). over c i y j) one e ∙ write-next b at x y k j n room
 
 byte : (m : ℕ) → m < 256 → le 1 m ≡ m ∷ []
 unfolding le
@@ -49,10 +49,10 @@ record-written b b₁ b₂ b₃ b₄ b₅ p at u t n short room e₁ e₂ e₃ e
     let l₂ : length (v ++ w) ≡ 4 + 1 = omega (arith, length-append v w, length-le 1 m) in
     let l₃ : length ((v ++ w) ++ p) ≡ 4 + 1 + m = omega (arith, length-append (v ++ w) p) in
     let l₄ : length (((v ++ w) ++ p) ++ le 8 t) ≡ 4 + 1 + m + 8 = omega (arith, length-append ((v ++ w) ++ p) (le 8 t), length-le 8 t) in
-    let q₂ = behind b b₁ b₂ v w at 4 1 (at + 4) l₁ (omega arith) refl e₁ e₂ in
-    let q₃ = behind b b₂ b₃ (v ++ w) p at (4 + 1) m (at + 5) l₂ (omega arith) (omega arith) q₂ e₃ in
-    let q₄ = behind b b₃ b₄ ((v ++ w) ++ p) (le 8 t) at (4 + 1 + m) 8 (at + 5 + m) l₃ (omega arith) (omega arith) q₃ e₄ in
-    let q₅ = behind b b₄ b₅ (((v ++ w) ++ p) ++ le 8 t) (le 2 n) at (4 + 1 + m + 8) 2 (at + 13 + m) l₄ (omega arith) (omega arith) q₄ e₅ in
+    let q₂ = next-field b b₁ b₂ v w at 4 1 (at + 4) l₁ (omega arith) refl e₁ e₂ in
+    let q₃ = next-field b b₂ b₃ (v ++ w) p at (4 + 1) m (at + 5) l₂ (omega arith) (omega arith) q₂ e₃ in
+    let q₄ = next-field b b₃ b₄ ((v ++ w) ++ p) (le 8 t) at (4 + 1 + m) 8 (at + 5 + m) l₃ (omega arith) (omega arith) q₃ e₄ in
+    let q₅ = next-field b b₄ b₅ (((v ++ w) ++ p) ++ le 8 t) (le 2 n) at (4 + 1 + m + 8) 2 (at + 13 + m) l₄ (omega arith) (omega arith) q₄ e₅ in
     let size : 4 + 1 + m + 8 + 2 ≡ 15 + m = omega arith in
     q₅ ∙ ap₂ (λ (x : List ℕ) (k : ℕ). over b at x k) (rw one (simp append-assoc)) size
 

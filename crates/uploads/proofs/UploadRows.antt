@@ -26,8 +26,8 @@ use Rattle.find.specs.declared.PassedParts.{PassedParts}
 use Rattle.find.specs.Places.{beforeUpload, beforeParts, throughParts, afterUpload, passedParts}
 use Rattle.find.specs.Search.{rowPlaceAt}
 use Rattle.find.proofs.RowsAt.{At, row-at}
-use Rattle.find.proofs.Splits.{upload-rows-append, upload-found, parts-behind}
-use Rattle.find.proofs.Answers.{place-after, place-behind}
+use Rattle.find.proofs.Splits.{upload-rows-append, upload-found, parts-after}
+use Rattle.find.proofs.Answers.{place-after, placed-after}
 use Rattle.uploads.specs.declared.rows.OpenUpload.{OpenUpload}
 use Rattle.uploads.specs.Rows.{uploadRowPlace, RowRead}
 
@@ -111,7 +111,7 @@ module _ (t a : List ℕ) (s : State) (h : Stands t a s) (i : ℕ) (here : RowPl
   place-is = e ∙ ap (λ (rs : List Row). rowPlaceAt (rowsOf s) (length rs)) (sym before-is)
 
   at-is : at ≡ headerLength + length (encodeRows (beforeUpload s u))
-  at-is = place-behind (rowsOf s) (beforeUpload s u) (uploadRow u x ∷ (partRows (x .parts) ++ afterUpload s u)) here (upload-found s u x found) place-is .at
+  at-is = placed-after (rowsOf s) (beforeUpload s u) (uploadRow u x ∷ (partRows (x .parts) ++ afterUpload s u)) here (upload-found s u x found) place-is .at
 
   row-here : At t a s h (beforeUpload s u) (uploadRow u x) (partRows (x .parts) ++ afterUpload s u)
   row-here = row-at t a s h (beforeUpload s u) (uploadRow u x) (partRows (x .parts) ++ afterUpload s u) (upload-found s u x found)
@@ -159,5 +159,5 @@ module _ (t a : List ℕ) (s : State) (h : Stands t a s) (i : ℕ) (here : RowPl
         short = path-short;
         started = k .started ∙ ap (λ (y : Head). y .stamp) head-here;
         parts = k .parts;
-        next = k .next ∙ ap (λ (m : ℕ). passedParts s m x .next) number-here ∙ sym (place-after (rowsOf s) (throughParts s u x) (afterUpload s u) (parts-behind s u x found)) ∙ ap (λ (rs : List Row). rowPlaceAt (rowsOf s) (length rs)) through-is;
+        next = k .next ∙ ap (λ (m : ℕ). passedParts s m x .next) number-here ∙ sym (place-after (rowsOf s) (throughParts s u x) (afterUpload s u) (parts-after s u x found)) ∙ ap (λ (rs : List Row). rowPlaceAt (rowsOf s) (length rs)) through-is;
       }

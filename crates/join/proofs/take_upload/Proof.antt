@@ -108,7 +108,7 @@ returns c =
     let region = listed-at (t e) (a e) (s e) (stands e) (u e) (l .upload) (l .found) (list e) (l .listed) (l .fits) (b e) told in
     let z = taken (t e) (a e) (s e) (stands e) (u e) (l .upload) (l .found) (list e) (l .listed) (l .fits) (b e) told (g .arrange .last .0) (g .arrange .last .1 .0) (d .cut .last .0) (d .cut .last .1 .0)
     (g .arrange .result) (h .read-header .result) (g .arrange .ensures region) kept (header-is e (h .read-header .result) (h .read-header .ensures)) (d .cut .ensures .0) (d .cut .ensures .1) kept₂ kept′ in
-    record { stands = z .0; behind = z .1; size-is = z .2; count-is = z .3; digest-is = z .4 }
+    record { stands = z .0; content = z .1; size-is = z .2; count-is = z .3; digest-is = z .4 }
 
 pub take-upload-spec : {M : Type 1} → statement M
 take-upload-spec =

@@ -12,7 +12,7 @@ use Rattle.layout.specs.Rules.{partsMost}
 use Rattle.layout.specs.Memory.{stateOf, Stands}
 use Rattle.layout.proofs.WholeLaws.{whole-stands}
 use Rattle.find.proofs.Found.{is-some}
-use Rattle.join.proofs.UploadBounds.{count-small, rows-behind, base-behind, bounds-are}
+use Rattle.join.proofs.UploadBounds.{count-small, rows-within, base-within, bounds-are}
 use Rattle.join.proofs.upload_bounds.Statement.{statement}
 use Rattle.join.proofs.upload_bounds.Tie as tie
 
@@ -49,10 +49,10 @@ module _ (c : tie.After-rows-end) where
   few = count-small t a s stands (start .args .upload) (found .0) (found .1) _ (c .before .before .find-upload .ensures) _ (c .before .parts-end .ensures (found .0) (found .1)) _ (c .rows-end .ensures)
 
   rows : headLength * c .before .parts-end .result .count ≤ c .before .parts-end .result .next .at
-  rows = rows-behind t a s stands (start .args .upload) (found .0) (found .1) _ (c .before .before .find-upload .ensures) _ (c .before .parts-end .ensures (found .0) (found .1)) _ (c .rows-end .ensures)
+  rows = rows-within t a s stands (start .args .upload) (found .0) (found .1) _ (c .before .before .find-upload .ensures) _ (c .before .parts-end .ensures (found .0) (found .1)) _ (c .rows-end .ensures)
 
   bytes : c .before .before .find-upload .result .base ≤ c .before .parts-end .result .next .base
-  bytes = base-behind t a s stands (start .args .upload) (found .0) (found .1) _ (c .before .before .find-upload .ensures) _ (c .before .parts-end .ensures (found .0) (found .1)) _ (c .rows-end .ensures)
+  bytes = base-within t a s stands (start .args .upload) (found .0) (found .1) _ (c .before .before .find-upload .ensures) _ (c .before .parts-end .ensures (found .0) (found .1)) _ (c .rows-end .ensures)
 
 mul-t8 : tie.Need-mul-t8
 mul-t8 c = omega (arith, few (c .before .before))

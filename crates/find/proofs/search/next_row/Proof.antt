@@ -1,4 +1,4 @@
--- `find::search::row_behind` meets its contract: the row's span and size lead to the next. Assumes nothing.
+-- `find::search::next_row` meets its contract: the row's span and size lead to the next. Assumes nothing.
 use Prim.Native.Nat.{ℕ, _+_, _≤_, _<_}
 use mathlib.Core.List.{List}
 use native.Mathlib.Omega.{arith}
@@ -9,8 +9,8 @@ use Rattle.row.specs.Row.{headLength}
 use Rattle.layout.specs.Memory.{stateOf, rowsOf, Stands}
 use Rattle.layout.proofs.WholeLaws.{whole-stands}
 use Rattle.find.proofs.Walk.{Reached, Turn, reached-place, place-reached, rows-few, row-inside, row-turn}
-use Rattle.find.proofs.search.row_behind.Statement.{statement}
-use Rattle.find.proofs.search.row_behind.Tie as tie
+use Rattle.find.proofs.search.next_row.Statement.{statement}
+use Rattle.find.proofs.search.next_row.Tie as tie
 
 module _ (c : tie.After-shared-slice-known2) where
   abbrev start : tie.Start
@@ -66,6 +66,6 @@ returns c =
     let r = n .before .before in
     reached-place (s (r .before)) _ _ _ (rw (n .span .ensures) (turn r .next))
 
-pub row-behind-spec : {M : Type 1} → statement M
-row-behind-spec =
+pub next-row-spec : {M : Type 1} → statement M
+next-row-spec =
     tie.close (tie.spec read-head-requires add-t6 span-requires add-t8 cast-t9 add-t10 returns)

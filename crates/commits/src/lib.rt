@@ -4,16 +4,13 @@ use types::DoneAnswer;
 use types::UploadNumber;
 ghost use mathlib.Core.Path.{_≡_};
 ghost use mathlib.Core.Bool.{true, cond};
-ghost use mathlib.Core.Option.{some};
-ghost use Prim.Native.Nat.{ℕ, _+_, _*_, _≤_};
+ghost use Prim.Native.Nat.{_+_, _*_, _≤_};
 ghost use lib.ListN.{length};
-ghost use Rattle.machine.specs.Map.{isSome, byNumber, lookup};
-ghost use Rattle.machine.specs.State.{Object, Upload, withObject, withoutUpload, counted};
+ghost use Rattle.machine.specs.State.{Object, withObject, withoutUpload, counted};
 ghost use Rattle.machine.specs.Calls.{COMMIT, tableFull, code};
 ghost use Rattle.machine.specs.Fits.{member, fits};
-ghost use Rattle.layout.specs.Memory.{whole, stateOf, rowsOf};
-ghost use Rattle.find.specs.Places.{beforeUpload};
-ghost use Rattle.find.specs.Search.{rowPlaceAt, IsRowPlace};
+ghost use Rattle.layout.specs.Memory.{whole};
+ghost use Rattle.find.specs.Known.{WholeOpen, WholePlace, OfOpen, OfOpenBefore};
 ghost use Rattle.contract.specs.Answers.{WellNumbered, doneReply, partList};
 ghost use Rattle.contract.specs.Made.{memory, outcome, resultOf, Made, MadeWhole};
 ghost use Rattle.commits.specs.Numbers.{firstNumbers, numberFits};
@@ -37,8 +34,9 @@ fn is_listed_before(list: &[u8], i: usize, number: u16) -> bool
 // Whether the list's number at i is a part's of an open upload, `first` being the row after the upload's, and none of those
 // before it.
 fn number_fits(tables: &[u8], arena: &[u8], first: RowPlace, list: &[u8], i: usize) -> bool
-    requires { ⌜ (whole (now tables) (now arena) ≡ true) × IsRowPlace (rowsOf (stateOf (now tables) (now arena))) first × (2 * i + 2 ≤ length (now list)) ⌝ }
-    ensures { λ r. ⌜ ((u : ℕ) (x : Upload) → first ≡ rowPlaceAt (rowsOf (stateOf (now (tables .entry)) (now (arena .entry)))) (length (beforeUpload (stateOf (now (tables .entry)) (now (arena .entry))) u) + 1) → lookup byNumber u (stateOf (now (tables .entry)) (now (arena .entry)) .U) ≡ some x → r ≡ numberFits (x .parts) (now (list .entry)) i) ⌝ }
+    requires { ⌜ WholePlace (now tables) (now arena) first × (2 * i + 2 ≤ length (now list)) ⌝ }
+    ensures { λ r. ⌜ OfOpenBefore (now (tables .entry)) (now (arena .entry)) first
+        (λ s u x. r ≡ numberFits (x .parts) (now (list .entry)) i) ⌝ }
 {
     let number = number::get_u16(list, 2 * i);
     let place = find::find_part_from(tables, arena, first, number);
@@ -50,8 +48,9 @@ fn number_fits(tables: &[u8], arena: &[u8], first: RowPlace, list: &[u8], i: usi
 
 // Whether the list names each part of an open upload one time.
 fn list_fits(tables: &[u8], arena: &[u8], upload: UploadNumber, list: &[u8]) -> bool
-    requires { ⌜ (whole (now tables) (now arena) ≡ true) × (isSome (lookup byNumber (upload .0) (stateOf (now tables) (now arena) .U)) ≡ true) ⌝ }
-    ensures { λ r. ⌜ ((x : Upload) → lookup byNumber (upload .0) (stateOf (now (tables .entry)) (now (arena .entry)) .U) ≡ some x → r ≡ fits (partList (now (list .entry))) (x .parts)) ⌝ }
+    requires { ⌜ WholeOpen (now tables) (now arena) (upload .0) ⌝ }
+    ensures { λ r. ⌜ OfOpen (now (tables .entry)) (now (arena .entry)) (upload .0)
+        (λ s x. r ≡ fits (partList (now (list .entry))) (x .parts)) ⌝ }
 {
     let parts = find::parts_end(tables, arena, upload.0);
     let count = parts.count;
@@ -72,9 +71,9 @@ fn list_fits(tables: &[u8], arena: &[u8], upload: UploadNumber, list: &[u8]) -> 
 // Table full where the object at an open upload's path would be the 257th, or 0. The upload's data are held already, so
 // the object asks the room of one without data.
 fn commit_room(tables: &[u8], arena: &[u8], upload: UploadNumber) -> u8
-    requires { ⌜ (whole (now tables) (now arena) ≡ true) × (isSome (lookup byNumber (upload .0) (stateOf (now tables) (now arena) .U)) ≡ true) ⌝ }
-    ensures { λ r. ⌜ ((x : Upload) → lookup byNumber (upload .0) (stateOf (now (tables .entry)) (now (arena .entry)) .U) ≡ some x
-        → (y : Object) → r ≡ cond (counted (withoutUpload (withObject (stateOf (now (tables .entry)) (now (arena .entry))) (x .path) y) (upload .0))) 0 (code tableFull)) ⌝ }
+    requires { ⌜ WholeOpen (now tables) (now arena) (upload .0) ⌝ }
+    ensures { λ r. ⌜ OfOpen (now (tables .entry)) (now (arena .entry)) (upload .0) (λ s x. (y : Object)
+        → r ≡ cond (counted (withoutUpload (withObject s (x .path) y) (upload .0))) 0 (code tableFull)) ⌝ }
 {
     let place = find::find_upload(tables, arena, upload.0);
     let at = place.at;

@@ -6,10 +6,9 @@ ghost use mathlib.Core.Path.{_≡_};
 ghost use mathlib.Core.Bool.{true};
 ghost use lib.ListN.{length};
 ghost use Rattle.md5.specs.Md5.{md5};
-ghost use Rattle.order.specs.Order.{byBytes};
-ghost use Rattle.machine.specs.Map.{isSome, lookup};
 ghost use Rattle.machine.specs.Calls.{COPY};
 ghost use Rattle.layout.specs.Memory.{whole, stateOf};
+ghost use Rattle.find.specs.Known.{WholeObject};
 ghost use Rattle.edit_copy.specs.Copy.{contentAt};
 ghost use Rattle.contract.specs.Answers.{WellNumbered, doneReply};
 ghost use Rattle.copies.specs.Source.{sourceOutcome};
@@ -18,7 +17,8 @@ ghost use Rattle.contract.specs.Made.{memory, outcome, resultOf, Made, MadeWhol
 // The refusal of COPY whose arguments keep their rules: not found, table full, arena full or 0.
 fn source_judge(tables: &[u8], arena: &[u8], stamp: Stamp, source: &[u8], destination: &[u8]) -> u8
     requires { ⌜ whole (now tables) (now arena) ≡ true ⌝ }
-    ensures { λ r. ⌜ r ≡ resultOf (sourceOutcome (length (now (arena .entry))) (stateOf (now (tables .entry)) (now (arena .entry))) (stamp .0) (now (source .entry)) (now (destination .entry))) ⌝ }
+    ensures { λ r. ⌜ r ≡ resultOf (sourceOutcome (length (now (arena .entry))) (stateOf (now (tables .entry)) (now (arena .entry)))
+        (stamp .0) (now (source .entry)) (now (destination .entry))) ⌝ }
 {
     let place = find::find_object(tables, arena, source);
     if !place.found {
@@ -47,7 +47,7 @@ fn copy_judge(tables: &[u8], arena: &[u8], stamp: Stamp, source: &[u8], destinat
 
 // The digest of the data at source.
 fn source_digest(tables: &[u8], arena: &[u8], source: &[u8]) -> Digest
-    requires { ⌜ (whole (now tables) (now arena) ≡ true) × (isSome (lookup byBytes (now source) (stateOf (now tables) (now arena) .O)) ≡ true) ⌝ }
+    requires { ⌜ WholeObject (now tables) (now arena) (now source) ⌝ }
     ensures { λ r. ⌜ r ≡ md5 (contentAt (stateOf (now (tables .entry)) (now (arena .entry))) (now (source .entry))) ⌝ }
 {
     let place = find::find_object(tables, arena, source);

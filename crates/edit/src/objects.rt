@@ -4,18 +4,17 @@ use md5::words::Digest;
 use row::Head;
 ghost use mathlib.Core.Path.{_≡_};
 ghost use mathlib.Core.Bool.{true};
-ghost use lib.ListN.{length};
-ghost use Rattle.order.specs.Order.{byBytes};
-ghost use Rattle.machine.specs.Map.{isSome, lookup};
 ghost use Rattle.machine.specs.State.{withoutObject, withObject};
-ghost use Rattle.layout.specs.Memory.{whole, stateOf, Stands};
-ghost use Rattle.machine.specs.Valid.{Valid};
+ghost use Rattle.layout.specs.Memory.{whole};
+ghost use Rattle.find.specs.Known.{WholeObject};
+ghost use Rattle.edit.specs.Edits.{MayBecome, Becomes};
 ghost use Rattle.edit.specs.Objects.{Addable, objectAfterHeld, plainWith};
 
 // The object at path, taken out.
 pub fn remove_object(tables: &mut [u8], arena: &mut [u8], path: &[u8])
-    requires { ⌜ (whole (now tables) (now arena) ≡ true) × (isSome (lookup byBytes (now path) (stateOf (now tables) (now arena) .O)) ≡ true) ⌝ }
-    ensures { λ _. ⌜ Stands (now (tables .exit)) (now (arena .exit)) (withoutObject (stateOf (now (tables .entry)) (now (arena .entry))) (now (path .entry))) ⌝ }
+    requires { ⌜ WholeObject (now tables) (now arena) (now path) ⌝ }
+    ensures { λ _. ⌜ Becomes (now (tables .entry)) (now (arena .entry)) (now (tables .exit)) (now (arena .exit))
+        (λ s. withoutObject s (now (path .entry))) ⌝ }
 {
     let place = find::find_object(tables, arena, path);
     let end = find::rows_end(tables, arena);
@@ -48,7 +47,8 @@ pub fn add_object(
     size: usize,
 )
     requires { ⌜ Addable (now tables) (now arena) stamp kind count digest (now path) size ⌝ }
-    ensures { λ _. ⌜ Stands (now (tables .exit)) (now (arena .exit)) (withObject (stateOf (now (tables .entry)) (now (arena .entry))) (now (path .entry)) (objectAfterHeld (now (tables .entry)) (now (arena .entry)) stamp kind count digest size)) ⌝ }
+    ensures { λ _. ⌜ Becomes (now (tables .entry)) (now (arena .entry)) (now (tables .exit)) (now (arena .exit))
+        (λ s. withObject s (now (path .entry)) (objectAfterHeld (now (tables .entry)) (now (arena .entry)) stamp kind count digest size)) ⌝ }
 {
     let place = find::find_object(tables, arena, path);
     let end = find::rows_end(tables, arena);
@@ -83,8 +83,10 @@ pub fn put_object(
     path: &[u8],
     content: &[u8],
 )
-    requires { ⌜ (whole (now tables) (now arena) ≡ true) × Valid (length (now arena)) (withObject (stateOf (now tables) (now arena)) (now path) (plainWith stamp digest (now content))) ⌝ }
-    ensures { λ _. ⌜ Stands (now (tables .exit)) (now (arena .exit)) (withObject (stateOf (now (tables .entry)) (now (arena .entry))) (now (path .entry)) (plainWith stamp digest (now (content .entry)))) ⌝ }
+    requires { ⌜ MayBecome (now tables) (now arena)
+        (λ s. withObject s (now path) (plainWith stamp digest (now content))) ⌝ }
+    ensures { λ _. ⌜ Becomes (now (tables .entry)) (now (arena .entry)) (now (tables .exit)) (now (arena .exit))
+        (λ s. withObject s (now (path .entry)) (plainWith stamp digest (now (content .entry)))) ⌝ }
 {
     free_path(tables, arena, path);
     let end = find::rows_end(tables, arena);
@@ -105,7 +107,8 @@ pub fn put_object(
 // The object at path taken out, if there is one.
 pub fn free_path(tables: &mut [u8], arena: &mut [u8], path: &[u8])
     requires { ⌜ whole (now tables) (now arena) ≡ true ⌝ }
-    ensures { λ _. ⌜ Stands (now (tables .exit)) (now (arena .exit)) (withoutObject (stateOf (now (tables .entry)) (now (arena .entry))) (now (path .entry))) ⌝ }
+    ensures { λ _. ⌜ Becomes (now (tables .entry)) (now (arena .entry)) (now (tables .exit)) (now (arena .exit))
+        (λ s. withoutObject s (now (path .entry))) ⌝ }
 {
     let place = find::find_object(tables, arena, path);
     if place.found {

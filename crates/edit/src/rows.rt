@@ -21,8 +21,10 @@ pub fn insert_row(
     path: &[u8],
     header: Header,
 )
-    requires { ⌜ (headerLength ≤ at) × (at ≤ used) × (length (now path) ≤ 128) × (used + (headLength + length (now path)) ≤ length (now tables)) ⌝ }
-    ensures { λ _. ⌜ now (tables .exit) ≡ headed (spliced (now (tables .entry)) at 0 used (rowBytes h (bytesOf digest) (now (path .entry)))) header ⌝ }
+    requires { ⌜ (headerLength ≤ at) × (at ≤ used) × (length (now path) ≤ 128)
+        × (used + (headLength + length (now path)) ≤ length (now tables)) ⌝ }
+    ensures { λ _. ⌜ now (tables .exit)
+        ≡ headed (spliced (now (tables .entry)) at 0 used (rowBytes h (bytesOf digest) (now (path .entry)))) header ⌝ }
 {
     let mut row = [0u8; row::LONGEST_ROW];
     row::write_row(&mut row, h, digest, path);

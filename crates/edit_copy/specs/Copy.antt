@@ -22,8 +22,12 @@ contentIn (some x) = x .content
 unfoldable pub contentAt : State → Bytes → Bytes
 contentAt s p = contentIn (lookup byBytes p (s .O))
 
+-- the object at the source, copied to the destination
+abbrev pub copied : (stamp : ℕ) → Digest → (source destination : Bytes) → State → State
+copied stamp digest source destination s = withObject s destination (plainWith stamp digest (contentAt s source))
+
 -- the source is there, and the state with the copy keeps the rules and ceilings
 pub record Copiable (t a : List ℕ) (stamp : ℕ) (digest : Digest) (source destination : Bytes) : Type 0 where
   pub is-whole : whole t a ≡ true
   pub there : isSome (lookup byBytes source (stateOf t a .O)) ≡ true
-  pub valid : Valid (length a) (withObject (stateOf t a) destination (plainWith stamp digest (contentAt (stateOf t a) source)))
+  pub valid : Valid (length a) (copied stamp digest source destination (stateOf t a))

@@ -5,15 +5,14 @@ use row::Head;
 ghost use mathlib.Core.Path.{_≡_};
 ghost use mathlib.Core.Bool.{false};
 ghost use Rattle.order.specs.Order.{same};
-ghost use Rattle.machine.specs.State.{withObject};
-ghost use Rattle.layout.specs.Memory.{stateOf, Stands};
-ghost use Rattle.edit.specs.Objects.{plainWith};
-ghost use Rattle.edit_copy.specs.Copy.{contentAt, Copiable};
+ghost use Rattle.edit.specs.Edits.{Becomes};
+ghost use Rattle.edit_copy.specs.Copy.{copied, Copiable};
 
 // The object at path gets another stamp and a plain etag; its data stay.
 fn restamp(tables: &mut [u8], arena: &[u8], stamp: u64, digest: Digest, path: &[u8])
     requires { ⌜ Copiable (now tables) (now arena) stamp digest (now path) (now path) ⌝ }
-    ensures { λ _. ⌜ Stands (now (tables .exit)) (now (arena .entry)) (withObject (stateOf (now (tables .entry)) (now (arena .entry))) (now (path .entry)) (plainWith stamp digest (contentAt (stateOf (now (tables .entry)) (now (arena .entry))) (now (path .entry))))) ⌝ }
+    ensures { λ _. ⌜ Becomes (now (tables .entry)) (now (arena .entry)) (now (tables .exit)) (now (arena .entry))
+        (copied stamp digest (now (path .entry)) (now (path .entry))) ⌝ }
 {
     let place = find::find_object(tables, arena, path);
     let end = find::rows_end(tables, arena);
@@ -43,8 +42,10 @@ fn copy_across(
     source: &[u8],
     destination: &[u8],
 )
-    requires { ⌜ Copiable (now tables) (now arena) stamp digest (now source) (now destination) × (same (now source) (now destination) ≡ false) ⌝ }
-    ensures { λ _. ⌜ Stands (now (tables .exit)) (now (arena .exit)) (withObject (stateOf (now (tables .entry)) (now (arena .entry))) (now (destination .entry)) (plainWith stamp digest (contentAt (stateOf (now (tables .entry)) (now (arena .entry))) (now (source .entry))))) ⌝ }
+    requires { ⌜ Copiable (now tables) (now arena) stamp digest (now source) (now destination)
+        × (same (now source) (now destination) ≡ false) ⌝ }
+    ensures { λ _. ⌜ Becomes (now (tables .entry)) (now (arena .entry)) (now (tables .exit)) (now (arena .exit))
+        (copied stamp digest (now (source .entry)) (now (destination .entry))) ⌝ }
 {
     edit::objects::free_path(tables, arena, destination);
     let end = find::rows_end(tables, arena);
@@ -76,7 +77,8 @@ pub fn copy_object(
     destination: &[u8],
 )
     requires { ⌜ Copiable (now tables) (now arena) stamp digest (now source) (now destination) ⌝ }
-    ensures { λ _. ⌜ Stands (now (tables .exit)) (now (arena .exit)) (withObject (stateOf (now (tables .entry)) (now (arena .entry))) (now (destination .entry)) (plainWith stamp digest (contentAt (stateOf (now (tables .entry)) (now (arena .entry))) (now (source .entry))))) ⌝ }
+    ensures { λ _. ⌜ Becomes (now (tables .entry)) (now (arena .entry)) (now (tables .exit)) (now (arena .exit))
+        (copied stamp digest (now (source .entry)) (now (destination .entry))) ⌝ }
 {
     if order::equal(source, destination) {
         restamp(tables, arena, stamp, digest, source);

@@ -10,7 +10,8 @@ use Rattle.md5.specs.Md5.{bytesOf}
 use Rattle.machine.specs.Map.{isSome, byNumber, lookup, remove}
 use Rattle.machine.specs.State.{Part, Upload, held, withUpload, withPart}
 use Rattle.machine.specs.Valid.{Valid}
-use Rattle.layout.specs.Memory.{whole, stateOf}
+use Rattle.layout.specs.Memory.{whole, stateOf, Stands}
+use Rattle.find.specs.Known.{OfOpen}
 
 -- the upload without a part
 abbrev pub withoutPart : Upload → ℕ → Upload
@@ -21,6 +22,10 @@ partWith digest content = record { content = content; digest = bytesOf digest }
 
 unfoldable pub partAfterHeld : (t a : List ℕ) → Digest → (size : ℕ) → Part
 partAfterHeld t a digest size = partWith digest (take size (drop (held (stateOf t a)) a))
+
+-- t′ and a′ stand for the state that t and a stood for, its open upload u changed by f
+abbrev pub UploadBecomes : (t a t′ a′ : List ℕ) (u : ℕ) → (Upload → Upload) → Type 0
+UploadBecomes t a t′ a′ u f = OfOpen t a u (λ s x. Stands t′ a′ (withUpload s u (f x)))
 
 -- upload u is open and has part n
 pub record PartRemovable (t a : List ℕ) (u n : ℕ) : Type 0 where

@@ -1,19 +1,18 @@
-// A part put into an open upload, and taken out. What memory then stands for is said of the upload x that has this number.
+// A part put into an open upload, and taken out. What memory then stands for is said of the upload x that has this
+// number.
 use layout::Header;
 use md5::words::Digest;
 use row::Head;
-ghost use mathlib.Core.Path.{_≡_};
-ghost use mathlib.Core.Bool.{true};
-ghost use mathlib.Core.Option.{some};
-ghost use Rattle.machine.specs.Map.{isSome, byNumber, lookup};
-ghost use Rattle.machine.specs.State.{Upload, withUpload, withPart};
-ghost use Rattle.layout.specs.Memory.{whole, stateOf, Stands};
-ghost use Rattle.edit_uploads.specs.Parts.{withoutPart, partWith, partAfterHeld, PartRemovable, PartAddable, PartPuttable};
+ghost use Rattle.machine.specs.State.{withPart};
+ghost use Rattle.find.specs.Known.{WholeOpen};
+ghost use Rattle.edit_uploads.specs.Parts.{withoutPart, partWith, partAfterHeld, UploadBecomes};
+ghost use Rattle.edit_uploads.specs.Parts.{PartRemovable, PartAddable, PartPuttable};
 
 // A part that is there, taken out.
 fn remove_part(tables: &mut [u8], arena: &mut [u8], upload: u32, number: u16)
     requires { ⌜ PartRemovable (now tables) (now arena) upload number ⌝ }
-    ensures { λ _. ⌜ ((x : Upload) → lookup byNumber upload (stateOf (now (tables .entry)) (now (arena .entry)) .U) ≡ some x → Stands (now (tables .exit)) (now (arena .exit)) (withUpload (stateOf (now (tables .entry)) (now (arena .entry))) upload (withoutPart x number))) ⌝ }
+    ensures { λ _. ⌜ UploadBecomes (now (tables .entry)) (now (arena .entry)) (now (tables .exit)) (now (arena .exit))
+        upload (λ x. withoutPart x number) ⌝ }
 {
     let place = find::find_part(tables, arena, upload, number);
     let end = find::rows_end(tables, arena);
@@ -43,7 +42,8 @@ fn add_part(
     size: usize,
 )
     requires { ⌜ PartAddable (now tables) (now arena) upload number digest size ⌝ }
-    ensures { λ _. ⌜ ((x : Upload) → lookup byNumber upload (stateOf (now (tables .entry)) (now (arena .entry)) .U) ≡ some x → Stands (now (tables .exit)) (now (arena .exit)) (withUpload (stateOf (now (tables .entry)) (now (arena .entry))) upload (withPart x number (partAfterHeld (now (tables .entry)) (now (arena .entry)) digest size)))) ⌝ }
+    ensures { λ _. ⌜ UploadBecomes (now (tables .entry)) (now (arena .entry)) (now (tables .exit)) (now (arena .exit))
+        upload (λ x. withPart x number (partAfterHeld (now (tables .entry)) (now (arena .entry)) digest size)) ⌝ }
 {
     let place = find::find_part(tables, arena, upload, number);
     let end = find::rows_end(tables, arena);
@@ -79,7 +79,8 @@ pub fn put_part(
     content: &[u8],
 )
     requires { ⌜ PartPuttable (now tables) (now arena) upload number digest (now content) ⌝ }
-    ensures { λ _. ⌜ ((x : Upload) → lookup byNumber upload (stateOf (now (tables .entry)) (now (arena .entry)) .U) ≡ some x → Stands (now (tables .exit)) (now (arena .exit)) (withUpload (stateOf (now (tables .entry)) (now (arena .entry))) upload (withPart x number (partWith digest (now (content .entry)))))) ⌝ }
+    ensures { λ _. ⌜ UploadBecomes (now (tables .entry)) (now (arena .entry)) (now (tables .exit)) (now (arena .exit))
+        upload (λ x. withPart x number (partWith digest (now (content .entry)))) ⌝ }
 {
     free_part(tables, arena, upload, number);
     let end = find::rows_end(tables, arena);
@@ -90,8 +91,9 @@ pub fn put_part(
 
 // A part of an open upload taken out, if there is one.
 fn free_part(tables: &mut [u8], arena: &mut [u8], upload: u32, number: u16)
-    requires { ⌜ (whole (now tables) (now arena) ≡ true) × (isSome (lookup byNumber upload (stateOf (now tables) (now arena) .U)) ≡ true) ⌝ }
-    ensures { λ _. ⌜ ((x : Upload) → lookup byNumber upload (stateOf (now (tables .entry)) (now (arena .entry)) .U) ≡ some x → Stands (now (tables .exit)) (now (arena .exit)) (withUpload (stateOf (now (tables .entry)) (now (arena .entry))) upload (withoutPart x number))) ⌝ }
+    requires { ⌜ WholeOpen (now tables) (now arena) upload ⌝ }
+    ensures { λ _. ⌜ UploadBecomes (now (tables .entry)) (now (arena .entry)) (now (tables .exit)) (now (arena .exit))
+        upload (λ x. withoutPart x number) ⌝ }
 {
     let place = find::find_part(tables, arena, upload, number);
     if place.found {

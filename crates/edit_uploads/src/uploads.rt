@@ -2,19 +2,17 @@
 use layout::Header;
 use md5::words::Digest;
 use row::Head;
-ghost use mathlib.Core.Path.{_≡_};
-ghost use mathlib.Core.Bool.{true};
-ghost use lib.ListN.{length};
-ghost use Rattle.machine.specs.Map.{isSome, byNumber, lookup};
 ghost use Rattle.machine.specs.State.{withUpload, withoutUpload, withNext};
 ghost use Rattle.machine.specs.Steps.{newUpload};
-ghost use Rattle.machine.specs.Valid.{Valid};
-ghost use Rattle.layout.specs.Memory.{whole, stateOf, Stands};
+ghost use Rattle.find.specs.Known.{WholeOpen};
+ghost use Rattle.edit.specs.Edits.{MayBecome, Becomes};
 
 // An upload without parts, put after all rows with the next number. No data change.
 pub fn open_upload(tables: &mut [u8], arena: &[u8], stamp: u64, path: &[u8])
-    requires { ⌜ (whole (now tables) (now arena) ≡ true) × Valid (length (now arena)) (withNext (withUpload (stateOf (now tables) (now arena)) (stateOf (now tables) (now arena) .N) (newUpload stamp (now path)))) ⌝ }
-    ensures { λ _. ⌜ Stands (now (tables .exit)) (now (arena .entry)) (withNext (withUpload (stateOf (now (tables .entry)) (now (arena .entry))) (stateOf (now (tables .entry)) (now (arena .entry)) .N) (newUpload stamp (now (path .entry))))) ⌝ }
+    requires { ⌜ MayBecome (now tables) (now arena)
+        (λ s. withNext (withUpload s (s .N) (newUpload stamp (now path)))) ⌝ }
+    ensures { λ _. ⌜ Becomes (now (tables .entry)) (now (arena .entry)) (now (tables .exit)) (now (arena .entry))
+        (λ s. withNext (withUpload s (s .N) (newUpload stamp (now (path .entry))))) ⌝ }
 {
     let end = find::rows_end(tables, arena);
     let header = layout::headers::read_header(tables);
@@ -45,8 +43,9 @@ pub fn open_upload(tables: &mut [u8], arena: &[u8], stamp: u64, path: &[u8])
 
 // The upload with this number, taken out with its parts.
 pub fn remove_upload(tables: &mut [u8], arena: &mut [u8], upload: u32)
-    requires { ⌜ (whole (now tables) (now arena) ≡ true) × (isSome (lookup byNumber upload (stateOf (now tables) (now arena) .U)) ≡ true) ⌝ }
-    ensures { λ _. ⌜ Stands (now (tables .exit)) (now (arena .exit)) (withoutUpload (stateOf (now (tables .entry)) (now (arena .entry))) upload) ⌝ }
+    requires { ⌜ WholeOpen (now tables) (now arena) upload ⌝ }
+    ensures { λ _. ⌜ Becomes (now (tables .entry)) (now (arena .entry)) (now (tables .exit)) (now (arena .exit))
+        (λ s. withoutUpload s upload) ⌝ }
 {
     let place = find::find_upload(tables, arena, upload);
     let parts = find::parts_end(tables, arena, upload);

@@ -17,8 +17,8 @@ use Rattle.layout.proofs.UploadLaws.{length-part-rows}
 use Rattle.find.specs.declared.RowPlace.{RowPlace}
 use Rattle.find.specs.declared.search.Goal.{Goal}
 use Rattle.find.specs.declared.search.Goal.the-variants as goal
-use Rattle.find.specs.Places.{placeAfter, beforeUpload, beforeParts, beforePart, throughParts, fromUpload, afterUpload, fromPart, uploadPlace, partPlace, passedParts}
-use Rattle.find.specs.Search.{reach, stopsOf, rowPlaceAt, IsRowPlace, sought, leads}
+use Rattle.find.specs.Places.{placeAfter, beforeUpload, beforeParts, beforePart, throughParts, fromUpload, afterUpload, fromPart, uploadPlace, partPlace, uploadRowOf, partsRowOf, passedParts}
+use Rattle.find.specs.Search.{reach, stopsOf, rowPlaceAt, IsRow, IsRowPlace, sought, leads}
 use Rattle.find.proofs.Splits.{upload-place, upload-found, parts-place, parts-after, part-place}
 use Rattle.find.proofs.Walk.{rowPlace}
 use Rattle.find.proofs.Searches.{reach-end, reach-upload, upload-leads, reach-part, part-leads, reach-next}
@@ -89,14 +89,14 @@ end-answer rs p e = e ∙ sought-passes goal.End rs [] rs rs 0 refl refl (reach-
 
 -- Uploads ----------------------------------------------------------------------------------------------------------------
 
-pub upload-answer : (s : State) (u : ℕ) (p : RowPlace) → p ≡ sought (goal.Upload u) (rowsOf s) 0 → p ≡ rowPlaceAt (rowsOf s) (length (beforeUpload s u))
+pub upload-answer : (s : State) (u : ℕ) (p : RowPlace) → p ≡ sought (goal.Upload u) (rowsOf s) 0 → p ≡ uploadRowOf s u
 unfolding beforeUpload
 upload-answer s u p e = e ∙ sought-passes (goal.Upload u) (rowsOf s) [] (rowsOf s) (beforeUpload s u) 0 refl refl (reach-upload s u)
 
 pub upload-within : (s : State) (u : ℕ) → length (beforeUpload s u) ≤ length (rowsOf s)
 upload-within s u = omega (arith, ap length (upload-place s u), length-append (beforeUpload s u) (fromUpload s u))
 
-pub found-upload : (s : State) (u : ℕ) (p : RowPlace) (found : Bool) → p ≡ rowPlaceAt (rowsOf s) (length (beforeUpload s u)) → found ≡ leads uploadKind u (drop (p .row) (rowsOf s))
+pub found-upload : (s : State) (u : ℕ) (p : RowPlace) (found : Bool) → p ≡ uploadRowOf s u → found ≡ leads uploadKind u (drop (p .row) (rowsOf s))
     → record { found = found; at = p .at; base = p .base } ≡ uploadPlace s u
 unfolding uploadPlace fromUpload
 found-upload s u p found e f =
@@ -111,21 +111,21 @@ open-within s u e =
     omega (arith, ap length (upload-found s u x (k .1)), length-append (beforeUpload s u) (uploadRow u x ∷ (partRows (x .parts) ++ afterUpload s u)))
 
 -- the place of an open upload's row, and that of the row after it
-pub open-row-place : (s : State) (u : ℕ) (p : RowPlace) → p ≡ rowPlaceAt (rowsOf s) (length (beforeUpload s u)) → isSome (lookup byNumber u (s .U)) ≡ true → (p ≡ rowPlaceAt (rowsOf s) (p .row)) × (p .row < length (rowsOf s))
+pub open-row-place : (s : State) (u : ℕ) (p : RowPlace) → p ≡ uploadRowOf s u → isSome (lookup byNumber u (s .U)) ≡ true → IsRow (rowsOf s) p
 open-row-place s u p e o =
     let l = open-within s u o in
     let n = place-row (rowsOf s) p (length (beforeUpload s u)) e in
     (is-row-place (rowsOf s) p (length (beforeUpload s u)) e (omega arith) .0, omega arith)
 
-pub first-part-row : (s : State) (u : ℕ) (p q : RowPlace) → p ≡ rowPlaceAt (rowsOf s) (length (beforeUpload s u)) → q ≡ rowPlaceAt (rowsOf s) (p .row + 1) → q ≡ rowPlaceAt (rowsOf s) (length (beforeUpload s u) + 1)
+pub first-part-row : (s : State) (u : ℕ) (p q : RowPlace) → p ≡ uploadRowOf s u → q ≡ rowPlaceAt (rowsOf s) (p .row + 1) → q ≡ partsRowOf s u
 first-part-row s u p q e f = f ∙ ap (λ (i : ℕ). rowPlaceAt (rowsOf s) (i + 1)) (place-row (rowsOf s) p (length (beforeUpload s u)) e)
 
-pub parts-row-place : (s : State) (u : ℕ) (p : RowPlace) → p ≡ rowPlaceAt (rowsOf s) (length (beforeUpload s u) + 1) → isSome (lookup byNumber u (s .U)) ≡ true → IsRowPlace (rowsOf s) p
+pub parts-row-place : (s : State) (u : ℕ) (p : RowPlace) → p ≡ partsRowOf s u → isSome (lookup byNumber u (s .U)) ≡ true → IsRowPlace (rowsOf s) p
 parts-row-place s u p e o = is-row-place (rowsOf s) p (length (beforeUpload s u) + 1) e (let l = open-within s u o in omega arith)
 
 -- Parts ------------------------------------------------------------------------------------------------------------------
 
-module _ (s : State) (u : ℕ) (x : Upload) (f : lookup byNumber u (s .U) ≡ some x) (first : RowPlace) (e : first ≡ rowPlaceAt (rowsOf s) (length (beforeUpload s u) + 1)) where
+module _ (s : State) (u : ℕ) (x : Upload) (f : lookup byNumber u (s .U) ≡ some x) (first : RowPlace) (e : first ≡ partsRowOf s u) where
   first-row : first .row ≡ length (beforeParts s u x)
   unfolding beforeParts
   first-row = place-row (rowsOf s) first _ e ∙ sym (length-append (beforeUpload s u) (uploadRow u x ∷ []))

@@ -8,11 +8,12 @@ use Rattle.machine.specs.Map.{isSome, byNumber, lookup, place}
 use Rattle.machine.specs.Names.{Bytes}
 use Rattle.machine.specs.State.{Upload, State}
 use Rattle.row.specs.Row.{Row, encodeRows, contentsOf}
-use Rattle.layout.specs.Memory.{objectRows, uploadRow, partRows, uploadRows}
+use Rattle.layout.specs.Memory.{objectRows, uploadRow, partRows, uploadRows, rowsOf}
 use Rattle.find.specs.declared.RowPlace.{RowPlace}
 use Rattle.layout.specs.Header.{headerLength}
 use Rattle.find.specs.declared.Lookup.{Lookup}
 use Rattle.find.specs.declared.PassedParts.{PassedParts}
+use Rattle.find.specs.Search.{rowPlaceAt}
 
 -- the place of the row that follows the rows rs, and a lookup that answers it
 abbrev pub placeAfter : List Row → RowPlace
@@ -65,6 +66,13 @@ uploadPlace s u = lookupAfter (isSome (lookup byNumber u (s .U))) (beforeUpload 
 
 unfoldable pub partPlace : State → ℕ → Upload → ℕ → Lookup
 partPlace s u x n = lookupAfter (isSome (lookup byNumber n (x .parts))) (beforePart s u x n)
+
+-- the place of an upload's row, or where it would stand, and of the row after it: its first part's, where it has one
+abbrev pub uploadRowOf : State → ℕ → RowPlace
+uploadRowOf s u = rowPlaceAt (rowsOf s) (length (beforeUpload s u))
+
+abbrev pub partsRowOf : State → ℕ → RowPlace
+partsRowOf s u = rowPlaceAt (rowsOf s) (length (beforeUpload s u) + 1)
 
 -- how many parts an upload has, and the place of the row after them
 unfoldable pub passedParts : State → ℕ → Upload → PassedParts

@@ -1,5 +1,5 @@
 -- Searches along the rows. Assumes nothing.
-use Prim.Native.Nat.{ℕ, suc, _+_, _≤_}
+use Prim.Native.Nat.{ℕ, suc, _+_, _≤_, _<_}
 use mathlib.Core.Path.{_≡_}
 use mathlib.Core.Bool.{Bool, false, _&&_, _||_, cond}
 use mathlib.Core.List.{List, [], _∷_}
@@ -31,6 +31,10 @@ stopsOf g r = stopsAt g (headOf r)
 -- the place of row i of rs, counted from 0, or after them all
 unfoldable pub rowPlaceAt : List Row → ℕ → RowPlace
 rowPlaceAt rs i = record { row = i; at = headerLength + length (encodeRows (take i rs)); base = length (contentsOf (take i rs)) }
+
+-- p is the place of one of the rows rs
+abbrev pub IsRow : List Row → RowPlace → Type 0
+IsRow rs p = (p ≡ rowPlaceAt rs (p .row)) × (p .row < length rs)
 
 -- p is the place of one of the rows rs, or after them all
 abbrev pub IsRowPlace : List Row → RowPlace → Type 0

@@ -16,16 +16,16 @@ pub use uploads::pass_parts;
 pub use uploads::rows_end;
 pub use uploads::upload_row;
 
-// What a search found: whether it is there, where its row begins in the tables, and where its data begin in the arena. Where it
-// is not there, the places are those of the row before which it would stand.
+// What a search found: whether it is there, where its row begins in the tables, and where its data begin in the arena.
+// Where it is not there, the places are those of the row before which it would stand.
 pub struct Lookup {
     pub found: bool,
     pub at: usize,
     pub base: usize,
 }
 
-// The place of a row: its number among the rows, counted from 0, where it begins in the tables, and where its data begin in
-// the arena.
+// The place of a row: its number among the rows, counted from 0, where it begins in the tables, and where its data
+// begin in the arena.
 pub struct RowPlace {
     pub row: usize,
     pub at: usize,

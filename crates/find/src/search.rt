@@ -3,11 +3,10 @@ use crate::RowPlace;
 use crate::counts::read_counts;
 use row::Head;
 ghost use mathlib.Core.Path.{_≡_};
-ghost use mathlib.Core.Bool.{true};
-ghost use Prim.Native.Nat.{_+_, _<_};
-ghost use lib.ListN.{length, drop};
-ghost use Rattle.layout.specs.Memory.{whole, stateOf, rowsOf};
-ghost use Rattle.find.specs.Search.{stopsAt, sought, rowPlaceAt, IsRowPlace, leads};
+ghost use Prim.Native.Nat.{_+_};
+ghost use lib.ListN.{drop};
+ghost use Rattle.find.specs.Search.{stopsAt, sought, rowPlaceAt, leads};
+ghost use Rattle.find.specs.Known.{rowsIn, WholeRow, WholePlace};
 
 // Where a search along the rows stops: after them all; at the upload with a number, or the first above it; at the next
 // upload; at the part with a number, the first above it, or the next upload.
@@ -32,8 +31,8 @@ fn stops(h: Head, goal: Goal) -> bool
 
 // The row after a row.
 pub(crate) fn next_row(tables: &[u8], arena: &[u8], from: RowPlace) -> RowPlace
-    requires { ⌜ (whole (now tables) (now arena) ≡ true) × ((from ≡ rowPlaceAt (rowsOf (stateOf (now tables) (now arena))) (from .row)) × (from .row < length (rowsOf (stateOf (now tables) (now arena))))) ⌝ }
-    ensures { λ r. ⌜ r ≡ rowPlaceAt (rowsOf (stateOf (now (tables .entry)) (now (arena .entry)))) (from .row + 1) ⌝ }
+    requires { ⌜ WholeRow (now tables) (now arena) from ⌝ }
+    ensures { λ r. ⌜ r ≡ rowPlaceAt (rowsIn (now (tables .entry)) (now (arena .entry))) (from .row + 1) ⌝ }
 {
     let at = from.at;
     let h = row::read_head(tables, at);
@@ -46,8 +45,8 @@ pub(crate) fn next_row(tables: &[u8], arena: &[u8], from: RowPlace) -> RowPlace
 
 // From a row on, the first row at which the search stops, or the end of the rows.
 pub(crate) fn seek(tables: &[u8], arena: &[u8], from: RowPlace, goal: Goal) -> RowPlace
-    requires { ⌜ (whole (now tables) (now arena) ≡ true) × IsRowPlace (rowsOf (stateOf (now tables) (now arena))) from ⌝ }
-    ensures { λ r. ⌜ r ≡ sought goal (rowsOf (stateOf (now (tables .entry)) (now (arena .entry)))) (from .row) ⌝ }
+    requires { ⌜ WholePlace (now tables) (now arena) from ⌝ }
+    ensures { λ r. ⌜ r ≡ sought goal (rowsIn (now (tables .entry)) (now (arena .entry))) (from .row) ⌝ }
 {
     let counts = read_counts(tables, arena);
     let rows = counts.rows;
@@ -68,8 +67,8 @@ pub(crate) fn seek(tables: &[u8], arena: &[u8], from: RowPlace, goal: Goal) -> R
 
 // Whether a row of this kind with this number stands there.
 pub(crate) fn stands(tables: &[u8], arena: &[u8], here: RowPlace, kind: u8, number: u32) -> bool
-    requires { ⌜ (whole (now tables) (now arena) ≡ true) × IsRowPlace (rowsOf (stateOf (now tables) (now arena))) here ⌝ }
-    ensures { λ r. ⌜ r ≡ leads kind number (drop (here .row) (rowsOf (stateOf (now (tables .entry)) (now (arena .entry))))) ⌝ }
+    requires { ⌜ WholePlace (now tables) (now arena) here ⌝ }
+    ensures { λ r. ⌜ r ≡ leads kind number (drop (here .row) (rowsIn (now (tables .entry)) (now (arena .entry)))) ⌝ }
 {
     let counts = read_counts(tables, arena);
     let rows = counts.rows;

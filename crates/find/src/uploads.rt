@@ -8,19 +8,15 @@ use crate::search::seek;
 use crate::search::stands;
 ghost use mathlib.Core.Path.{_≡_};
 ghost use mathlib.Core.Bool.{true};
-ghost use Prim.Native.Nat.{ℕ, _+_, _<_};
-ghost use lib.ListN.{length};
-ghost use mathlib.Core.Option.{some};
-ghost use Rattle.machine.specs.Map.{isSome, byNumber, lookup};
-ghost use Rattle.machine.specs.State.{Upload, held};
-ghost use Rattle.layout.specs.Memory.{whole, stateOf, rowsOf};
-ghost use Rattle.find.specs.Places.{placeAfter, beforeUpload, uploadPlace, partPlace, passedParts};
-ghost use Rattle.find.specs.Search.{rowPlaceAt, IsRowPlace};
+ghost use Rattle.machine.specs.State.{held};
+ghost use Rattle.layout.specs.Memory.{whole, stateOf};
+ghost use Rattle.find.specs.Places.{placeAfter, uploadPlace, partPlace, uploadRowOf, partsRowOf, passedParts};
+ghost use Rattle.find.specs.Known.{rowsIn, WholeOpen, WholeRow, WholePlace, OfOpen, OfOpenAt, OfOpenBefore};
 
 // The row of the upload with this number, or where it would stand.
 pub fn upload_row(tables: &[u8], arena: &[u8], upload: u32) -> RowPlace
     requires { ⌜ whole (now tables) (now arena) ≡ true ⌝ }
-    ensures { λ r. ⌜ r ≡ rowPlaceAt (rowsOf (stateOf (now (tables .entry)) (now (arena .entry)))) (length (beforeUpload (stateOf (now (tables .entry)) (now (arena .entry))) upload)) ⌝ }
+    ensures { λ r. ⌜ r ≡ uploadRowOf (stateOf (now (tables .entry)) (now (arena .entry))) upload ⌝ }
 {
     let first = RowPlace {
         row: 0,
@@ -32,8 +28,8 @@ pub fn upload_row(tables: &[u8], arena: &[u8], upload: u32) -> RowPlace
 
 // The row after that of an open upload: its first part's, where it has one.
 pub fn parts_row(tables: &[u8], arena: &[u8], upload: u32) -> RowPlace
-    requires { ⌜ (whole (now tables) (now arena) ≡ true) × (isSome (lookup byNumber upload (stateOf (now tables) (now arena) .U)) ≡ true) ⌝ }
-    ensures { λ r. ⌜ r ≡ rowPlaceAt (rowsOf (stateOf (now (tables .entry)) (now (arena .entry)))) (length (beforeUpload (stateOf (now (tables .entry)) (now (arena .entry))) upload) + 1) ⌝ }
+    requires { ⌜ WholeOpen (now tables) (now arena) upload ⌝ }
+    ensures { λ r. ⌜ r ≡ partsRowOf (stateOf (now (tables .entry)) (now (arena .entry))) upload ⌝ }
 {
     let here = upload_row(tables, arena, upload);
     next_row(tables, arena, here)
@@ -42,7 +38,7 @@ pub fn parts_row(tables: &[u8], arena: &[u8], upload: u32) -> RowPlace
 // The end of the rows.
 pub fn rows_end(tables: &[u8], arena: &[u8]) -> RowPlace
     requires { ⌜ whole (now tables) (now arena) ≡ true ⌝ }
-    ensures { λ r. ⌜ r ≡ placeAfter (rowsOf (stateOf (now (tables .entry)) (now (arena .entry)))) ⌝ }
+    ensures { λ r. ⌜ r ≡ placeAfter (rowsIn (now (tables .entry)) (now (arena .entry))) ⌝ }
 {
     let first = RowPlace {
         row: 0,
@@ -77,8 +73,9 @@ pub fn find_upload(tables: &[u8], arena: &[u8], upload: u32) -> Lookup
 
 // The place of a part of an open upload, `first` being the row after the upload's.
 pub fn find_part_from(tables: &[u8], arena: &[u8], first: RowPlace, number: u16) -> Lookup
-    requires { ⌜ (whole (now tables) (now arena) ≡ true) × IsRowPlace (rowsOf (stateOf (now tables) (now arena))) first ⌝ }
-    ensures { λ r. ⌜ ((u : ℕ) (x : Upload) → first ≡ rowPlaceAt (rowsOf (stateOf (now (tables .entry)) (now (arena .entry)))) (length (beforeUpload (stateOf (now (tables .entry)) (now (arena .entry))) u) + 1) → lookup byNumber u (stateOf (now (tables .entry)) (now (arena .entry)) .U) ≡ some x → r ≡ partPlace (stateOf (now (tables .entry)) (now (arena .entry))) u x number) ⌝ }
+    requires { ⌜ WholePlace (now tables) (now arena) first ⌝ }
+    ensures { λ r. ⌜ OfOpenBefore (now (tables .entry)) (now (arena .entry)) first
+        (λ s u x. r ≡ partPlace s u x number) ⌝ }
 {
     let here = seek(tables, arena, first, Goal::Part(number));
     let found = stands(tables, arena, here, layout::PART_KIND, number as u32);
@@ -91,8 +88,9 @@ pub fn find_part_from(tables: &[u8], arena: &[u8], first: RowPlace, number: u16)
 
 // The place of a part of an open upload.
 pub fn find_part(tables: &[u8], arena: &[u8], upload: u32, number: u16) -> Lookup
-    requires { ⌜ (whole (now tables) (now arena) ≡ true) × (isSome (lookup byNumber upload (stateOf (now tables) (now arena) .U)) ≡ true) ⌝ }
-    ensures { λ r. ⌜ ((x : Upload) → lookup byNumber upload (stateOf (now (tables .entry)) (now (arena .entry)) .U) ≡ some x → r ≡ partPlace (stateOf (now (tables .entry)) (now (arena .entry))) upload x number) ⌝ }
+    requires { ⌜ WholeOpen (now tables) (now arena) upload ⌝ }
+    ensures { λ r. ⌜ OfOpen (now (tables .entry)) (now (arena .entry)) upload
+        (λ s x. r ≡ partPlace s upload x number) ⌝ }
 {
     let first = parts_row(tables, arena, upload);
     find_part_from(tables, arena, first, number)
@@ -100,8 +98,8 @@ pub fn find_part(tables: &[u8], arena: &[u8], upload: u32, number: u16) -> Looku
 
 // How many parts the upload has whose row stands there, and the row after them.
 pub fn pass_parts(tables: &[u8], arena: &[u8], here: RowPlace) -> PassedParts
-    requires { ⌜ (whole (now tables) (now arena) ≡ true) × ((here ≡ rowPlaceAt (rowsOf (stateOf (now tables) (now arena))) (here .row)) × (here .row < length (rowsOf (stateOf (now tables) (now arena))))) ⌝ }
-    ensures { λ r. ⌜ ((u : ℕ) (x : Upload) → here ≡ rowPlaceAt (rowsOf (stateOf (now (tables .entry)) (now (arena .entry)))) (length (beforeUpload (stateOf (now (tables .entry)) (now (arena .entry))) u)) → lookup byNumber u (stateOf (now (tables .entry)) (now (arena .entry)) .U) ≡ some x → r ≡ passedParts (stateOf (now (tables .entry)) (now (arena .entry))) u x) ⌝ }
+    requires { ⌜ WholeRow (now tables) (now arena) here ⌝ }
+    ensures { λ r. ⌜ OfOpenAt (now (tables .entry)) (now (arena .entry)) here (λ s u x. r ≡ passedParts s u x) ⌝ }
 {
     let first = next_row(tables, arena, here);
     let next = seek(tables, arena, first, Goal::NextUpload);
@@ -113,8 +111,8 @@ pub fn pass_parts(tables: &[u8], arena: &[u8], here: RowPlace) -> PassedParts
 
 // How many parts an open upload has, and the row after them.
 pub fn parts_end(tables: &[u8], arena: &[u8], upload: u32) -> PassedParts
-    requires { ⌜ (whole (now tables) (now arena) ≡ true) × (isSome (lookup byNumber upload (stateOf (now tables) (now arena) .U)) ≡ true) ⌝ }
-    ensures { λ r. ⌜ ((x : Upload) → lookup byNumber upload (stateOf (now (tables .entry)) (now (arena .entry)) .U) ≡ some x → r ≡ passedParts (stateOf (now (tables .entry)) (now (arena .entry))) upload x) ⌝ }
+    requires { ⌜ WholeOpen (now tables) (now arena) upload ⌝ }
+    ensures { λ r. ⌜ OfOpen (now (tables .entry)) (now (arena .entry)) upload (λ s x. r ≡ passedParts s upload x) ⌝ }
 {
     let here = upload_row(tables, arena, upload);
     pass_parts(tables, arena, here)

@@ -40,7 +40,7 @@ use Rattle.contract.specs.Answers.{partList}
 use Rattle.join_order.specs.Region.{listedRows, ListedAt, orderedTables, orderedArena, Arranged}
 use Rattle.join_order.proofs.Listed.{fit-count}
 use Rattle.join.specs.declared.Bounds.{Bounds}
-use Rattle.join.specs.Bounds.{boundsOf}
+use Rattle.join.specs.Bounds.{Inside, boundsOf}
 use Rattle.join.proofs.UploadBounds.{parts-data, parts-encodable, few-parts, rows-through, data-through}
 
 -- no part has the number that an odd byte makes
@@ -155,7 +155,7 @@ module _ (t a : List ℕ) (s : State) (h : Stands t a s) (u : ℕ) (x : Upload) 
 
   -- what `cut` asks, in memory of the same lengths
   pub cut-inside : (t₁ a₁ : List ℕ) → length t₁ ≡ length t → length a₁ ≡ length a
-      → (headerLength ≤ b .at) × (b .at ≤ b .after) × (b .after ≤ b .used) × (b .used ≤ length t₁) × (b .base + b .size ≤ b .held) × (b .held ≤ length a₁)
+      → Inside t₁ a₁ b
   cut-inside t₁ a₁ l l′ =
       let z = h .size in
       let r = h .valid .room in (

@@ -1,5 +1,6 @@
 -- Where an upload's rows and its parts' data begin and end. Assumes nothing.
-use Prim.Native.Nat.{ℕ, _+_}
+use Prim.Native.Nat.{ℕ, _+_, _≤_}
+use mathlib.Core.List.{List}
 use lib.ListN.{length}
 use Rattle.machine.specs.State.{Upload, State}
 use Rattle.row.specs.Row.{encodeRows, contentsOf}
@@ -7,6 +8,12 @@ use Rattle.layout.specs.Header.{headerLength}
 use Rattle.layout.specs.Memory.{partRows, rowsOf}
 use Rattle.find.specs.Places.{beforeUpload, beforeParts, throughParts}
 use Rattle.join.specs.declared.Bounds.{Bounds}
+
+-- the bounds follow one another inside t and a
+abbrev pub Inside : (t a : List ℕ) → Bounds → Type 0
+Inside t a b =
+    (headerLength ≤ b .at) × (b .at ≤ b .after) × (b .after ≤ b .used) × (b .used ≤ length t)
+    × (b .base + b .size ≤ b .held) × (b .held ≤ length a)
 
 unfoldable pub boundsOf : State → ℕ → Upload → Bounds
 boundsOf s u x =

@@ -4,16 +4,13 @@ use md5::words::Digest;
 ghost use mathlib.Core.Path.{_≡_};
 ghost use mathlib.Core.Bool.{true};
 ghost use mathlib.Core.List.{[]};
-ghost use mathlib.Core.Option.{some};
-ghost use Prim.Native.Nat.{_+_, _-_, _≤_};
-ghost use lib.ListN.{length};
+ghost use Prim.Native.Nat.{_+_, _-_};
 ghost use Rattle.buffer.specs.Buffer.{spliced, rotated};
-ghost use Rattle.machine.specs.Map.{isSome, byNumber, lookup};
-ghost use Rattle.machine.specs.State.{Upload};
 ghost use Rattle.layout.specs.Memory.{whole, stateOf, Stands};
-ghost use Rattle.layout.specs.Header.{headed, headerLength};
+ghost use Rattle.layout.specs.Header.{headed};
+ghost use Rattle.find.specs.Known.{WholeOpen, OfOpen};
 ghost use Rattle.contract.specs.Answers.{partList};
-ghost use Rattle.join.specs.Bounds.{boundsOf};
+ghost use Rattle.join.specs.Bounds.{Inside, boundsOf};
 ghost use Rattle.join.specs.Joined.{Listed, TakenOut, Joinable, JoinableAt, joinedState};
 
 // Where an upload's row, its first part's row, the rows after its parts and the free bytes begin in the tables; where its
@@ -38,8 +35,8 @@ pub struct Taken {
 
 // The bounds of an open upload.
 fn upload_bounds(tables: &[u8], arena: &[u8], upload: u32) -> Bounds
-    requires { ⌜ (whole (now tables) (now arena) ≡ true) × (isSome (lookup byNumber upload (stateOf (now tables) (now arena) .U)) ≡ true) ⌝ }
-    ensures { λ r. ⌜ ((x : Upload) → lookup byNumber upload (stateOf (now (tables .entry)) (now (arena .entry)) .U) ≡ some x → r ≡ boundsOf (stateOf (now (tables .entry)) (now (arena .entry))) upload x) ⌝ }
+    requires { ⌜ WholeOpen (now tables) (now arena) upload ⌝ }
+    ensures { λ r. ⌜ OfOpen (now (tables .entry)) (now (arena .entry)) upload (λ s x. r ≡ boundsOf s upload x) ⌝ }
 {
     let place = find::find_upload(tables, arena, upload);
     let parts = find::parts_end(tables, arena, upload);
@@ -59,8 +56,9 @@ fn upload_bounds(tables: &[u8], arena: &[u8], upload: u32) -> Bounds
 
 // The upload's rows cut out, and its parts' data moved to after the last byte that is still held.
 fn cut(tables: &mut [u8], arena: &mut [u8], b: Bounds, header: Header)
-    requires { ⌜ (headerLength ≤ b .at) × (b .at ≤ b .after) × (b .after ≤ b .used) × (b .used ≤ length (now tables)) × (b .base + b .size ≤ b .held) × (b .held ≤ length (now arena)) ⌝ }
-    ensures { λ _. ⌜ (now (tables .exit) ≡ headed (spliced (now (tables .entry)) (b .at) (b .after - b .at) (b .used) []) header)
+    requires { ⌜ Inside (now tables) (now arena) b ⌝ }
+    ensures { λ _. ⌜ (now (tables .exit)
+        ≡ headed (spliced (now (tables .entry)) (b .at) (b .after - b .at) (b .used) []) header)
         × (now (arena .exit) ≡ rotated (now (arena .entry)) (b .base) (b .size) (b .held - (b .base + b .size))) ⌝ }
 {
     let end = b.base + b.size;
@@ -70,9 +68,11 @@ fn cut(tables: &mut [u8], arena: &mut [u8], b: Bounds, header: Header)
 
 // An open upload taken out, its parts' data left after the last byte held, in listed order.
 fn take_upload(tables: &mut [u8], arena: &mut [u8], upload: u32, list: &[u8]) -> Taken
-    requires { ⌜ (whole (now tables) (now arena) ≡ true) × Listed (stateOf (now tables) (now arena)) upload (partList (now list)) ⌝ }
+    requires { ⌜ (whole (now tables) (now arena) ≡ true)
+        × Listed (stateOf (now tables) (now arena)) upload (partList (now list)) ⌝ }
     ensures { λ r. ⌜ ((k : Listed (stateOf (now (tables .entry)) (now (arena .entry))) upload (partList (now (list .entry))))
-        → TakenOut (now (tables .entry)) (now (arena .entry)) upload (now (list .entry)) k (now (tables .exit)) (now (arena .exit)) r) ⌝ }
+        → TakenOut (now (tables .entry)) (now (arena .entry)) upload (now (list .entry)) k
+        (now (tables .exit)) (now (arena .exit)) r) ⌝ }
 {
     let b = upload_bounds(tables, arena, upload);
     let count = b.count as u16;
@@ -97,7 +97,8 @@ fn take_upload(tables: &mut [u8], arena: &mut [u8], upload: u32, list: &[u8]) ->
 fn join_at(tables: &mut [u8], arena: &mut [u8], upload: u32, list: &[u8], path: &[u8], stamp: u64)
     requires { ⌜ JoinableAt (now tables) (now arena) upload (now list) (now path) stamp ⌝ }
     ensures { λ _. ⌜ ((k : JoinableAt (now (tables .entry)) (now (arena .entry)) upload (now (list .entry)) (now (path .entry)) stamp)
-        → Stands (now (tables .exit)) (now (arena .exit)) (joinedState (stateOf (now (tables .entry)) (now (arena .entry))) upload (partList (now (list .entry))) (k .joinable .listed))) ⌝ }
+        → Stands (now (tables .exit)) (now (arena .exit))
+        (joinedState (stateOf (now (tables .entry)) (now (arena .entry))) upload (partList (now (list .entry))) (k .joinable .listed))) ⌝ }
 {
     edit::objects::free_path(tables, arena, path);
     let taken = take_upload(tables, arena, upload, list);
@@ -117,7 +118,8 @@ fn join_at(tables: &mut [u8], arena: &mut [u8], upload: u32, list: &[u8], path: 
 pub fn join(tables: &mut [u8], arena: &mut [u8], upload: u32, list: &[u8])
     requires { ⌜ Joinable (now tables) (now arena) upload (now list) ⌝ }
     ensures { λ _. ⌜ ((k : Joinable (now (tables .entry)) (now (arena .entry)) upload (now (list .entry)))
-        → Stands (now (tables .exit)) (now (arena .exit)) (joinedState (stateOf (now (tables .entry)) (now (arena .entry))) upload (partList (now (list .entry))) (k .listed))) ⌝ }
+        → Stands (now (tables .exit)) (now (arena .exit))
+        (joinedState (stateOf (now (tables .entry)) (now (arena .entry))) upload (partList (now (list .entry))) (k .listed))) ⌝ }
 {
     let place = find::find_upload(tables, arena, upload);
     let at = place.at;

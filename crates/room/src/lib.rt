@@ -1,14 +1,11 @@
 // The room for an object or a part: the last refusals of PUT, COPY, PART and COMMIT, by number; 0 for none.
 ghost use mathlib.Core.Path.{_≡_};
 ghost use mathlib.Core.Bool.{true, cond};
-ghost use Prim.Native.Nat.{ℕ, _+_, _≤_};
+ghost use Prim.Native.Nat.{_+_, _≤_};
 ghost use lib.Dec.{leb};
-ghost use lib.ListN.{length};
-ghost use Rattle.machine.specs.Names.{Bytes};
 ghost use Rattle.machine.specs.Calls.{arenaFull, code};
-ghost use Rattle.machine.specs.Steps.{putAt};
-ghost use Rattle.layout.specs.Memory.{whole, stateOf};
-ghost use Rattle.contract.specs.Made.{resultOf};
+ghost use Rattle.layout.specs.Memory.{whole};
+ghost use Rattle.room.specs.Judged.{PutResult};
 
 // Arena full where n bytes beside those held pass its length, or 0.
 pub fn arena_judge(held: usize, n: usize, arena: usize) -> u8
@@ -21,10 +18,11 @@ pub fn arena_judge(held: usize, n: usize, arena: usize) -> u8
     0
 }
 
-// An object of n bytes at path, as PUT and COPY put it: table full, arena full or 0. The bytes of the old object are free.
+// An object of n bytes at path, as PUT and COPY put it: table full, arena full or 0. The bytes of the old object are
+// free.
 pub fn object_judge(tables: &[u8], arena: &[u8], path: &[u8], n: usize) -> u8
     requires { ⌜ whole (now tables) (now arena) ≡ true ⌝ }
-    ensures { λ r. ⌜ ((stamp : ℕ) (content : Bytes) → length content ≡ n → r ≡ resultOf (putAt (length (now (arena .entry))) (stateOf (now (tables .entry)) (now (arena .entry))) stamp (now (path .entry)) content)) ⌝ }
+    ensures { λ r. ⌜ PutResult (now (tables .entry)) (now (arena .entry)) (now (path .entry)) n r ⌝ }
 {
     let place = find::find_object(tables, arena, path);
     let held = find::held(tables, arena);

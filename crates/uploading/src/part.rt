@@ -6,9 +6,9 @@ use types::UploadNumber;
 ghost use mathlib.Core.Path.{_≡_};
 ghost use mathlib.Core.Bool.{true};
 ghost use lib.ListN.{length};
-ghost use Rattle.machine.specs.Map.{isSome, byNumber, lookup};
 ghost use Rattle.machine.specs.Calls.{PART};
 ghost use Rattle.layout.specs.Memory.{whole, stateOf};
+ghost use Rattle.find.specs.Known.{WholeOpen};
 ghost use Rattle.contract.specs.Answers.{partReply};
 ghost use Rattle.contract.specs.Made.{memory, outcome, resultOf, Made, MadeWhole};
 ghost use Rattle.uploading.specs.Part.{partOutcome};
@@ -21,8 +21,9 @@ fn part_room(
     number: PartNumber,
     content: &[u8],
 ) -> u8
-    requires { ⌜ (whole (now tables) (now arena) ≡ true) × (isSome (lookup byNumber (upload .0) (stateOf (now tables) (now arena) .U)) ≡ true) ⌝ }
-    ensures { λ r. ⌜ r ≡ resultOf (partOutcome (length (now (arena .entry))) (stateOf (now (tables .entry)) (now (arena .entry))) (upload .0) (number .0) (now (content .entry))) ⌝ }
+    requires { ⌜ WholeOpen (now tables) (now arena) (upload .0) ⌝ }
+    ensures { λ r. ⌜ r ≡ resultOf (partOutcome (length (now (arena .entry))) (stateOf (now (tables .entry)) (now (arena .entry)))
+        (upload .0) (number .0) (now (content .entry))) ⌝ }
 {
     let old = find::find_part(tables, arena, upload.0, number.0);
     let held = find::held(tables, arena);

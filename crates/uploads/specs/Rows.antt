@@ -1,13 +1,15 @@
 -- Where the rows of uploads stand, and what is read of one. Assumes nothing.
 use Prim.Native.Nat.{ℕ, _+_}
 use mathlib.Core.Path.{_≡_}
+use mathlib.Core.Bool.{true}
 use mathlib.Core.List.{List, _++_}
 use lib.ListN.{length, take, drop}
+use Rattle.machine.specs.Map.{isSome, byNumber, lookup}
 use Rattle.machine.specs.State.{Upload, State}
 use Rattle.row.specs.Row.{headAt, headLength}
-use Rattle.layout.specs.Memory.{objectRows, uploadRows, rowsOf}
+use Rattle.layout.specs.Memory.{objectRows, uploadRows, rowsOf, whole, stateOf}
 use Rattle.find.specs.declared.RowPlace.{RowPlace}
-use Rattle.find.specs.Places.{passedParts}
+use Rattle.find.specs.Places.{uploadRowOf, passedParts}
 use Rattle.find.specs.Search.{rowPlaceAt}
 use Rattle.uploads.specs.declared.rows.OpenUpload.{OpenUpload}
 
@@ -15,11 +17,22 @@ use Rattle.uploads.specs.declared.rows.OpenUpload.{OpenUpload}
 unfoldable pub uploadRowPlace : State → ℕ → RowPlace
 uploadRowPlace s i = rowPlaceAt (rowsOf s) (length (objectRows (s .O) ++ uploadRows (take i (s .U))))
 
+-- the number in the row that stands there
+abbrev pub numberAt : (t : List ℕ) → RowPlace → ℕ
+numberAt t here = headAt (drop (here .at) t) .number
+
+-- t and a are whole, and the row of an open upload stands there
+abbrev pub WholeUpload : (t a : List ℕ) → RowPlace → Type 0
+WholeUpload t a here =
+    (whole t a ≡ true)
+    × (isSome (lookup byNumber (numberAt t here) (stateOf t a .U)) ≡ true)
+    × (here ≡ uploadRowOf (stateOf t a) (numberAt t here))
+
 -- what is read of the upload x whose row stands there
 pub record RowRead (t : List ℕ) (s : State) (here : RowPlace) (x : Upload) (r : OpenUpload) : Type 0 where
-  pub number : r .number ≡ headAt (drop (here .at) t) .number
+  pub number : r .number ≡ numberAt t here
   pub from : r .from ≡ here .at + headLength
   pub to : r .to ≡ here .at + headLength + headAt (drop (here .at) t) .pathlen
   pub started : r .started ≡ headAt (drop (here .at) t) .stamp
   pub parts : r .parts ≡ length (x .parts)
-  pub next : r .next ≡ passedParts s (headAt (drop (here .at) t) .number) x .next
+  pub next : r .next ≡ passedParts s (numberAt t here) x .next

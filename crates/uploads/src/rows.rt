@@ -2,15 +2,9 @@
 use find::RowPlace;
 ghost use mathlib.Core.Path.{_≡_};
 ghost use mathlib.Core.Bool.{true};
-ghost use mathlib.Core.Option.{some};
-ghost use lib.ListN.{length, drop};
-ghost use Rattle.machine.specs.Map.{isSome, byNumber, lookup};
-ghost use Rattle.machine.specs.State.{Upload};
-ghost use Rattle.row.specs.Row.{headAt};
-ghost use Rattle.layout.specs.Memory.{whole, stateOf, rowsOf};
-ghost use Rattle.find.specs.Places.{beforeUpload};
-ghost use Rattle.find.specs.Search.{rowPlaceAt};
-ghost use Rattle.uploads.specs.Rows.{uploadRowPlace, RowRead};
+ghost use Rattle.layout.specs.Memory.{whole, stateOf};
+ghost use Rattle.find.specs.Known.{OfOpen};
+ghost use Rattle.uploads.specs.Rows.{uploadRowPlace, numberAt, WholeUpload, RowRead};
 
 // An open upload: its path stands in the tables from `from` to `to`, and `next` is the row after its parts.
 pub struct OpenUpload {
@@ -32,8 +26,9 @@ pub(crate) fn first_row(tables: &[u8], arena: &[u8]) -> RowPlace
 
 // The upload whose row stands there.
 pub(crate) fn read_upload(tables: &[u8], arena: &[u8], here: RowPlace) -> OpenUpload
-    requires { ⌜ (whole (now tables) (now arena) ≡ true) × (isSome (lookup byNumber (headAt (drop (here .at) (now tables)) .number) (stateOf (now tables) (now arena) .U)) ≡ true) × (here ≡ rowPlaceAt (rowsOf (stateOf (now tables) (now arena))) (length (beforeUpload (stateOf (now tables) (now arena)) (headAt (drop (here .at) (now tables)) .number)))) ⌝ }
-    ensures { λ r. ⌜ ((x : Upload) → lookup byNumber (headAt (drop (here .at) (now (tables .entry))) .number) (stateOf (now (tables .entry)) (now (arena .entry)) .U) ≡ some x → RowRead (now (tables .entry)) (stateOf (now (tables .entry)) (now (arena .entry))) here x r) ⌝ }
+    requires { ⌜ WholeUpload (now tables) (now arena) here ⌝ }
+    ensures { λ r. ⌜ OfOpen (now (tables .entry)) (now (arena .entry)) (numberAt (now (tables .entry)) here)
+        (λ s x. RowRead (now (tables .entry)) s here x r) ⌝ }
 {
     let h = row::read_head(tables, here.at);
     let parts = find::pass_parts(tables, arena, here);

@@ -1,17 +1,13 @@
 -- `commits::list_fits` meets its contract. The invariant: the first i numbers fit. Assumes nothing.
 use Prim.Native.Nat.{ℕ, _+_, _-_, _*_, _≤_}
 use mathlib.Core.Path.{_≡_, sym, _∙_, subst}
-use mathlib.Core.Option.{some}
 use native.Mathlib.Omega.{arith}
 use borrow.Author.Needs.{needs}
 use borrow.Author.Tests.{not-true, not-false}
 use lib.ListN.{length}
 use Rattle.number.specs.Number.{AreBytes}
-use Rattle.machine.specs.Map.{byNumber, lookup}
-use Rattle.machine.specs.State.{Upload}
-use Rattle.layout.specs.Memory.{stateOf, rowsOf}
-use Rattle.find.specs.Places.{beforeUpload}
-use Rattle.find.specs.Search.{rowPlaceAt}
+use Rattle.layout.specs.Memory.{stateOf}
+use Rattle.find.specs.Known.{OfOpenBefore}
 use Rattle.find.proofs.Answers.{parts-row-place}
 use Rattle.commits.proofs.Fitting.{unfit-number, Passed, passed-none, passed-next, unfit-list, fit-list, count-few}
 use Rattle.commits.proofs.list_fits.Statement.{statement}
@@ -20,7 +16,7 @@ use Rattle.commits.proofs.list_fits.Tie as tie
 abbrev Inv-loop : tie.InvT-loop
 Inv-loop tables arena list count first i₀ i =
     (i ≤ count)
-    × ((u : ℕ) (x : Upload) → first ≡ rowPlaceAt (rowsOf (stateOf tables arena)) (length (beforeUpload (stateOf tables arena) u) + 1) → lookup byNumber u (stateOf tables arena .U) ≡ some x → Passed (x .parts) list i)
+    × OfOpenBefore tables arena first (λ s u x. Passed (x .parts) list i)
 
 abbrev μ-loop : tie.MeasureT-loop
 μ-loop tables arena list count first i₀ i = count - i
@@ -54,7 +50,7 @@ number-fits-requires : tie.Need-number-fits-requires Inv-loop μ-loop
 number-fits-requires c κs =
     let k = c .before .before .before .before .before .before .before .before in
     let r = c .before .before .parts-row in
-    (k .pre .0, parts-row-place (stateOf (k .args .tables .now) (k .args .arena .now)) (k .args .upload .0) (r .result) (r .ensures) (k .pre .1), omega arith)
+    ((k .pre .0, parts-row-place (stateOf (k .args .tables .now) (k .args .arena .now)) (k .args .upload .0) (r .result) (r .ensures) (k .pre .1)), omega arith)
 
 returns-2 : tie.Need-returns-2 Inv-loop μ-loop
 returns-2 c =

@@ -75,6 +75,16 @@ module _ {k : Call} {m : Memory} where
               let same = d .refusal (λ z. code-not-zero n (sym (ap (λ (x : Reply). x .result) (d .answers ∙ ap (replyOf (lent k)) is)) ∙ z)) in
               (ap stateIn same ∙ sym (ap (after (stateIn m)) is), ap wholeMemory same ∙ w)
 
+      -- refused too, it stands for that state where the memory before stood for its own
+      pub stands-after : Stands (m .tables) (m .arena) (stateIn m) → Stands (m′ .tables) (m′ .arena) (after (stateIn m) (outcome k m))
+      stands-after h = go (outcome k m) refl
+        where
+          go : (o : Outcome) → outcome k m ≡ o → Stands (m′ .tables) (m′ .arena) (after (stateIn m) (outcome k m))
+          go (accept a out s) is = d .bytes (ap (λ (x : Reply). x .result) (d .answers ∙ ap (replyOf (lent k)) is))
+          go (refuse n) is =
+              let same = d .refusal (λ z. code-not-zero n (sym (ap (λ (x : Reply). x .result) (d .answers ∙ ap (replyOf (lent k)) is)) ∙ z)) in
+              rw (is, same) h
+
       -- the contract, once the test "whole" was passed
       pub over-whole : Made k m r m′
       unfolding meantReply meantState outcome

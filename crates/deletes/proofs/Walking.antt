@@ -12,7 +12,8 @@ use lib.Seq.{take-all, take-suc, drop-cons, length-take-le, set-at, append-snoc}
 use Rattle.machine.specs.Names.{Bytes}
 use Rattle.machine.specs.State.{State}
 use Rattle.machine.specs.Calls.{NamePlace, DELETE-OBJECTS, nothing}
-use Rattle.machine.specs.Steps.{deletePlace, placeResults, afterPlaces, replyOf, after}
+use Rattle.machine.specs.Steps.{deletePlace, placeResults, afterPlaces, replyOf}
+use Rattle.machine.proofs.Places.{length-results, after-more, results-more}
 use Rattle.layout.specs.Memory.{Stands}
 use Rattle.layout.proofs.StandsLaws.{stands-state, stands-whole}
 use Rattle.contract.specs.Answers.{resultsReply, success, WellNumbered}
@@ -20,7 +21,6 @@ use Rattle.contract.specs.Made.{Memory, wholeMemory, stateIn, Made}
 use Rattle.contract.proofs.MadeLaws.{done, over-whole}
 use Rattle.deletes.specs.Judged.{Judged, turnsOf, answerOf}
 use Rattle.deletes.specs.PlaceDone.{PlaceDone, PlaceDoneAt}
-use Rattle.deletes.proofs.Folding.{after-more, results-more, results-length}
 use Rattle.deletes.proofs.Judging.{refused-made, accepted, turn-taken, all-turns, answers-done, answers-refused}
 
 -- After i places, from the state s and the result buffer b₀: memory m and the result buffer b.
@@ -52,7 +52,7 @@ module _ (names : Bytes) (ps : List NamePlace) (s : State) (b₀ : Bytes) (i : �
   written : (n : ℕ) → n ≡ replyOf [] (deletePlace (afterPlaces s names before) names p) .result
       → set (placeResults s names before ++ drop i b₀) i n ≡ placeResults s names (take (i + 1) ps) ++ drop (i + 1) b₀
   written n e =
-      let l : length (placeResults s names before) ≡ i = results-length s names before ∙ length-take-le i ps (omega arith) in
+      let l : length (placeResults s names before) ≡ i = length-results s names before ∙ length-take-le i ps (omega arith) in
       let h : i < length b₀ = omega arith in
       rw (one-more, results-more s names before p, drop-cons b₀ i 0 h, add-one)
       (set-at (placeResults s names before) (getD b₀ i 0) (drop (suc i) b₀) n i l ∙ ap (λ (x : ℕ). placeResults s names before ++ x ∷ drop (suc i) b₀) e ∙ sym (append-snoc (placeResults s names before) _ (drop (suc i) b₀)))
@@ -117,7 +117,7 @@ module _ (names : Bytes) (ps : List NamePlace) (over : ℕ) (m₀ : Memory) (b�
         let out = placeResults (stateIn m₀) names ps in
         let all : take i ps ≡ ps = take-all i ps (omega arith) in
         let rest : b ≡ out ++ drop (length out) b₀ =
-        d .results ∙ ap (λ (l : List NamePlace). placeResults (stateIn m₀) names l ++ drop i b₀) all ∙ ap (λ (x : ℕ). out ++ drop x b₀) (i-is ∙ sym (results-length (stateIn m₀) names ps)) in
+        d .results ∙ ap (λ (l : List NamePlace). placeResults (stateIn m₀) names l ++ drop i b₀) all ∙ ap (λ (x : ℕ). out ++ drop x b₀) (i-is ∙ sym (length-results (stateIn m₀) names ps)) in
         rw (answers-done n z)
         (over-whole (a .0) (done nothing out _ (a .2) (ap (success nothing) rest) (rw all at (d .stands)) (t .tables-length) (t .arena-length)), tt)
 

@@ -1,6 +1,6 @@
 -- DELETE_OBJECTS does what its single DELETE calls do, from any state and amid any list.
 -- Assumes nothing.
-use Prim.Native.Nat.{ℕ, suc, _+_}
+use Prim.Native.Nat.{ℕ, _+_}
 use mathlib.Core.Path.{_≡_, refl, sym, ap, ap₂, _∙_}
 use mathlib.Core.Bool.{Bool, true, false, cond, false≢true}
 use mathlib.Core.List.{List, [], _∷_, _++_}
@@ -13,7 +13,7 @@ use Rattle.machine.specs.Steps.{deleteAt, deletePlace, placeResults, aft
 use Rattle.machine.specs.Lists.{trace, final}
 use Rattle.machine.specs.Demand3.{accepted}
 use Rattle.machine.specs.DeleteObjects.{nameAt, singleDeletes, resultsOf, AsDeletes, AmidAnyList}
-use Rattle.machine.proofs.Places.{placed}
+use Rattle.machine.proofs.Places.{placed, length-results}
 use Rattle.machine.proofs.InPlace.{same-in-place}
 
 -- a place is deleted as its DELETE call does
@@ -39,10 +39,6 @@ module _ (A : ℕ) (names : Bytes) where
       (places-trace (after s (deletePlace s names p)) ps
       ∙ ap (λ (o : Outcome). resultsOf (trace A (after s o) (singleDeletes names ps))) (place-is A s names p))
 
-  length-results : (s : State) (ps : List NamePlace) → length (placeResults s names ps) ≡ length ps
-  length-results s [] = refl
-  length-results s (p ∷ ps) = ap suc (length-results (after s (deletePlace s names p)) ps)
-
 -- the call's checks, one after the other: accepted, it leaves s′ and writes `out`; refused, it changes nothing
 checked : (s s′ : State) (b out : Bytes) (few whole room : Bool) →
     let o : Outcome = few else tooMany then whole else badRequest then room else bufferShort then accept nothing out s′ in
@@ -61,7 +57,7 @@ module _ (A : ℕ) (s : State) (names : Bytes) (ps : List NamePlace) (over : ℕ
       let h = checked s (afterPlaces s names ps) b (placeResults s names ps) _ _ _ in
       record {
         state = λ a. h .0 a .0 ∙ places-final A names s ps;
-        replies = λ a. h .0 a .1 ∙ rw (length-results A names s ps, places-trace A names s ps);
+        replies = λ a. h .0 a .1 ∙ rw (length-results s names ps, places-trace A names s ps);
         refused = h .1;
       }
 

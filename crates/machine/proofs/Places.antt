@@ -1,10 +1,10 @@
--- What the DELETE of a path and of a name place leaves, and that it does not depend on the uploads.
+-- What the DELETE of a path and of name places leaves, and that it does not depend on the uploads.
 -- Assumes nothing.
 use mathlib.Core.Path.{_≡_, refl, ap, ap₂, _∙_}
 use mathlib.Core.Bool.{Bool, true, false}
-use mathlib.Core.List.{List, [], _∷_}
+use mathlib.Core.List.{List, [], _∷_, _++_}
 use mathlib.Core.Option.{Option, none, some}
-use Prim.Native.Nat.{ℕ}
+use Prim.Native.Nat.{ℕ, suc}
 use lib.ListN.{length, take, drop}
 use Rattle.machine.specs.Map.{Map}
 use Rattle.machine.specs.Names.{Bytes}
@@ -25,6 +25,24 @@ then-delete s p = then-else _ _ _ _ λ _. then-given _ _ _ _ λ x _. then-accept
 pub then-place : (s : State) (names : Bytes) (p : NamePlace) → Then (λ r out s′. (r ≡ nothing) × (s′ ≡ withoutObject s (placed names p))) (deletePlace s names p)
 unfolding deletePlace
 then-place s names p = then-else _ _ _ _ λ _. then-delete s (placed names p)
+
+-- Places one after the other ------------------------------------------------------------------------------------------
+
+pub length-results : (s : State) (names : Bytes) (ps : List NamePlace) → length (placeResults s names ps) ≡ length ps
+length-results s names [] = refl
+length-results s names (p ∷ ps) = ap suc (length-results (after s (deletePlace s names p)) names ps)
+
+-- one place more
+pub after-more : (s : State) (names : Bytes) (ps : List NamePlace) (p : NamePlace) →
+    afterPlaces s names (ps ++ p ∷ []) ≡ after (afterPlaces s names ps) (deletePlace (afterPlaces s names ps) names p)
+after-more s names [] p = refl
+after-more s names (q ∷ ps) p = after-more (after s (deletePlace s names q)) names ps p
+
+pub results-more : (s : State) (names : Bytes) (ps : List NamePlace) (p : NamePlace) →
+    placeResults s names (ps ++ p ∷ []) ≡ placeResults s names ps ++ replyOf [] (deletePlace (afterPlaces s names ps) names p) .result ∷ []
+results-more s names [] p = refl
+results-more s names (q ∷ ps) p =
+    ap (λ (l : Bytes). replyOf [] (deletePlace s names q) .result ∷ l) (results-more (after s (deletePlace s names q)) names ps p)
 
 -- With other uploads ---------------------------------------------------------------------------------------------------
 

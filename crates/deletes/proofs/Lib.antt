@@ -1,7 +1,7 @@
 pub mod OnePlace
 pub mod Judging
 pub mod Walking
-pub mod Packed
+pub mod PlacesInBytes
+pub mod PlacesInSlice
 pub mod LentAgain
 pub mod Lending
-pub mod Listed

@@ -26,7 +26,8 @@ pub(crate) fn refusal(tables: &[u8], arena: &[u8], count: usize, left: usize, re
     0
 }
 
-// The same of a list that is no bytes, over memory lent to be changed, which it leaves as it was.
+// The same of a slice of places, which leaves no bytes over. It takes memory as the walk of the slice has it, to be changed, and
+// changes nothing.
 pub(crate) fn list_refusal(tables: &mut [u8], arena: &mut [u8], count: usize, results: usize) -> u8
     ensures { λ r. ⌜ Judged count 0 results (memory (now (tables .entry)) (now (arena .entry))) r
         × (now (tables .exit) ≡ now (tables .entry))
@@ -42,6 +43,7 @@ pub(crate) fn turns(refusal: u8, count: usize) -> usize
     if refusal == 0 { count } else { 0 }
 }
 
+// Done, or refused by the number.
 pub(crate) fn answer(refusal: u8) -> DoneAnswer
     ensures { λ r. ⌜ r ≡ answerOf refusal ⌝ }
 {

@@ -1,5 +1,7 @@
 // DELETE_OBJECTS: the DELETE of each name place of a list, in order.
+// A slice of structs is not covered by the borrow checker, so the two functions here are thin and proved by hand.
 mod judge;
+pub mod packed;
 mod place;
 
 use types::DoneAnswer;
@@ -8,12 +10,9 @@ ghost use mathlib.Core.Path.{_≡_};
 ghost use Prim.Native.Nat.{_<_};
 ghost use lib.ListN.{length};
 ghost use Rattle.machine.specs.Calls.{DELETE-OBJECTS};
-ghost use Rattle.contract.specs.Answers.{namePlaces, placesIn, leftOver, resultsReply, WellNumbered};
+ghost use Rattle.contract.specs.Answers.{namePlaces, resultsReply, WellNumbered};
 ghost use Rattle.contract.specs.Made.{memory, Made};
 ghost use Rattle.deletes.specs.PlaceDone.{placeAt};
-
-// The bytes of a place: its start, then its length.
-const PLACE_BYTES: usize = 8;
 
 // The place at an index, as a value.
 fn place_at(places: &[Place], i: usize) -> Place
@@ -23,7 +22,7 @@ fn place_at(places: &[Place], i: usize) -> Place
     places[i]
 }
 
-// DELETE_OBJECTS: the thin walk of the slice of places.
+// DELETE_OBJECTS: the object at each place of `names` is taken out, in order; each place's result to the front of the result buffer.
 pub fn delete_objects(
     tables: &mut [u8],
     arena: &mut [u8],
@@ -43,33 +42,6 @@ pub fn delete_objects(
     while i < turns {
         let p = place_at(places, i);
         place::delete_at(tables, arena, names, p.start, p.len, results, i);
-        i += 1;
-    }
-    judge::answer(refusal)
-}
-
-// DELETE_OBJECTS with the places as bytes, each two 32-bit numbers, low byte first.
-pub fn delete_packed(
-    tables: &mut [u8],
-    arena: &mut [u8],
-    names: &[u8],
-    places: &[u8],
-    results: &mut [u8],
-) -> DoneAnswer
-    ensures { λ r. ⌜ Made (DELETE-OBJECTS (now (names .entry)) (placesIn (now (places .entry))) (leftOver (now (places .entry))) (now (results .entry)))
-        (memory (now (tables .entry)) (now (arena .entry)))
-        (resultsReply r (now (results .exit)))
-        (memory (now (tables .exit)) (now (arena .exit))) × WellNumbered r ⌝ }
-{
-    let count = places.len() / PLACE_BYTES;
-    let left = places.len() % PLACE_BYTES;
-    let refusal = judge::refusal(tables, arena, count, left, results.len());
-    let turns = judge::turns(refusal, count);
-    let mut i: usize = 0;
-    while i < turns {
-        let start = number::get_u32(places, PLACE_BYTES * i);
-        let len = number::get_u32(places, PLACE_BYTES * i + 4);
-        place::delete_at(tables, arena, names, start, len, results, i);
         i += 1;
     }
     judge::answer(refusal)

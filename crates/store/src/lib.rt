@@ -1,8 +1,9 @@
-// The store's calls: FRESH, document 01's eleven, and document 02's DELETE_OBJECTS, which also takes its places as bytes. Each promises `Made` (crate `contract`), FRESH `MadeFresh`, and none has a precondition.
+// The store's calls: FRESH, document 01's eleven and document 02's DELETE_OBJECTS, which also takes its places as bytes. Each promises
+// `Made` (crate `contract`), FRESH `MadeFresh`, and none has a precondition.
 pub use commits::commit;
 pub use copies::copy;
 pub use deletes::delete_objects;
-pub use deletes::delete_packed;
+pub use deletes::packed::delete_packed;
 pub use listing::list;
 pub use reads::get;
 pub use reads::head;

@@ -1,7 +1,9 @@
--- `deletes::delete_objects` meets its contract: a walk of its MIR, by hand, with a loop and two calls in each turn. `place_at` copies the place at i out of the slice of structs; the refusal, how many turns there are, the DELETE of one place and the answer are covered functions over the store's slices and plain numbers.
+-- `deletes::delete_objects` meets its contract: a walk of its MIR, by hand, with a loop and two calls in each turn. `place_at` copies
+-- the place at i out of the slice of structs; the refusal, how many turns there are, the DELETE of one place and the answer are
+-- covered functions over the store's slices and plain numbers. All that the proof knows of them is that they meet their contracts.
 -- The `&mut` slices are lent again for each call that takes them, each for a lifetime of the call, and come back (`Lending.antt`).
--- The invariant (`Turn`) is that of `Walking.antt`, which `delete_packed` has too. The variant is the number of turns left.
--- All that the proof knows of the callees is that they meet their contracts.
+-- The invariant (`Turn`) is `Walking.antt`'s, which `delete_packed` has too. The variant is the number of turns left.
+-- Local i of the 24 stands at 2 · (23 − i), and what the function holds of its parameters (`Held`) after them.
 -- Assumes nothing.
 use mathlib.Core.Path.{_≡_, refl, sym, ap, subst}
 use Prim.Native.Nat.{ℕ, _+_, _-_, _<_, _^_}
@@ -59,7 +61,7 @@ use Rattle.contract.specs.Made.{Memory, memory, wholeMemory, Made}
 use Rattle.deletes.specs.Judged.{Judged, turnsOf, answerOf}
 use Rattle.deletes.specs.PlaceDone.{placeOf, placeAt, PlaceDoneAt}
 use Rattle.deletes.proofs.Judging.{turn-taken}
-use Rattle.deletes.proofs.Listed.{listed-length, listed-at}
+use Rattle.deletes.proofs.PlacesInSlice.{listed-length, listed-at}
 use Rattle.deletes.proofs.Walking.{Walked, start, ready, turn, finish}
 use Rattle.deletes.proofs.Lending.{Lent, Goes, Comes, goes, comes}
 use Rattle.types.proofs.Place as T
@@ -200,16 +202,16 @@ module _ {M : Type 1} (𝓤 : URA M) (H : Heap 𝓤) (A : Atoms 𝓤) (W : Given
   abbrev Says : DoneAnswer → Memory → Bytes → Type 0
   Says r m b = Made (DELETE-OBJECTS (x₃ .now) ps 0 (x₅ .now)) m₀ (resultsReply r b) m × WellNumbered r
 
-  -- what the function holds at the end
-  abbrev Left : Memory → Bytes → DoneAnswer → Val → List (Item 𝓤)
-  Left m b r u = ‵ (Lent κ₁ x₁ (x₁ .name) (m .tables) n₁) ∷ ‵ (Lent κ₂ x₂ (x₂ .name) (m .arena) n₂) ∷ ‵ (Lent κ₅ x₅ (x₅ .name) b n₅) ∷ ‵ Names ∷ ‵ Places ∷ ‵ (flft κ₁ q₁) ∷ ‵ (flft κ₂ q₂) ∷ ‵ (flft κ₅ q₅) ∷ ‵ (flft κ₃ q₃) ∷ ‵ (flft κ₄ q₄) ∷ ‵ (D.the-row .own r (u ∷ [])) ∷ []
+  -- what the function holds of its parameters, where memory is m and the results are b
+  abbrev Held : Memory → Bytes → List (Item 𝓤)
+  Held m b = ‵ (Lent κ₁ x₁ (x₁ .name) (m .tables) n₁) ∷ ‵ (Lent κ₂ x₂ (x₂ .name) (m .arena) n₂) ∷ ‵ (Lent κ₅ x₅ (x₅ .name) b n₅) ∷ ‵ Names ∷ ‵ Places ∷ ‵ (flft κ₁ q₁) ∷ ‵ (flft κ₂ q₂) ∷ ‵ (flft κ₅ q₅) ∷ ‵ (flft κ₃ q₃) ∷ ‵ (flft κ₄ q₄) ∷ []
 
-  exits : (m : Memory) (b : Bytes) (r : DoneAnswer) (u : Val) → length (m .tables) ≡ n₁ → length (m .arena) ≡ n₂ → length b ≡ n₅ → Says r m b → ent 𝓤 (⋆ 𝓤 H A (Left m b r u)) (Post u)
+  exits : (m : Memory) (b : Bytes) (r : DoneAnswer) (u : Val) → length (m .tables) ≡ n₁ → length (m .arena) ≡ n₂ → length b ≡ n₅ → Says r m b → ent 𝓤 (⋆ 𝓤 H A (‵ (D.the-row .own r (u ∷ [])) ∷ Held m b)) (Post u)
   exits m b r u e₁ e₂ e₅ e =
-      qed W (Left m b r u) ∵
+      qed W (‵ (D.the-row .own r (u ∷ [])) ∷ Held m b) ∵
       suffices ! _ (ends-at 𝓤 H A f.ended stayed (f.clauses 𝓤 H A at-mem run) W bound u r (m .tables, (m .arena, (tt, (tt, (b, tt))))) (e₁, (e₂, (tt, (tt, (e₅, tt)))))) $ says ! e $
-      nothing ! $ move ! (8 ∷ 0 ∷ []) $ join ! $ move ! (9 ∷ 0 ∷ []) $ join ! $ move ! (8 ∷ 0 ∷ []) $ join ! $ move ! (7 ∷ 0 ∷ []) $ join ! $ move ! (6 ∷ 0 ∷ []) $ join ! $ frame ! $
-      nothing ! $ move ! (3 ∷ 0 ∷ []) $ fjoin ! $ move ! (4 ∷ 0 ∷ []) $ fjoin ! $ move ! (3 ∷ 0 ∷ []) $ fjoin ! $ move ! (2 ∷ 0 ∷ []) $ fjoin ! $ move ! (1 ∷ 0 ∷ []) $ fjoin ! $ frame ! $ done !
+      nothing ! $ move ! (9 ∷ 0 ∷ []) $ join ! $ move ! (10 ∷ 0 ∷ []) $ join ! $ move ! (9 ∷ 0 ∷ []) $ join ! $ move ! (8 ∷ 0 ∷ []) $ join ! $ move ! (7 ∷ 0 ∷ []) $ join ! $ frame ! $
+      nothing ! $ move ! (4 ∷ 0 ∷ []) $ fjoin ! $ move ! (5 ∷ 0 ∷ []) $ fjoin ! $ move ! (4 ∷ 0 ∷ []) $ fjoin ! $ move ! (3 ∷ 0 ∷ []) $ fjoin ! $ move ! (2 ∷ 0 ∷ []) $ fjoin ! $ frame ! $ done !
 
   -- ---- what the callees' triples bind outside, what they ask, and what they say
   module _ (ν₁ ν₂ : ℕ) (δ₁ δ₂ : GName) where
@@ -321,10 +323,6 @@ module _ {M : Type 1} (𝓤 : URA M) (H : Heap 𝓤) (A : Atoms 𝓤) (W : Given
 
     abbrev En : Env 𝓤 H
     En = (Answer, l₀) ∷ (Mut 0, l₁) ∷ (Mut 1, l₂) ∷ (S₃, l₃) ∷ (S₄, l₄) ∷ (Mut 4, l₅) ∷ (word, l₆) ∷ (byte, l₇) ∷ (word, l₈) ∷ (word, l₉) ∷ (T′.mir, l₁₀) ∷ (Ptr, l₁₁) ∷ (Again, l₁₂) ∷ (Ptr, l₁₃) ∷ (Again, l₁₄) ∷ (word, l₁₅) ∷ (tyBool, l₁₆) ∷ (tyUnit, l₁₇) ∷ (Ptr, l₁₈) ∷ (Again, l₁₉) ∷ (Ptr, l₂₀) ∷ (Again, l₂₁) ∷ (Ptr, l₂₂) ∷ (Again, l₂₃) ∷ []
-
-    -- what the function holds of its parameters, where memory is m and the results are b
-    abbrev Held : Memory → Bytes → List (Item 𝓤)
-    Held m b = ‵ (Lent κ₁ x₁ (x₁ .name) (m .tables) n₁) ∷ ‵ (Lent κ₂ x₂ (x₂ .name) (m .arena) n₂) ∷ ‵ (Lent κ₅ x₅ (x₅ .name) b n₅) ∷ ‵ Names ∷ ‵ Places ∷ ‵ (flft κ₁ q₁) ∷ ‵ (flft κ₂ q₂) ∷ ‵ (flft κ₅ q₅) ∷ ‵ (flft κ₃ q₃) ∷ ‵ (flft κ₄ q₄) ∷ []
 
     -- ---- the loop, after the judge said n, and k turns
     module _ (n k : ℕ) (n-fits : n < 2 ^ 8) (k-fits : k < 2 ^ 64) (j : Judged (length ps) 0 n₅ m₀ n) (k-is : k ≡ turnsOf n (length ps)) where
@@ -446,7 +444,7 @@ module _ {M : Type 1} (𝓤 : URA M) (H : Heap 𝓤) (A : Atoms 𝓤) (W : Given
           land ! (from ! (here !)) (init ! 48 refl (EL.lawful D.the-type D′.the-laws 𝓤 H A W tt .typed r _ is .0)) $
           returns ! (look ! 48 refl) $ forget ! 16 refl $ forget ! 30 refl $ forget ! 32 refl $ forget ! 34 refl $ forget ! 38 refl $ forget ! 40 refl $ forget ! 42 refl $ forget ! 44 refl $ forget ! 46 refl $ forget ! 48 refl $
           move ! (48 ∷ 49 ∷ []) $ free1 ! $ move ! (46 ∷ 47 ∷ []) $ free1 ! $ move ! (44 ∷ 45 ∷ []) $ free1 ! $ move ! (42 ∷ 43 ∷ []) $ free1 ! $ move ! (40 ∷ 41 ∷ []) $ free1 ! $ move ! (38 ∷ 39 ∷ []) $ free1 ! $ move ! (36 ∷ 37 ∷ []) $ free1 ! $ move ! (34 ∷ 35 ∷ []) $ free1 ! $ move ! (32 ∷ 33 ∷ []) $ free1 ! $ move ! (30 ∷ 31 ∷ []) $ free1 ! $ move ! (28 ∷ 29 ∷ []) $ free1 ! $ move ! (26 ∷ 27 ∷ []) $ free1 ! $ move ! (24 ∷ 25 ∷ []) $ free1 ! $ move ! (22 ∷ 23 ∷ []) $ free1 ! $ move ! (20 ∷ 21 ∷ []) $ free1 ! $ move ! (18 ∷ 19 ∷ []) $ free1 ! $ move ! (16 ∷ 17 ∷ []) $ free1 ! $ move ! (14 ∷ 15 ∷ []) $ free1 ! $ move ! (12 ∷ 13 ∷ []) $ free1 ! $ move ! (10 ∷ 11 ∷ []) $ free1 ! $ move ! (8 ∷ 9 ∷ []) $ free1 ! $ move ! (6 ∷ 7 ∷ []) $ free1 ! $ move ! (4 ∷ 5 ∷ []) $ free1 ! $ move ! (2 ∷ 3 ∷ []) $ free1 ! $ free0 ! $
-          keep ! (2 ∷ 3 ∷ 4 ∷ 5 ∷ 6 ∷ 7 ∷ 8 ∷ 9 ∷ 10 ∷ 11 ∷ 0 ∷ []) $ by ! (exits (t .m) (t .b) r u (t .inv .tables-length) (t .inv .arena-length) (t .inv .results-length) (ended r e))))))
+          keep ! (0 ∷ 2 ∷ 3 ∷ 4 ∷ 5 ∷ 6 ∷ 7 ∷ 8 ∷ 9 ∷ 10 ∷ 11 ∷ []) $ by ! (exits (t .m) (t .b) r u (t .inv .tables-length) (t .inv .arena-length) (t .inv .results-length) (ended r e))))))
         where
           ended : (r : DoneAnswer) → r ≡ answerOf n → Says r (t .m) (t .b)
           ended r e = rw e (finish (x₃ .now) ps 0 m₀ (x₅ .now) n j (t .i) (t .m) (t .b) (t .inv) (rw k-is at (ltb-false (t .i) k test)))

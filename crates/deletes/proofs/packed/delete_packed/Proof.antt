@@ -1,4 +1,4 @@
--- `deletes::delete_packed` meets its contract: judged, then each place of the bytes. Assumes nothing.
+-- `deletes::packed::delete_packed` meets its contract: judged, then each place of the bytes. Assumes nothing.
 use Prim.Native.Nat.{ℕ, _+_, _*_, _-_, _<_, _≤_, _/_}
 use mathlib.Core.Path.{subst}
 use native.Mathlib.Omega.{arith}
@@ -9,11 +9,11 @@ use Rattle.contract.specs.Answers.{placesIn, leftOver}
 use Rattle.contract.specs.Made.{memory}
 use Rattle.deletes.specs.Judged.{Judged, turnsOf}
 use Rattle.deletes.specs.PlaceDone.{placeOf}
-use Rattle.deletes.proofs.Packed.{packed-length, packed-at, packed-fits}
+use Rattle.deletes.proofs.PlacesInBytes.{packed-length, packed-at, packed-fits}
 use Rattle.deletes.proofs.Judging.{turn-taken}
 use Rattle.deletes.proofs.Walking.{Walked, start, ready, turn, finish}
-use Rattle.deletes.proofs.delete_packed.Statement.{statement}
-use Rattle.deletes.proofs.delete_packed.Tie as tie
+use Rattle.deletes.proofs.packed.delete_packed.Statement.{statement}
+use Rattle.deletes.proofs.packed.delete_packed.Tie as tie
 
 abbrev Inv-loop : tie.InvT-loop
 Inv-loop tables₀ arena₀ names places results₀ count left refusal turns i₀ tables arena results i =

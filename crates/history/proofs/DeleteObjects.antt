@@ -3,17 +3,18 @@ use Prim.Native.Nat.{ℕ}
 use mathlib.Core.Path.{_≡_, sym, ap, _∙_}
 use mathlib.Core.Bool.{true}
 use mathlib.Core.List.{List, _∷_, _++_}
+use lib.ListN.{length, drop}
 use Rattle.machine.specs.Names.{Bytes}
 use Rattle.machine.specs.State.{State, fresh}
 use Rattle.machine.specs.Calls.{Call, DELETE-OBJECTS, NamePlace, Reply}
 use Rattle.machine.specs.Lists.{Trace, final}
 use Rattle.machine.specs.Demand3.{accepted, calls}
-use Rattle.machine.specs.DeleteObjects.{singleDeletes}
+use Rattle.machine.specs.DeleteObjects.{singleDeletes, resultsOf}
 use Rattle.machine.proofs.DeleteObjects.{as-deletes}
 use Rattle.contract.specs.Made.{Memory}
 use Rattle.history.specs.Runs.{FromFresh}
 use Rattle.history.specs.DeleteObjects.{SameAsDeletes}
-use Rattle.history.proofs.InPlace.{replied, same-runs}
+use Rattle.history.proofs.InPlace.{replied, same-runs, made-is}
 
 pub same-as-deletes : (A : ℕ) (t : Trace) (m : Memory) → FromFresh A t m → (t₂ : Trace) (m₂ : Memory) → FromFresh A t₂ m₂ →
     (before later : Trace) (names : Bytes) (ps : List NamePlace) (over : ℕ) (b : Bytes) (r : Reply) →
@@ -27,5 +28,6 @@ same-as-deletes A t m f t₂ m₂ f₂ before later names ps over b r e ok e₂ 
     let ok′ = ap accepted here ∙ ok in
     record {
       same = same-runs A t m f before later c r e (singleDeletes names ps) t₂ m₂ f₂ e₂ (h .state ok′);
-      buffer = ap (λ (x : Reply). x .buffer) (sym here ∙ h .replies ok′);
+      buffer = ap (λ (x : Reply). x .buffer) (sym here ∙ h .replies ok′)
+          ∙ ap (λ (x : Trace). resultsOf x ++ drop (length ps) b) (sym (made-is A t m f before later c r e (singleDeletes names ps) t₂ m₂ f₂ e₂ (h .state ok′)));
     }

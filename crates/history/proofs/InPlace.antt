@@ -1,6 +1,6 @@
 -- Calls that leave what a call leaves, made in its place in another run. Assumes nothing.
 use Prim.Native.Nat.{ℕ}
-use mathlib.Core.Path.{_≡_, sym, ap, ap₂, _∙_}
+use mathlib.Core.Path.{_≡_, refl, sym, ap, ap₂, _∙_}
 use mathlib.Core.List.{List, _∷_, _++_}
 use Rattle.machine.specs.State.{State, fresh}
 use Rattle.machine.specs.Calls.{Call, Reply}
@@ -41,3 +41,9 @@ module _ (A : ℕ) (t : Trace) (m : Memory) (f : FromFresh A t m) (before later 
             from-fresh A t₂ m₂ f₂ .0 ∙ ap (trace A fresh) e₂ ∙ trace-append A fresh (calls before) (ds ++ calls later)
             ∙ ap₂ (λ (x y : Trace). x ++ y) (k .first) (trace-append A there ds (calls later) ∙ ap (λ (x : Trace). trace A there ds ++ x) last-is);
       }
+
+  -- their answers are the machine's
+  pub made-is : (ds : List Call) (t₂ : Trace) (m₂ : Memory) (f₂ : FromFresh A t₂ m₂) (e₂ : calls t₂ ≡ calls before ++ (ds ++ calls later))
+      (is : next A there c ≡ final A there ds) → same-runs ds t₂ m₂ f₂ e₂ is .made ≡ trace A there ds
+  unfolding same-runs
+  made-is ds t₂ m₂ f₂ e₂ is = refl

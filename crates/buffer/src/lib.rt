@@ -3,14 +3,15 @@ mod blocks;
 
 ghost use mathlib.Core.Path.{_≡_};
 ghost use Prim.Native.Nat.{_+_, _-_, _≤_, _<_};
-ghost use mathlib.Core.List.{[], _++_};
+ghost use mathlib.Core.List.{[]};
 ghost use lib.ListN.{length, take, drop};
+ghost use Rattle.number.specs.Number.{over, written};
 ghost use Rattle.buffer.specs.Buffer.{spliced, rotated};
 
 // src over dst from `at` on; the rest of dst is as it was.
 pub fn copy_at(dst: &mut [u8], at: usize, src: &[u8])
     requires { ⌜ at + length (now src) ≤ length (now dst) ⌝ }
-    ensures { λ _. ⌜ now (dst .exit) ≡ take at (now (dst .entry)) ++ now (src .entry) ++ drop (at + length (now (src .entry))) (now (dst .entry)) ⌝ }
+    ensures { λ _. ⌜ now (dst .exit) ≡ written (now (dst .entry)) at (now (src .entry)) ⌝ }
 {
     let mut i = 0;
     while i < src.len() {
@@ -22,7 +23,7 @@ pub fn copy_at(dst: &mut [u8], at: usize, src: &[u8])
 // The n bytes from `from` on, moved left to `to`: the lowest first, so that none is written over before it is read.
 fn move_left(b: &mut [u8], from: usize, to: usize, n: usize)
     requires { ⌜ (to ≤ from) × (from + n ≤ length (now b)) ⌝ }
-    ensures { λ _. ⌜ now (b .exit) ≡ take to (now (b .entry)) ++ take n (drop from (now (b .entry))) ++ drop (to + n) (now (b .entry)) ⌝ }
+    ensures { λ _. ⌜ now (b .exit) ≡ over (now (b .entry)) to (take n (drop from (now (b .entry)))) n ⌝ }
 {
     let mut i = 0;
     while i < n {
@@ -34,7 +35,7 @@ fn move_left(b: &mut [u8], from: usize, to: usize, n: usize)
 // The same to the right: the highest first.
 fn move_right(b: &mut [u8], from: usize, to: usize, n: usize)
     requires { ⌜ (from ≤ to) × (to + n ≤ length (now b)) ⌝ }
-    ensures { λ _. ⌜ now (b .exit) ≡ take to (now (b .entry)) ++ take n (drop from (now (b .entry))) ++ drop (to + n) (now (b .entry)) ⌝ }
+    ensures { λ _. ⌜ now (b .exit) ≡ over (now (b .entry)) to (take n (drop from (now (b .entry)))) n ⌝ }
 {
     let mut i = n;
     while 0 < i {
@@ -46,7 +47,7 @@ fn move_right(b: &mut [u8], from: usize, to: usize, n: usize)
 // The n bytes from `from` on, over those from `to` on, as C's memmove.
 pub fn copy_within(b: &mut [u8], from: usize, to: usize, n: usize)
     requires { ⌜ (from + n ≤ length (now b)) × (to + n ≤ length (now b)) ⌝ }
-    ensures { λ _. ⌜ now (b .exit) ≡ take to (now (b .entry)) ++ take n (drop from (now (b .entry))) ++ drop (to + n) (now (b .entry)) ⌝ }
+    ensures { λ _. ⌜ now (b .exit) ≡ over (now (b .entry)) to (take n (drop from (now (b .entry)))) n ⌝ }
 {
     if to <= from {
         move_left(b, from, to, n);

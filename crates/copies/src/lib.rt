@@ -17,8 +17,8 @@ ghost use Rattle.contract.specs.Made.{memory, outcome, resultOf, Made, MadeWhol
 // The refusal of COPY whose arguments keep their rules: not found, table full, arena full or 0.
 fn source_judge(tables: &[u8], arena: &[u8], stamp: Stamp, source: &[u8], destination: &[u8]) -> u8
     requires { ⌜ whole (now tables) (now arena) ≡ true ⌝ }
-    ensures { λ r. ⌜ r ≡ resultOf (sourceOutcome (length (now (arena .entry))) (stateOf (now (tables .entry)) (now (arena .entry)))
-        (stamp .0) (now (source .entry)) (now (destination .entry))) ⌝ }
+    ensures { λ r. ⌜ r ≡ resultOf (sourceOutcome (length (now (arena .entry)))
+        (stateOf (now (tables .entry)) (now (arena .entry))) (stamp .0) (now (source .entry)) (now (destination .entry))) ⌝ }
 {
     let place = find::find_object(tables, arena, source);
     if !place.found {

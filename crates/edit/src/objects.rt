@@ -48,7 +48,8 @@ pub fn add_object(
 )
     requires { ⌜ Addable (now tables) (now arena) stamp kind count digest (now path) size ⌝ }
     ensures { λ _. ⌜ Becomes (now (tables .entry)) (now (arena .entry)) (now (tables .exit)) (now (arena .exit))
-        (λ s. withObject s (now (path .entry)) (objectAfterHeld (now (tables .entry)) (now (arena .entry)) stamp kind count digest size)) ⌝ }
+        (λ s. withObject s (now (path .entry))
+        (objectAfterHeld (now (tables .entry)) (now (arena .entry)) stamp kind count digest size)) ⌝ }
 {
     let place = find::find_object(tables, arena, path);
     let end = find::rows_end(tables, arena);
@@ -74,7 +75,8 @@ pub fn add_object(
     buffer::rotate(arena, base, held - base, size);
 }
 
-// The object at path becomes one with this data and a plain etag. What stood there goes first, so that its bytes are free.
+// The object at path becomes one with this data and a plain etag. What stood there goes first, so that its bytes are
+// free.
 pub fn put_object(
     tables: &mut [u8],
     arena: &mut [u8],

@@ -27,6 +27,10 @@ pub record Listed (s : State) (u : ℕ) (numbers : List ℕ) : Type 0 where
 abbrev pub joinedState : (s : State) (u : ℕ) (numbers : List ℕ) → Listed s u numbers → State
 joinedState s u numbers k = withoutUpload (withObject s (k .upload .path) (joinedObject (k .upload) (k .listed))) u
 
+-- t′ and a′ stand for the state that t and a stood for, with the parts joined
+abbrev pub Joins : (t a t′ a′ : List ℕ) (u : ℕ) (list : Bytes) → Listed (stateOf t a) u (partList list) → Type 0
+Joins t a t′ a′ u list k = Stands t′ a′ (joinedState (stateOf t a) u (partList list) k)
+
 -- what `join` asks
 pub record Joinable (t a : List ℕ) (u : ℕ) (list : Bytes) : Type 0 where
   pub is-whole : whole t a ≡ true

@@ -6,12 +6,12 @@ ghost use mathlib.Core.Bool.{true};
 ghost use mathlib.Core.List.{[]};
 ghost use Prim.Native.Nat.{_+_, _-_};
 ghost use Rattle.buffer.specs.Buffer.{spliced, rotated};
-ghost use Rattle.layout.specs.Memory.{whole, stateOf, Stands};
+ghost use Rattle.layout.specs.Memory.{whole, stateOf};
 ghost use Rattle.layout.specs.Header.{headed};
 ghost use Rattle.find.specs.Known.{WholeOpen, OfOpen};
 ghost use Rattle.contract.specs.Answers.{partList};
 ghost use Rattle.join.specs.Bounds.{Inside, boundsOf};
-ghost use Rattle.join.specs.Joined.{Listed, TakenOut, Joinable, JoinableAt, joinedState};
+ghost use Rattle.join.specs.Joined.{Listed, Joins, TakenOut, Joinable, JoinableAt};
 
 // Where an upload's row, its first part's row, the rows after its parts and the free bytes begin in the tables; where its
 // parts' data begin in the arena, their size, and what is held; how many parts it has.
@@ -70,7 +70,8 @@ fn cut(tables: &mut [u8], arena: &mut [u8], b: Bounds, header: Header)
 fn take_upload(tables: &mut [u8], arena: &mut [u8], upload: u32, list: &[u8]) -> Taken
     requires { ⌜ (whole (now tables) (now arena) ≡ true)
         × Listed (stateOf (now tables) (now arena)) upload (partList (now list)) ⌝ }
-    ensures { λ r. ⌜ ((k : Listed (stateOf (now (tables .entry)) (now (arena .entry))) upload (partList (now (list .entry))))
+    ensures { λ r. ⌜ ((k : Listed (stateOf (now (tables .entry)) (now (arena .entry)))
+        upload (partList (now (list .entry))))
         → TakenOut (now (tables .entry)) (now (arena .entry)) upload (now (list .entry)) k
         (now (tables .exit)) (now (arena .exit)) r) ⌝ }
 {
@@ -96,9 +97,10 @@ fn take_upload(tables: &mut [u8], arena: &mut [u8], upload: u32, list: &[u8]) ->
 // An upload's parts joined into an object at the upload's path, with its start stamp.
 fn join_at(tables: &mut [u8], arena: &mut [u8], upload: u32, list: &[u8], path: &[u8], stamp: u64)
     requires { ⌜ JoinableAt (now tables) (now arena) upload (now list) (now path) stamp ⌝ }
-    ensures { λ _. ⌜ ((k : JoinableAt (now (tables .entry)) (now (arena .entry)) upload (now (list .entry)) (now (path .entry)) stamp)
-        → Stands (now (tables .exit)) (now (arena .exit))
-        (joinedState (stateOf (now (tables .entry)) (now (arena .entry))) upload (partList (now (list .entry))) (k .joinable .listed))) ⌝ }
+    ensures { λ _. ⌜ ((k : JoinableAt (now (tables .entry)) (now (arena .entry)) upload
+        (now (list .entry)) (now (path .entry)) stamp)
+        → Joins (now (tables .entry)) (now (arena .entry)) (now (tables .exit)) (now (arena .exit)) upload
+        (now (list .entry)) (k .joinable .listed)) ⌝ }
 {
     edit::objects::free_path(tables, arena, path);
     let taken = take_upload(tables, arena, upload, list);
@@ -118,8 +120,8 @@ fn join_at(tables: &mut [u8], arena: &mut [u8], upload: u32, list: &[u8], path: 
 pub fn join(tables: &mut [u8], arena: &mut [u8], upload: u32, list: &[u8])
     requires { ⌜ Joinable (now tables) (now arena) upload (now list) ⌝ }
     ensures { λ _. ⌜ ((k : Joinable (now (tables .entry)) (now (arena .entry)) upload (now (list .entry)))
-        → Stands (now (tables .exit)) (now (arena .exit))
-        (joinedState (stateOf (now (tables .entry)) (now (arena .entry))) upload (partList (now (list .entry))) (k .listed))) ⌝ }
+        → Joins (now (tables .entry)) (now (arena .entry)) (now (tables .exit)) (now (arena .exit)) upload
+        (now (list .entry)) (k .listed)) ⌝ }
 {
     let place = find::find_upload(tables, arena, upload);
     let at = place.at;

@@ -5,7 +5,8 @@ use md5::words::Digest;
 ghost use mathlib.Core.Path.{_≡_};
 ghost use Prim.Native.Nat.{_≤_};
 ghost use lib.ListN.{length};
-ghost use Rattle.join_order.specs.Region.{PartAt, foundIn, Brought, ListedAt, orderedTables, orderedArena, Arranged};
+ghost use Rattle.join_order.specs.Region.{PartAt, foundIn, Brought};
+ghost use Rattle.join_order.specs.Region.{ListedAt, orderedTables, orderedArena, Arranged};
 
 // The bytes of rows and of data before a part's, and the size of its data.
 pub struct Found {
@@ -17,7 +18,8 @@ pub struct Found {
 // Part `number` among the parts at `at`.
 fn find_row(tables: &[u8], arena: &[u8], at: usize, base: usize, number: u32) -> Found
     requires { ⌜ PartAt (now tables) (now arena) at base number ⌝ }
-    ensures { λ r. ⌜ ((k : PartAt (now (tables .entry)) (now (arena .entry)) at base number) → r ≡ foundIn (k .region .parts) number (k .part)) ⌝ }
+    ensures { λ r. ⌜ ((k : PartAt (now (tables .entry)) (now (arena .entry)) at base number)
+        → r ≡ foundIn (k .region .parts) number (k .part)) ⌝ }
 {
     let mut rows: usize = 0;
     let mut bytes: usize = 0;
@@ -38,7 +40,8 @@ fn find_row(tables: &[u8], arena: &[u8], at: usize, base: usize, number: u32) ->
 // Part `number` brought to the front of the parts at `at`, with its data at `base`; the size of its data.
 fn bring(tables: &mut [u8], arena: &mut [u8], at: usize, base: usize, number: u32) -> usize
     requires { ⌜ PartAt (now tables) (now arena) at base number ⌝ }
-    ensures { λ r. ⌜ ((k : PartAt (now (tables .entry)) (now (arena .entry)) at base number) → Brought (now (tables .entry)) (now (arena .entry)) at base number k (now (tables .exit)) (now (arena .exit)) r) ⌝ }
+    ensures { λ r. ⌜ ((k : PartAt (now (tables .entry)) (now (arena .entry)) at base number)
+        → Brought (now (tables .entry)) (now (arena .entry)) at base number k (now (tables .exit)) (now (arena .exit)) r) ⌝ }
 {
     let f = find_row(tables, arena, at, base, number);
     buffer::rotate(tables, at, f.rows, row::HEAD_LENGTH);
@@ -52,7 +55,8 @@ fn order_parts(tables: &mut [u8], arena: &mut [u8], at: usize, base: usize, list
     requires { ⌜ ListedAt (now tables) (now arena) at base (now list) ⌝ }
     ensures { λ _. ⌜ ((k : ListedAt (now (tables .entry)) (now (arena .entry)) at base (now (list .entry)))
         → (now (tables .exit) ≡ orderedTables (now (tables .entry)) (now (arena .entry)) at base (now (list .entry)) k)
-        × (now (arena .exit) ≡ orderedArena (now (tables .entry)) (now (arena .entry)) at base (now (list .entry)) k)) ⌝ }
+        × (now (arena .exit)
+        ≡ orderedArena (now (tables .entry)) (now (arena .entry)) at base (now (list .entry)) k)) ⌝ }
 {
     let mut row_at = at;
     let mut data_at = base;
@@ -70,7 +74,8 @@ fn order_parts(tables: &mut [u8], arena: &mut [u8], at: usize, base: usize, list
 pub fn arrange(tables: &mut [u8], arena: &mut [u8], at: usize, base: usize, list: &[u8]) -> Digest
     requires { ⌜ ListedAt (now tables) (now arena) at base (now list) × (length (now list) ≤ 512) ⌝ }
     ensures { λ r. ⌜ ((k : ListedAt (now (tables .entry)) (now (arena .entry)) at base (now (list .entry)))
-        → Arranged (now (tables .entry)) (now (arena .entry)) at base (now (list .entry)) k (now (tables .exit)) (now (arena .exit)) r) ⌝ }
+        → Arranged (now (tables .entry)) (now (arena .entry)) at base (now (list .entry)) k
+        (now (tables .exit)) (now (arena .exit)) r) ⌝ }
 {
     order_parts(tables, arena, at, base, list);
     digests::joined_digest(tables, at, list.len() / 2)

@@ -24,7 +24,8 @@ pub(crate) fn text_length(kind: u8, count: u16) -> u32
 // How many records, 0 or 1, and bytes LIST writes for the row at `at`.
 fn measure_row(tables: &[u8], at: usize, prefix: &[u8], suffix: &[u8]) -> Counts
     requires { ⌜ at + span (headAt (drop at (now tables))) ≤ length (now tables) ⌝ }
-    ensures { λ r. ⌜ (r .records ≡ cond (isListed (now (prefix .entry)) (now (suffix .entry)) (pathAt (drop at (now (tables .entry))))) 1 0)
+    ensures { λ r. ⌜ (r .records
+        ≡ cond (isListed (now (prefix .entry)) (now (suffix .entry)) (pathAt (drop at (now (tables .entry))))) 1 0)
         × (r .bytes ≡ length (listedBytes (now (prefix .entry)) (now (suffix .entry)) (drop at (now (tables .entry)))))
         × (r .records ≤ 1)
         × (r .bytes ≤ 307) ⌝ }
@@ -45,8 +46,9 @@ fn measure_row(tables: &[u8], at: usize, prefix: &[u8], suffix: &[u8]) -> Counts
 // How many records and bytes it writes in all.
 pub(crate) fn measure_rows(tables: &[u8], arena: &[u8], prefix: &[u8], suffix: &[u8]) -> Counts
     requires { ⌜ whole (now tables) (now arena) ≡ true ⌝ }
-    ensures { λ r. ⌜ (r .records ≡ length (listed (now (prefix .entry)) (now (suffix .entry)) (stateOf (now (tables .entry)) (now (arena .entry)) .O)))
-        × (r .bytes ≡ length (listBytes (now (prefix .entry)) (now (suffix .entry)) (stateOf (now (tables .entry)) (now (arena .entry))))) ⌝ }
+    ensures { λ r. ⌜ (let s = stateOf (now (tables .entry)) (now (arena .entry)) in
+        (r .records ≡ length (listed (now (prefix .entry)) (now (suffix .entry)) (s .O)))
+        × (r .bytes ≡ length (listBytes (now (prefix .entry)) (now (suffix .entry)) s))) ⌝ }
 {
     let counts = find::read_counts(tables, arena);
     let objects = counts.objects;

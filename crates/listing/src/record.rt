@@ -3,7 +3,7 @@ ghost use mathlib.Core.Path.{_≡_};
 ghost use Prim.Native.Nat.{_+_, _≤_};
 ghost use mathlib.Core.List.{[], _∷_, _++_};
 ghost use lib.ListN.{length, take, drop};
-ghost use Rattle.number.specs.Number.{le};
+ghost use Rattle.number.specs.Number.{le, over, written};
 ghost use Rattle.text.specs.Text.{decimal};
 ghost use Rattle.machine.specs.Etags.{text};
 ghost use Rattle.row.specs.Row.{headAt, digestAt, headLength, span};
@@ -13,7 +13,8 @@ ghost use Rattle.listing.specs.Rows.{recordAt};
 // The length of the path in the row at `at`, and the path.
 fn write_path(tables: &[u8], at: usize, n: u8, answer: &mut [u8], to: usize)
     requires { ⌜ (at + headLength + n ≤ length (now tables)) × (to + (1 + n) ≤ length (now answer)) ⌝ }
-    ensures { λ _. ⌜ now (answer .exit) ≡ take to (now (answer .entry)) ++ (n ∷ take n (drop (at + headLength) (now (tables .entry)))) ++ drop (to + (1 + n)) (now (answer .entry)) ⌝ }
+    ensures { λ _. ⌜ now (answer .exit)
+        ≡ over (now (answer .entry)) to (n ∷ take n (drop (at + headLength) (now (tables .entry)))) (1 + n) ⌝ }
 {
     let from = at + row::HEAD_LENGTH;
     let end = from + n as usize;
@@ -24,7 +25,7 @@ fn write_path(tables: &[u8], at: usize, n: u8, answer: &mut [u8], to: usize)
 // The length of the data, the stamp, and the length of the text.
 fn write_numbers(answer: &mut [u8], to: usize, size: u32, created: u64, n: u8)
     requires { ⌜ to + 13 ≤ length (now answer) ⌝ }
-    ensures { λ _. ⌜ now (answer .exit) ≡ take to (now (answer .entry)) ++ (le 4 size ++ (le 8 created ++ (n ∷ []))) ++ drop (to + 13) (now (answer .entry)) ⌝ }
+    ensures { λ _. ⌜ now (answer .exit) ≡ over (now (answer .entry)) to (le 4 size ++ (le 8 created ++ (n ∷ []))) 13 ⌝ }
 {
     number::put_u32(answer, to, size);
     number::put_u64(answer, to + 4, created);
@@ -34,7 +35,7 @@ fn write_numbers(answer: &mut [u8], to: usize, size: u32, created: u64, n: u8)
 // "-" and the count.
 fn write_count(answer: &mut [u8], to: usize, count: u16)
     requires { ⌜ to + (1 + length (decimal count)) ≤ length (now answer) ⌝ }
-    ensures { λ _. ⌜ now (answer .exit) ≡ take to (now (answer .entry)) ++ (45 ∷ decimal count) ++ drop (to + (1 + length (decimal count))) (now (answer .entry)) ⌝ }
+    ensures { λ _. ⌜ now (answer .exit) ≡ over (now (answer .entry)) to (45 ∷ decimal count) (1 + length (decimal count)) ⌝ }
 {
     answer[to] = 45;
     text::put_decimal(answer, to + 1, count);
@@ -42,8 +43,10 @@ fn write_count(answer: &mut [u8], to: usize, count: u16)
 
 // The text of the etag in the row at `at`.
 fn write_text(tables: &[u8], at: usize, kind: u8, count: u16, answer: &mut [u8], to: usize)
-    requires { ⌜ (at + headLength ≤ length (now tables)) × (to + length (text (rowEtag kind (digestAt (drop at (now tables))) count)) ≤ length (now answer)) ⌝ }
-    ensures { λ _. ⌜ now (answer .exit) ≡ take to (now (answer .entry)) ++ text (rowEtag kind (digestAt (drop at (now (tables .entry)))) count) ++ drop (to + length (text (rowEtag kind (digestAt (drop at (now (tables .entry)))) count))) (now (answer .entry)) ⌝ }
+    requires { ⌜ (at + headLength ≤ length (now tables))
+        × (to + length (text (rowEtag kind (digestAt (drop at (now tables))) count)) ≤ length (now answer)) ⌝ }
+    ensures { λ _. ⌜ now (answer .exit)
+        ≡ written (now (answer .entry)) to (text (rowEtag kind (digestAt (drop at (now (tables .entry)))) count)) ⌝ }
 {
     let from = at + row::NUMBERS_LENGTH;
     text::put_hex(answer, to, &tables[from..from + 16]);
@@ -54,9 +57,10 @@ fn write_text(tables: &[u8], at: usize, kind: u8, count: u16, answer: &mut [u8],
 
 // The record of the row at `at`; the answer is where it ends.
 pub(crate) fn write_record(tables: &[u8], at: usize, answer: &mut [u8], to: usize) -> usize
-    requires { ⌜ (at + span (headAt (drop at (now tables))) ≤ length (now tables)) × (to + length (recordAt (drop at (now tables))) ≤ length (now answer)) ⌝ }
+    requires { ⌜ (at + span (headAt (drop at (now tables))) ≤ length (now tables))
+        × (to + length (recordAt (drop at (now tables))) ≤ length (now answer)) ⌝ }
     ensures { λ r. ⌜ (r ≡ to + length (recordAt (drop at (now (tables .entry)))))
-        × (now (answer .exit) ≡ take to (now (answer .entry)) ++ recordAt (drop at (now (tables .entry))) ++ drop (to + length (recordAt (drop at (now (tables .entry))))) (now (answer .entry))) ⌝ }
+        × (now (answer .exit) ≡ written (now (answer .entry)) to (recordAt (drop at (now (tables .entry))))) ⌝ }
 {
     let h = row::read_head(tables, at);
     let k = crate::measuring::text_length(h.kind, h.count);

@@ -2,8 +2,8 @@
 ghost use mathlib.Core.Path.{_≡_};
 ghost use mathlib.Core.Bool.{true};
 ghost use Prim.Native.Nat.{_+_, _≤_};
-ghost use mathlib.Core.List.{_++_};
-ghost use lib.ListN.{length, take, drop};
+ghost use lib.ListN.{length, drop};
+ghost use Rattle.number.specs.Number.{written, fronted};
 ghost use Rattle.row.specs.Row.{headAt, span};
 ghost use Rattle.layout.specs.Memory.{whole, stateOf};
 ghost use Rattle.listing.specs.Rows.{listedBytes, listBytes};
@@ -17,9 +17,10 @@ fn write_row(
     answer: &mut [u8],
     to: usize,
 ) -> usize
-    requires { ⌜ (at + span (headAt (drop at (now tables))) ≤ length (now tables)) × (to + length (listedBytes (now prefix) (now suffix) (drop at (now tables))) ≤ length (now answer)) ⌝ }
-    ensures { λ r. ⌜ (r ≡ to + length (listedBytes (now (prefix .entry)) (now (suffix .entry)) (drop at (now (tables .entry)))))
-        × (now (answer .exit) ≡ take to (now (answer .entry)) ++ listedBytes (now (prefix .entry)) (now (suffix .entry)) (drop at (now (tables .entry))) ++ drop (to + length (listedBytes (now (prefix .entry)) (now (suffix .entry)) (drop at (now (tables .entry))))) (now (answer .entry))) ⌝ }
+    requires { ⌜ (at + span (headAt (drop at (now tables))) ≤ length (now tables))
+        × (to + length (listedBytes (now prefix) (now suffix) (drop at (now tables))) ≤ length (now answer)) ⌝ }
+    ensures { λ r. ⌜ (let x = listedBytes (now (prefix .entry)) (now (suffix .entry)) (drop at (now (tables .entry))) in
+        (r ≡ to + length x) × (now (answer .exit) ≡ written (now (answer .entry)) to x)) ⌝ }
 {
     if !crate::paths::has_row(tables, at, prefix, suffix) {
         return to;
@@ -35,8 +36,10 @@ pub(crate) fn write_rows(
     suffix: &[u8],
     answer: &mut [u8],
 )
-    requires { ⌜ (whole (now tables) (now arena) ≡ true) × (length (listBytes (now prefix) (now suffix) (stateOf (now tables) (now arena))) ≤ length (now answer)) ⌝ }
-    ensures { λ _. ⌜ now (answer .exit) ≡ listBytes (now (prefix .entry)) (now (suffix .entry)) (stateOf (now (tables .entry)) (now (arena .entry))) ++ drop (length (listBytes (now (prefix .entry)) (now (suffix .entry)) (stateOf (now (tables .entry)) (now (arena .entry))))) (now (answer .entry)) ⌝ }
+    requires { ⌜ (whole (now tables) (now arena) ≡ true)
+        × (length (listBytes (now prefix) (now suffix) (stateOf (now tables) (now arena))) ≤ length (now answer)) ⌝ }
+    ensures { λ _. ⌜ now (answer .exit) ≡ fronted (now (answer .entry))
+        (listBytes (now (prefix .entry)) (now (suffix .entry)) (stateOf (now (tables .entry)) (now (arena .entry)))) ⌝ }
 {
     let counts = find::read_counts(tables, arena);
     let objects = counts.objects;

@@ -6,10 +6,7 @@ use native.Mathlib.Omega.{arith}
 use lib.ListN.{length, take, drop, length-append, length-drop}
 use lib.Seq.{take-at, drop-at, drop-drop, drop-append-add, take-add, length-take-le}
 use Rattle.number.specs.Number.{le}
-
--- b with s over its n bytes from `at` on, as `put_u16`, `put_u32` and `put_u64` leave it, and buffer's `copy_at`
-abbrev pub over : List ℕ → ℕ → List ℕ → ℕ → List ℕ
-over b at s n = take at b ++ s ++ drop (at + n) b
+pub use Rattle.number.specs.Number.{over}
 
 -- the k bytes at i, as `get_u16`, `get_u32` and `get_u64` read them
 abbrev pub part : List ℕ → ℕ → ℕ → List ℕ

@@ -2,8 +2,8 @@
 ghost use mathlib.Core.Path.{_≡_};
 ghost use Prim.Native.Nat.{_+_, _*_, _≤_, _<_};
 ghost use mathlib.Core.List.{_++_};
-ghost use lib.ListN.{length, take, drop};
-ghost use Rattle.number.specs.Number.{le};
+ghost use lib.ListN.{length};
+ghost use Rattle.number.specs.Number.{le, over, written};
 ghost use Rattle.text.specs.Text.{hexDigit, hex, decimal};
 
 // A lower-case hexadecimal digit.
@@ -20,7 +20,7 @@ fn hex_digit(n: u8) -> u8
 // The bytes of src in lower-case hexadecimal, two digits each, over dst from `at` on.
 pub fn put_hex(dst: &mut [u8], at: usize, src: &[u8])
     requires { ⌜ at + 2 * length (now src) ≤ length (now dst) ⌝ }
-    ensures { λ _. ⌜ now (dst .exit) ≡ take at (now (dst .entry)) ++ hex (now (src .entry)) ++ drop (at + 2 * length (now (src .entry))) (now (dst .entry)) ⌝ }
+    ensures { λ _. ⌜ now (dst .exit) ≡ over (now (dst .entry)) at (hex (now (src .entry))) (2 * length (now (src .entry))) ⌝ }
 {
     let mut i = 0;
     while i < src.len() {
@@ -37,7 +37,7 @@ pub fn put_hex(dst: &mut [u8], at: usize, src: &[u8])
 // The 32 hexadecimal digits of a digest of four words, each with its low byte first.
 pub fn put_digest(dst: &mut [u8], at: usize, a: u32, b: u32, c: u32, d: u32)
     requires { ⌜ at + 32 ≤ length (now dst) ⌝ }
-    ensures { λ _. ⌜ now (dst .exit) ≡ take at (now (dst .entry)) ++ hex (le 4 a ++ (le 4 b ++ (le 4 c ++ le 4 d))) ++ drop (at + 32) (now (dst .entry)) ⌝ }
+    ensures { λ _. ⌜ now (dst .exit) ≡ over (now (dst .entry)) at (hex (le 4 a ++ (le 4 b ++ (le 4 c ++ le 4 d)))) 32 ⌝ }
 {
     let mut bytes = [0u8; 16];
     number::put_u32(&mut bytes, 0, a);
@@ -69,7 +69,7 @@ pub fn decimal_length(n: u16) -> usize
 // n in decimal, with no zero before it, over dst from `at` on; the answer is how many digits it has.
 pub fn put_decimal(dst: &mut [u8], at: usize, n: u16) -> usize
     requires { ⌜ at + length (decimal n) ≤ length (now dst) ⌝ }
-    ensures { λ r. ⌜ (r ≡ length (decimal n)) × (now (dst .exit) ≡ take at (now (dst .entry)) ++ decimal n ++ drop (at + length (decimal n)) (now (dst .entry))) ⌝ }
+    ensures { λ r. ⌜ (r ≡ length (decimal n)) × (now (dst .exit) ≡ written (now (dst .entry)) at (decimal n)) ⌝ }
 {
     let a = n / 10;
     let b = a / 10;

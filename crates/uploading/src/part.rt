@@ -22,8 +22,8 @@ fn part_room(
     content: &[u8],
 ) -> u8
     requires { ⌜ WholeOpen (now tables) (now arena) (upload .0) ⌝ }
-    ensures { λ r. ⌜ r ≡ resultOf (partOutcome (length (now (arena .entry))) (stateOf (now (tables .entry)) (now (arena .entry)))
-        (upload .0) (number .0) (now (content .entry))) ⌝ }
+    ensures { λ r. ⌜ r ≡ resultOf (partOutcome (length (now (arena .entry)))
+        (stateOf (now (tables .entry)) (now (arena .entry))) (upload .0) (number .0) (now (content .entry))) ⌝ }
 {
     let old = find::find_part(tables, arena, upload.0, number.0);
     let held = find::held(tables, arena);

@@ -5,14 +5,17 @@ ghost use mathlib.Core.Bool.{true, cond};
 ghost use Prim.Native.Nat.{_+_, _≤_};
 ghost use lib.ListN.{length};
 ghost use Rattle.order.specs.Order.{begins};
-ghost use Rattle.machine.specs.Map.{records};
-ghost use Rattle.machine.specs.Steps.{openUnder, uploadRecord};
+ghost use Rattle.machine.specs.Steps.{openUnder};
 ghost use Rattle.layout.specs.Memory.{whole, stateOf};
+ghost use Rattle.uploads.specs.Records.{recordsUnder};
 
 // How many records, 0 or 1, and bytes UPLOADS has of an upload at `path`.
 fn measure_one(path: &[u8], prefix: &[u8]) -> Counts
     requires { ⌜ length (now path) ≤ 128 ⌝ }
-    ensures { λ r. ⌜ (r .records ≡ cond (begins (now (prefix .entry)) (now (path .entry))) 1 0) × (r .bytes ≡ cond (begins (now (prefix .entry)) (now (path .entry))) (15 + length (now (path .entry))) 0) × (r .records ≤ 1) × (r .bytes ≤ 143) ⌝ }
+    ensures { λ r. ⌜ (r .records ≡ cond (begins (now (prefix .entry)) (now (path .entry))) 1 0)
+        × (r .bytes ≡ cond (begins (now (prefix .entry)) (now (path .entry))) (15 + length (now (path .entry))) 0)
+        × (r .records ≤ 1)
+        × (r .bytes ≤ 143) ⌝ }
 {
     if !order::begins_with(path, prefix) {
         return Counts {
@@ -29,7 +32,9 @@ fn measure_one(path: &[u8], prefix: &[u8]) -> Counts
 // How many records and bytes UPLOADS has.
 pub(crate) fn measure(tables: &[u8], arena: &[u8], prefix: &[u8]) -> Counts
     requires { ⌜ whole (now tables) (now arena) ≡ true ⌝ }
-    ensures { λ r. ⌜ (r .records ≡ length (openUnder (now (prefix .entry)) (stateOf (now (tables .entry)) (now (arena .entry)) .U))) × (r .bytes ≡ length (records uploadRecord (openUnder (now (prefix .entry)) (stateOf (now (tables .entry)) (now (arena .entry)) .U)))) ⌝ }
+    ensures { λ r. ⌜ (let s = stateOf (now (tables .entry)) (now (arena .entry)) in
+        (r .records ≡ length (openUnder (now (prefix .entry)) (s .U)))
+        × (r .bytes ≡ length (recordsUnder (now (prefix .entry)) s))) ⌝ }
 {
     let counts = find::read_counts(tables, arena);
     let uploads = counts.uploads;

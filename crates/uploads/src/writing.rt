@@ -4,16 +4,14 @@ ghost use mathlib.Core.Bool.{true};
 ghost use mathlib.Core.List.{_++_};
 ghost use Prim.Native.Nat.{_+_, _≤_};
 ghost use lib.ListN.{length, take, drop};
-ghost use Rattle.number.specs.Number.{le};
-ghost use Rattle.machine.specs.Map.{records};
-ghost use Rattle.machine.specs.Steps.{openUnder, uploadRecord};
+ghost use Rattle.number.specs.Number.{le, over, fronted};
 ghost use Rattle.layout.specs.Memory.{whole, stateOf};
-ghost use Rattle.uploads.specs.Records.{recordOf, recordUnder};
+ghost use Rattle.uploads.specs.Records.{recordOf, recordUnder, recordsUnder};
 
 // A byte over the one at `at`.
 fn put_byte(answer: &mut [u8], at: usize, v: u8)
     requires { ⌜ at + 1 ≤ length (now answer) ⌝ }
-    ensures { λ _. ⌜ now (answer .exit) ≡ take at (now (answer .entry)) ++ le 1 v ++ drop (at + 1) (now (answer .entry)) ⌝ }
+    ensures { λ _. ⌜ now (answer .exit) ≡ over (now (answer .entry)) at (le 1 v) 1 ⌝ }
 {
     answer[at] = v;
 }
@@ -21,7 +19,8 @@ fn put_byte(answer: &mut [u8], at: usize, v: u8)
 // A record over the bytes from `at` on; the rest of the answer buffer is as it was.
 fn write_record(answer: &mut [u8], at: usize, number: u32, path: &[u8], started: u64, parts: u16)
     requires { ⌜ (length (now path) ≤ 128) × (at + (15 + length (now path)) ≤ length (now answer)) ⌝ }
-    ensures { λ _. ⌜ now (answer .exit) ≡ take at (now (answer .entry)) ++ recordOf number (now (path .entry)) started parts ++ drop (at + (15 + length (now (path .entry)))) (now (answer .entry)) ⌝ }
+    ensures { λ _. ⌜ now (answer .exit)
+        ≡ over (now (answer .entry)) at (recordOf number (now (path .entry)) started parts) (15 + length (now (path .entry))) ⌝ }
 {
     let n = path.len();
     number::put_u32(answer, at, number);
@@ -41,8 +40,10 @@ fn write_one(
     started: u64,
     parts: u16,
 ) -> usize
-    requires { ⌜ (length (now path) ≤ 128) × (at + length (recordUnder (now prefix) number (now path) started parts) ≤ length (now answer)) ⌝ }
-    ensures { λ r. ⌜ (r ≡ at + length (recordUnder (now (prefix .entry)) number (now (path .entry)) started parts)) × (now (answer .exit) ≡ take at (now (answer .entry)) ++ recordUnder (now (prefix .entry)) number (now (path .entry)) started parts ++ drop r (now (answer .entry))) ⌝ }
+    requires { ⌜ (length (now path) ≤ 128)
+        × (at + length (recordUnder (now prefix) number (now path) started parts) ≤ length (now answer)) ⌝ }
+    ensures { λ r. ⌜ (let x = recordUnder (now (prefix .entry)) number (now (path .entry)) started parts in
+        (r ≡ at + length x) × (now (answer .exit) ≡ take at (now (answer .entry)) ++ x ++ drop r (now (answer .entry)))) ⌝ }
 {
     if !order::begins_with(path, prefix) {
         return at;
@@ -53,8 +54,10 @@ fn write_one(
 
 // The records, to the front of the answer buffer.
 pub(crate) fn write(tables: &[u8], arena: &[u8], prefix: &[u8], answer: &mut [u8])
-    requires { ⌜ (whole (now tables) (now arena) ≡ true) × (length (records uploadRecord (openUnder (now prefix) (stateOf (now tables) (now arena) .U))) ≤ length (now answer)) ⌝ }
-    ensures { λ _. ⌜ now (answer .exit) ≡ records uploadRecord (openUnder (now (prefix .entry)) (stateOf (now (tables .entry)) (now (arena .entry)) .U)) ++ drop (length (records uploadRecord (openUnder (now (prefix .entry)) (stateOf (now (tables .entry)) (now (arena .entry)) .U)))) (now (answer .entry)) ⌝ }
+    requires { ⌜ (whole (now tables) (now arena) ≡ true)
+        × (length (recordsUnder (now prefix) (stateOf (now tables) (now arena))) ≤ length (now answer)) ⌝ }
+    ensures { λ _. ⌜ now (answer .exit) ≡ fronted (now (answer .entry))
+        (recordsUnder (now (prefix .entry)) (stateOf (now (tables .entry)) (now (arena .entry)))) ⌝ }
 {
     let counts = find::read_counts(tables, arena);
     let uploads = counts.uploads;

@@ -8,7 +8,8 @@ ghost use Rattle.buffer.specs.Buffer.{rotated};
 // The n bytes from i on and the n from j on, exchanged.
 pub(crate) fn swap(b: &mut [u8], i: usize, j: usize, n: usize)
     requires { ⌜ (i + n ≤ j) × (j + n ≤ length (now b)) ⌝ }
-    ensures { λ _. ⌜ now (b .exit) ≡ paste (paste (now (b .entry)) i (drop j (now (b .entry))) n) j (drop i (now (b .entry))) n ⌝ }
+    ensures { λ _. ⌜ now (b .exit)
+        ≡ paste (paste (now (b .entry)) i (drop j (now (b .entry))) n) j (drop i (now (b .entry))) n ⌝ }
 {
     let mut k = 0;
     while k < n {

@@ -56,8 +56,8 @@ pub fn copy_within(b: &mut [u8], from: usize, to: usize, n: usize)
     }
 }
 
-// The n bytes at `at` give way to src, and those after them up to `used` move to follow it. With n = 0 it inserts, with an
-// empty src it removes.
+// The n bytes at `at` give way to src, and those after them up to `used` move to follow it. With n = 0 it inserts, with
+// an empty src it removes.
 pub fn splice(b: &mut [u8], at: usize, n: usize, used: usize, src: &[u8])
     requires { ⌜ (at + n ≤ used) × ((used ≤ length (now b)) × (used + length (now src) ≤ length (now b) + n)) ⌝ }
     ensures { λ _. ⌜ now (b .exit) ≡ spliced (now (b .entry)) at n used (now (src .entry)) ⌝ }
@@ -75,8 +75,9 @@ pub fn remove(b: &mut [u8], at: usize, n: usize, used: usize)
     copy_within(b, at + n, at, used - (at + n));
 }
 
-// The left bytes from `at` on and the right bytes after them, exchanged in place. Each turn swaps the shorter block with the far
-// end of the longer one, which brings it to its place; what is left is the same question for a shorter pair of blocks.
+// The left bytes from `at` on and the right bytes after them, exchanged in place. Each turn swaps the shorter block
+// with the far end of the longer one, which brings it to its place; what is left is the same question for a shorter
+// pair of blocks.
 pub fn rotate(b: &mut [u8], at: usize, left: usize, right: usize)
     requires { ⌜ at + left + right ≤ length (now b) ⌝ }
     ensures { λ _. ⌜ now (b .exit) ≡ rotated (now (b .entry)) at left right ⌝ }

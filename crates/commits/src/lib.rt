@@ -31,8 +31,8 @@ fn is_listed_before(list: &[u8], i: usize, number: u16) -> bool
     listed
 }
 
-// Whether the list's number at i is a part's of an open upload, `first` being the row after the upload's, and none of those
-// before it.
+// Whether the list's number at i is a part's of an open upload, `first` being the row after the upload's, and none of
+// those before it.
 fn number_fits(tables: &[u8], arena: &[u8], first: RowPlace, list: &[u8], i: usize) -> bool
     requires { ⌜ WholePlace (now tables) (now arena) first × (2 * i + 2 ≤ length (now list)) ⌝ }
     ensures { λ r. ⌜ OfOpenBefore (now (tables .entry)) (now (arena .entry)) first
@@ -86,7 +86,8 @@ fn commit_room(tables: &[u8], arena: &[u8], upload: UploadNumber) -> u8
 // COMMIT's refusal over whole memory, 0 for none.
 fn commit_judge(tables: &[u8], arena: &[u8], upload: UploadNumber, list: &[u8]) -> u8
     requires { ⌜ whole (now tables) (now arena) ≡ true ⌝ }
-    ensures { λ r. ⌜ r ≡ resultOf (outcome (COMMIT (upload .0) (partList (now (list .entry)))) (memory (now (tables .entry)) (now (arena .entry)))) ⌝ }
+    ensures { λ r. ⌜ r ≡ resultOf (outcome (COMMIT (upload .0) (partList (now (list .entry))))
+        (memory (now (tables .entry)) (now (arena .entry)))) ⌝ }
 {
     let place = find::find_upload(tables, arena, upload.0);
     if !place.found {

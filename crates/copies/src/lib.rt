@@ -18,7 +18,8 @@ ghost use Rattle.contract.specs.Made.{memory, outcome, resultOf, Made, MadeWhol
 fn source_judge(tables: &[u8], arena: &[u8], stamp: Stamp, source: &[u8], destination: &[u8]) -> u8
     requires { ⌜ whole (now tables) (now arena) ≡ true ⌝ }
     ensures { λ r. ⌜ r ≡ resultOf (sourceOutcome (length (now (arena .entry)))
-        (stateOf (now (tables .entry)) (now (arena .entry))) (stamp .0) (now (source .entry)) (now (destination .entry))) ⌝ }
+        (stateOf (now (tables .entry)) (now (arena .entry))) (stamp .0)
+        (now (source .entry)) (now (destination .entry))) ⌝ }
 {
     let place = find::find_object(tables, arena, source);
     if !place.found {
@@ -31,7 +32,8 @@ fn source_judge(tables: &[u8], arena: &[u8], stamp: Stamp, source: &[u8], destin
 // COPY's refusal over whole memory, 0 for none.
 fn copy_judge(tables: &[u8], arena: &[u8], stamp: Stamp, source: &[u8], destination: &[u8]) -> u8
     requires { ⌜ whole (now tables) (now arena) ≡ true ⌝ }
-    ensures { λ r. ⌜ r ≡ resultOf (outcome (COPY (stamp .0) (now (source .entry)) (now (destination .entry))) (memory (now (tables .entry)) (now (arena .entry)))) ⌝ }
+    ensures { λ r. ⌜ r ≡ resultOf (outcome (COPY (stamp .0) (now (source .entry)) (now (destination .entry)))
+        (memory (now (tables .entry)) (now (arena .entry)))) ⌝ }
 {
     if !names::stamp_ok(stamp.0) {
         return types::BAD_REQUEST;

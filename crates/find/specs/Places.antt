@@ -22,7 +22,8 @@ placeAfter rs = record { row = length rs; at = headerLength + length (encodeRows
 abbrev pub lookupAfter : (found : Bool) → List Row → Lookup
 lookupAfter found rs = record { found = found; at = placeAfter rs .at; base = placeAfter rs .base }
 
--- the rows before those of the object at a path, of an upload, of an upload's parts, of a part, and of what follows an upload's parts
+-- the rows before those of the object at a path, of an upload, of an upload's parts, of a part, and of what follows an
+-- upload's parts
 unfoldable pub beforeObject : State → Bytes → List Row
 beforeObject s p = objectRows (take (place byBytes p (s .O)) (s .O))
 
@@ -57,7 +58,7 @@ fromPart s u x n = partRows (drop (place byNumber n (x .parts)) (x .parts)) ++ a
 unfoldable pub afterPart : State → ℕ → Upload → ℕ → List Row
 afterPart s u x n = partRows (drop (suc (place byNumber n (x .parts))) (x .parts)) ++ afterUpload s u
 
--- the place of an object, of an upload, of a part
+-- what the lookup of an object, of an upload, of a part answers
 unfoldable pub objectPlace : State → Bytes → Lookup
 objectPlace s p = lookupAfter (isSome (lookup byBytes p (s .O))) (beforeObject s p)
 

@@ -13,8 +13,8 @@ ghost use Rattle.contract.specs.Answers.{partList};
 ghost use Rattle.join.specs.Bounds.{Inside, boundsOf};
 ghost use Rattle.join.specs.Joined.{Listed, Joins, TakenOut, Joinable, JoinableAt};
 
-// Where an upload's row, its first part's row, the rows after its parts and the free bytes begin in the tables; where its
-// parts' data begin in the arena, their size, and what is held; how many parts it has.
+// Where an upload's row, its first part's row, the rows after its parts and the free bytes begin in the tables; where
+// its parts' data begin in the arena, their size, and what is held; how many parts it has.
 pub struct Bounds {
     pub at: usize,
     pub first: usize,

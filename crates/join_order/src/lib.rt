@@ -41,7 +41,8 @@ fn find_row(tables: &[u8], arena: &[u8], at: usize, base: usize, number: u32) ->
 fn bring(tables: &mut [u8], arena: &mut [u8], at: usize, base: usize, number: u32) -> usize
     requires { ⌜ PartAt (now tables) (now arena) at base number ⌝ }
     ensures { λ r. ⌜ ((k : PartAt (now (tables .entry)) (now (arena .entry)) at base number)
-        → Brought (now (tables .entry)) (now (arena .entry)) at base number k (now (tables .exit)) (now (arena .exit)) r) ⌝ }
+        → Brought (now (tables .entry)) (now (arena .entry)) at base number k
+        (now (tables .exit)) (now (arena .exit)) r) ⌝ }
 {
     let f = find_row(tables, arena, at, base, number);
     buffer::rotate(tables, at, f.rows, row::HEAD_LENGTH);
@@ -49,7 +50,8 @@ fn bring(tables: &mut [u8], arena: &mut [u8], at: usize, base: usize, number: u3
     f.size
 }
 
-// The parts at `at` brought into listed order, with their data at `base`: each listed part to the front of those that remain.
+// The parts at `at` brought into listed order, with their data at `base`: each listed part to the front of those that
+// remain.
 // Nothing moves where the list ascends.
 fn order_parts(tables: &mut [u8], arena: &mut [u8], at: usize, base: usize, list: &[u8])
     requires { ⌜ ListedAt (now tables) (now arena) at base (now list) ⌝ }

@@ -19,7 +19,8 @@ fn has_path(path: &[u8], prefix: &[u8], suffix: &[u8]) -> bool
 // Whether LIST has the path of the row at `at`.
 pub(crate) fn has_row(tables: &[u8], at: usize, prefix: &[u8], suffix: &[u8]) -> bool
     requires { ⌜ at + span (headAt (drop at (now tables))) ≤ length (now tables) ⌝ }
-    ensures { λ r. ⌜ r ≡ isListed (now (prefix .entry)) (now (suffix .entry)) (pathAt (drop at (now (tables .entry)))) ⌝ }
+    ensures { λ r. ⌜ r
+        ≡ isListed (now (prefix .entry)) (now (suffix .entry)) (pathAt (drop at (now (tables .entry)))) ⌝ }
 {
     let h = row::read_head(tables, at);
     let from = at + row::HEAD_LENGTH;

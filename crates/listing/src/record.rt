@@ -35,7 +35,8 @@ fn write_numbers(answer: &mut [u8], to: usize, size: u32, created: u64, n: u8)
 // "-" and the count.
 fn write_count(answer: &mut [u8], to: usize, count: u16)
     requires { ⌜ to + (1 + length (decimal count)) ≤ length (now answer) ⌝ }
-    ensures { λ _. ⌜ now (answer .exit) ≡ over (now (answer .entry)) to (45 ∷ decimal count) (1 + length (decimal count)) ⌝ }
+    ensures { λ _. ⌜ now (answer .exit)
+        ≡ over (now (answer .entry)) to (45 ∷ decimal count) (1 + length (decimal count)) ⌝ }
 {
     answer[to] = 45;
     text::put_decimal(answer, to + 1, count);

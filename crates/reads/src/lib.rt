@@ -17,8 +17,8 @@ ghost use Rattle.contract.specs.Answers.{etagOf, metadataOf, getReply};
 ghost use Rattle.contract.specs.Made.{memory, outcome, Made};
 ghost use Rattle.reads.specs.Named.{namedIn, metadataAt, storedAt};
 
-// What the path of a GET or HEAD names: nothing, with the refusal's number; the root; or an object, by the place of its row
-// in the tables and of its data in the arena.
+// What the path of a GET or HEAD names: nothing, with the refusal's number; the root; or an object, by the place of its
+// row in the tables and of its data in the arena.
 enum Named {
     Refused(u8),
     Root,
@@ -86,8 +86,12 @@ fn metadata(tables: &[u8], at: usize) -> Metadata
 
 // GET of the object whose row stands at `at`, with its data at `base`.
 fn get_object(tables: &[u8], arena: &[u8], at: usize, base: usize, answer: &mut [u8]) -> GetAnswer
-    requires { ⌜ (at + headLength ≤ length (now tables)) × (base + headAt (drop at (now tables)) .size ≤ length (now arena)) ⌝ }
-    ensures { λ r. ⌜ getReply r (now (answer .exit)) ≡ replyOf (now (answer .entry)) (write (about (storedAt (now (tables .entry)) (now (arena .entry)) at base)) (storedAt (now (tables .entry)) (now (arena .entry)) at base .content) (now (answer .entry)) (stateOf (now (tables .entry)) (now (arena .entry)))) ⌝ }
+    requires { ⌜ (at + headLength ≤ length (now tables))
+        × (base + headAt (drop at (now tables)) .size ≤ length (now arena)) ⌝ }
+    ensures { λ r. ⌜ (let x = storedAt (now (tables .entry)) (now (arena .entry)) at base in
+        getReply r (now (answer .exit))
+        ≡ replyOf (now (answer .entry)) (write (about x) (x .content) (now (answer .entry))
+        (stateOf (now (tables .entry)) (now (arena .entry))))) ⌝ }
 {
     let m = metadata(tables, at);
     let n = m.length as usize;

@@ -65,7 +65,8 @@ fn write_numbers(out: &mut [u8], h: Head)
 pub fn write_row(out: &mut [u8], h: Head, digest: Digest, path: &[u8])
     requires { ⌜ headLength + length (now path) ≤ length (now out) ⌝ }
     ensures { λ _. ⌜ now (out .exit)
-        ≡ rowBytes h (bytesOf digest) (now (path .entry)) ++ drop (headLength + length (now (path .entry))) (now (out .entry)) ⌝ }
+        ≡ rowBytes h (bytesOf digest) (now (path .entry))
+        ++ drop (headLength + length (now (path .entry))) (now (out .entry)) ⌝ }
 {
     write_numbers(out, h);
     md5::put(out, NUMBERS_LENGTH, digest);

@@ -59,7 +59,8 @@ fn object_ok(last: &[u8], h: Head, path: &[u8]) -> bool
     ascend(last, path)
 }
 
-// Whether the rows of objects stand from `from` on, and where they end. The path of the row passed stands just before `at`.
+// Whether the rows of objects stand from `from` on, and where they end. The path of the row passed stands just before
+// `at`.
 pub(crate) fn scan_objects(t: &[u8], arena: &[u8], from: Offset, rows: u16) -> Scan
     requires { ⌜ (from .at ≤ length (now t)) × (from .base ≤ length (now arena)) ⌝ }
     ensures { λ r. ⌜ r ≡ objectScan rows [] from (now (t .entry)) (now (arena .entry)) ⌝ }

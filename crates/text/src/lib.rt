@@ -20,7 +20,8 @@ fn hex_digit(n: u8) -> u8
 // The bytes of src in lower-case hexadecimal, two digits each, over dst from `at` on.
 pub fn put_hex(dst: &mut [u8], at: usize, src: &[u8])
     requires { ⌜ at + 2 * length (now src) ≤ length (now dst) ⌝ }
-    ensures { λ _. ⌜ now (dst .exit) ≡ over (now (dst .entry)) at (hex (now (src .entry))) (2 * length (now (src .entry))) ⌝ }
+    ensures { λ _. ⌜ now (dst .exit)
+        ≡ over (now (dst .entry)) at (hex (now (src .entry))) (2 * length (now (src .entry))) ⌝ }
 {
     let mut i = 0;
     while i < src.len() {
@@ -37,7 +38,8 @@ pub fn put_hex(dst: &mut [u8], at: usize, src: &[u8])
 // The 32 hexadecimal digits of a digest of four words, each with its low byte first.
 pub fn put_digest(dst: &mut [u8], at: usize, a: u32, b: u32, c: u32, d: u32)
     requires { ⌜ at + 32 ≤ length (now dst) ⌝ }
-    ensures { λ _. ⌜ now (dst .exit) ≡ over (now (dst .entry)) at (hex (le 4 a ++ (le 4 b ++ (le 4 c ++ le 4 d)))) 32 ⌝ }
+    ensures { λ _. ⌜ now (dst .exit)
+        ≡ over (now (dst .entry)) at (hex (le 4 a ++ (le 4 b ++ (le 4 c ++ le 4 d)))) 32 ⌝ }
 {
     let mut bytes = [0u8; 16];
     number::put_u32(&mut bytes, 0, a);

@@ -12,7 +12,8 @@ ghost use Rattle.contract.specs.Made.{memory, outcome, resultOf, Made, MadeWhol
 // INITIATE's refusal over whole memory, 0 for none.
 fn initiate_judge(tables: &[u8], arena: &[u8], stamp: Stamp, path: &[u8]) -> u8
     requires { ⌜ whole (now tables) (now arena) ≡ true ⌝ }
-    ensures { λ r. ⌜ r ≡ resultOf (outcome (INITIATE (stamp .0) (now (path .entry))) (memory (now (tables .entry)) (now (arena .entry)))) ⌝ }
+    ensures { λ r. ⌜ r ≡ resultOf (outcome (INITIATE (stamp .0) (now (path .entry)))
+        (memory (now (tables .entry)) (now (arena .entry)))) ⌝ }
 {
     if !names::stamp_ok(stamp.0) {
         return types::BAD_REQUEST;

@@ -48,7 +48,8 @@ fn part_judge(
     content: &[u8],
 ) -> u8
     requires { ⌜ whole (now tables) (now arena) ≡ true ⌝ }
-    ensures { λ r. ⌜ r ≡ resultOf (outcome (PART (upload .0) (number .0) (now (content .entry))) (memory (now (tables .entry)) (now (arena .entry)))) ⌝ }
+    ensures { λ r. ⌜ r ≡ resultOf (outcome (PART (upload .0) (number .0) (now (content .entry)))
+        (memory (now (tables .entry)) (now (arena .entry)))) ⌝ }
 {
     if !names::request_part_ok(number.0) {
         return types::BAD_REQUEST;

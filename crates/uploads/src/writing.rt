@@ -20,7 +20,8 @@ fn put_byte(answer: &mut [u8], at: usize, v: u8)
 fn write_record(answer: &mut [u8], at: usize, number: u32, path: &[u8], started: u64, parts: u16)
     requires { ⌜ (length (now path) ≤ 128) × (at + (15 + length (now path)) ≤ length (now answer)) ⌝ }
     ensures { λ _. ⌜ now (answer .exit)
-        ≡ over (now (answer .entry)) at (recordOf number (now (path .entry)) started parts) (15 + length (now (path .entry))) ⌝ }
+        ≡ over (now (answer .entry)) at (recordOf number (now (path .entry)) started parts)
+        (15 + length (now (path .entry))) ⌝ }
 {
     let n = path.len();
     number::put_u32(answer, at, number);
@@ -30,7 +31,8 @@ fn write_record(answer: &mut [u8], at: usize, number: u32, path: &[u8], started:
     number::put_u16(answer, at + 13 + n, parts);
 }
 
-// The record of an upload whose path begins with the prefix, as `write_record` writes it; answers where the next record goes.
+// The record of an upload whose path begins with the prefix, as `write_record` writes it; answers where the next record
+// goes.
 fn write_one(
     answer: &mut [u8],
     at: usize,
@@ -43,7 +45,8 @@ fn write_one(
     requires { ⌜ (length (now path) ≤ 128)
         × (at + length (recordUnder (now prefix) number (now path) started parts) ≤ length (now answer)) ⌝ }
     ensures { λ r. ⌜ (let x = recordUnder (now (prefix .entry)) number (now (path .entry)) started parts in
-        (r ≡ at + length x) × (now (answer .exit) ≡ take at (now (answer .entry)) ++ x ++ drop r (now (answer .entry)))) ⌝ }
+        (r ≡ at + length x)
+        × (now (answer .exit) ≡ take at (now (answer .entry)) ++ x ++ drop r (now (answer .entry)))) ⌝ }
 {
     if !order::begins_with(path, prefix) {
         return at;

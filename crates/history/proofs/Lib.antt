@@ -6,3 +6,4 @@ pub mod Reading
 pub mod Aborted
 pub mod InPlace
 pub mod DeleteObjects
+pub mod Swaps

@@ -5,3 +5,4 @@ pub mod Questions
 pub mod InPlace
 pub mod DeleteObjects
 pub mod Batch
+pub mod Swaps

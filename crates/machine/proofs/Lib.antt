@@ -22,3 +22,7 @@ pub mod Unseen
 pub mod Demand3
 pub mod InPlace
 pub mod DeleteObjects
+pub mod MapTwo
+pub mod Apart
+pub mod Swaps
+pub mod SwapCases

@@ -14,3 +14,5 @@ pub mod DeleteObjects
 pub mod Marked
 pub mod Unmarked
 pub mod Cases
+pub mod Swaps
+pub mod SwapCases

@@ -83,15 +83,25 @@ table Fourth =
 unfoldable pub word : List ℕ → ℕ → ℕ
 word x k = fromLe (take 4 (drop (k * 4) x))
 
--- (3.4) [abcd k s i]: a = b + ((a + F(b,c,d) + X[k] + T[i]) <<< s), with t for T[i]. The words are renamed after it, from abcd to dabc, so
--- that each operation is of the first word
-unfoldable pub operation : Round → List ℕ → ℕ → ℕ → ℕ → Digest → Digest
-operation r x k s t v = record {
+-- (3.4) the sixteen words of the block x, X[0] to X[15]
+unfoldable pub wordsOf : List ℕ → List ℕ
+wordsOf x =
+    word x 0 ∷ word x 1 ∷ word x 2 ∷ word x 3 ∷ word x 4 ∷ word x 5 ∷ word x 6 ∷ word x 7 ∷
+    word x 8 ∷ word x 9 ∷ word x 10 ∷ word x 11 ∷ word x 12 ∷ word x 13 ∷ word x 14 ∷ word x 15 ∷ []
+
+-- (3.4) [abcd k s i]: a = b + ((a + F(b,c,d) + X[k] + T[i]) <<< s), with x for X[k] and t for T[i]. The words are renamed after it, from abcd
+-- to dabc, so that each operation is of the first word
+unfoldable pub step : Round → ℕ → ℕ → ℕ → Digest → Digest
+step r x s t v = record {
   a = v .d;
-  b = add32 (v .b) (rotl32 (add32 (add32 (add32 (v .a) (auxiliary r (v .b) (v .c) (v .d))) (word x k)) t) s);
+  b = add32 (v .b) (rotl32 (add32 (add32 (add32 (v .a) (auxiliary r (v .b) (v .c) (v .d))) x) t) s);
   c = v .b;
   d = v .c;
 }
+
+-- (3.4) the same on the block x
+unfoldable pub operation : Round → List ℕ → ℕ → ℕ → ℕ → Digest → Digest
+operation r x k s t v = step r (word x k) s t v
 
 -- (3.4) operations in the order of a table, with T[i] from the list, which counts from 0
 unfoldable pub operations : Round → List ℕ → List Operation → Digest → Digest

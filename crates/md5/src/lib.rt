@@ -9,6 +9,7 @@ ghost use lib.ListN.{length, take, drop, replicate};
 ghost use Rattle.number.specs.Number.{le};
 ghost use Rattle.md5.specs.Md5.{md5, bytesOf, fromBytes};
 use block::blocks;
+use block::sines;
 use words::Digest;
 
 // n bytes in bits, modulo 2^64.
@@ -19,7 +20,7 @@ fn bits(n: usize) -> u64
 }
 
 // The last block or two: the data from start on, a byte 128, zeros, and at `at` the length in bits.
-fn tail(data: &[u8], start: usize, at: usize) -> [u8; 128]
+pub fn tail(data: &[u8], start: usize, at: usize) -> [u8; 128]
     requires { ⌜ (start ≤ length (now «data»)) × (length (now «data») - start < at) × (at ≤ 120) ⌝ }
     ensures { λ r. ⌜ take (at + 8) r ≡ drop start (now («data» .entry)) ++ 128
         ∷ (replicate (at - 1 - (length (now («data» .entry)) - start)) 0 ++ le 8 (8 * length (now («data» .entry)) % 2 ^ 64)) ⌝ }
@@ -37,14 +38,15 @@ pub fn digest(data: &[u8]) -> Digest
 {
     let n = data.len();
     let whole = n / 64;
-    let v = blocks(Digest::initial(), data, whole);
+    let t = sines();
+    let v = blocks(Digest::initial(), data, whole, t);
     let start = whole * 64;
     if n - start < 56 {
-        let t = tail(data, start, 56);
-        blocks(v, &t, 1)
+        let last = tail(data, start, 56);
+        blocks(v, &last, 1, t)
     } else {
-        let t = tail(data, start, 120);
-        blocks(v, &t, 2)
+        let last = tail(data, start, 120);
+        blocks(v, &last, 2, t)
     }
 }
 

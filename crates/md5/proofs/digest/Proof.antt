@@ -6,6 +6,9 @@ use borrow.Author.Needs.{needs}
 use Rattle.md5.proofs.digest.Statement.{statement}
 use Rattle.md5.proofs.digest.Tie as tie
 
+sines-requires : tie.Need-sines-requires
+sines-requires c κs = search needs
+
 initial-requires : tie.Need-initial-requires
 initial-requires c κs = search needs
 
@@ -40,20 +43,21 @@ returns : tie.Need-returns
 returns c =
     let tailed = c .before .before in
     let first = tailed .before .before in
-    digested (first .before .before .before .args .«data» .now) (tailed .tail .result) 56 1 (first .before .initial .result) (first .blocks2 .result) (c .blocks3 .result)
+    digested (first .before .before .before .before .args .«data» .now) (tailed .tail .result) 56 1 (first .before .initial .result) (first .blocks2 .result) (c .blocks3 .result)
     (first .before .initial .ensures) (first .blocks2 .ensures) (c .blocks3 .ensures) refl (omega arith) (omega arith) (tailed .tail .ensures)
 
 returns-2 : tie.Need-returns-2
 returns-2 c =
     let tailed = c .before .before in
     let first = tailed .before .before in
-    digested (first .before .before .before .args .«data» .now) (tailed .tail2 .result) 120 2 (first .before .initial .result) (first .blocks2 .result) (c .blocks4 .result)
+    digested (first .before .before .before .before .args .«data» .now) (tailed .tail2 .result) 120 2 (first .before .initial .result) (first .blocks2 .result) (c .blocks4 .result)
     (first .before .initial .ensures) (first .blocks2 .ensures) (c .blocks4 .ensures) refl (omega arith) (omega arith) (tailed .tail2 .ensures)
 
 pub digest-spec : {M : Type 1} → statement M
 digest-spec =
     tie.close
     (tie.spec
+    sines-requires
     initial-requires
     blocks-requires
     mul-start

@@ -9,10 +9,10 @@ use Rattle.md5.proofs.block.blocks.Statement.{statement}
 use Rattle.md5.proofs.block.blocks.Tie as tie
 
 abbrev Inv-loop : tie.InvT-loop
-Inv-loop m n v₀ i₀ v i = (i ≤ n) × (64 * n ≤ length m) × (v ≡ chain v₀ m i)
+Inv-loop m n t v₀ i₀ v i = (i ≤ n) × (64 * n ≤ length m) × (v ≡ chain v₀ m i)
 
 abbrev μ-loop : tie.MeasureT-loop
-μ-loop m n v₀ i₀ v i = n - i
+μ-loop m n t v₀ i₀ v i = n - i
 
 loop-holds : tie.Need-loop-holds Inv-loop μ-loop
 unfolding chain
@@ -34,7 +34,7 @@ part-block-end : tie.Need-part-block-end Inv-loop μ-loop
 part-block-end c = omega arith
 
 block-requires : tie.Need-block-requires Inv-loop μ-loop
-block-requires c κs = simp (length-take, length-drop) (omega arith)
+block-requires c κs = (simp (length-take, length-drop) (omega arith), c .before .before .before .before .pre .1)
 
 add-i : tie.Need-add-i Inv-loop μ-loop
 add-i c = omega arith

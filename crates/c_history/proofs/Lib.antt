@@ -5,3 +5,4 @@ pub mod Hearing
 pub mod Demand3
 pub mod Questions
 pub mod DeleteObjects
+pub mod Swaps

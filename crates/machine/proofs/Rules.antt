@@ -1,10 +1,12 @@
 -- The rules for requests and for the store, one beside the other: what may be made may be held, and what is held may be asked for.
 -- Assumes nothing.
 use Prim.Native.Nat.{ℕ}
-use mathlib.Core.Path.{_≡_}
-use mathlib.Core.Bool.{true, false≢true}
-use mathlib.Core.List.{[]}
-use Rattle.machine.specs.Names.{Bytes, pathOk, requestPathOk, newPathOk, storedPathOk, requestPartOk, storedPartOk}
+use mathlib.Core.Path.{_≡_, refl}
+use mathlib.Core.Bool.{Bool, true, false, _&&_, _||_, cond, false≢true}
+use mathlib.Core.List.{List, [], _∷_}
+use lib.Dec.{leb}
+use lib.ListN.{length}
+use Rattle.machine.specs.Names.{Bytes, Range, characters, visible, apart, formerPathOk, pathOk, requestPathOk, newPathOk, storedPathOk, requestPartOk, storedPartOk}
 
 pub new-stored : (p : Bytes) → newPathOk p ≡ true → storedPathOk p ≡ true
 unfolding newPathOk storedPathOk
@@ -22,3 +24,26 @@ part-stored n h = h
 pub stored-not-root : storedPathOk [] ≡ true → ⊥
 unfolding storedPathOk pathOk
 stored-not-root h = false≢true h
+
+-- a byte that was visible is a character by itself
+step : (low high v others : Bool) (due : List Range) (k : List Range → Bool) → (v ≡ true → k [] ≡ true) → (low && high && v) ≡ true
+    → ((low && high || others) && k (cond (low && high) [] due)) ≡ true
+step true true true others due k h e = h refl
+step true true false others due k h e = absurd (false≢true e)
+step true false v others due k h e = absurd (false≢true e)
+step false high v others due k h e = absurd (false≢true e)
+
+pub visible-characters : (p : Bytes) → visible p ≡ true → characters [] p ≡ true
+visible-characters [] e = refl
+visible-characters (b ∷ p) e = step (leb 33 b) (leb b 126) (visible p) _ _ (λ due. characters due p) (visible-characters p) e
+
+-- E2: what passed the former rule passes
+pub former-ok : (p : Bytes) → formerPathOk p ≡ true → pathOk p ≡ true
+unfolding formerPathOk pathOk
+former-ok p e = go (leb 1 (length p) && leb (length p) 128) (visible p) (characters [] p) (apart 47 p) (visible-characters p) e
+  where
+    go : (n v c a : Bool) → (v ≡ true → c ≡ true) → (n && v && a) ≡ true → (n && c && a) ≡ true
+    go true true c true h e = rw (h refl)
+    go true true c false h e = absurd (false≢true e)
+    go true false c a h e = absurd (false≢true e)
+    go false v c a h e = absurd (false≢true e)

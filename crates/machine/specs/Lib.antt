@@ -1,5 +1,6 @@
 pub mod Map
 pub mod Names
+pub mod Utf8Cases
 pub mod Digest
 pub mod Etags
 pub mod State

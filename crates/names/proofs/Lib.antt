@@ -1,1 +1,5 @@
 pub mod Tests
+pub mod FaultLaws
+pub mod DoubleLaws
+pub mod LetterLaws
+pub mod PathLaws

@@ -1,27 +1,11 @@
-// Document 01's rules of paths, stamps and part numbers. What a request may name and what a store may hold is asked apart.
+// The rules of paths, stamps and part numbers. What a request may name and what a store may hold is asked apart.
+mod letters;
+mod plain;
+
 ghost use mathlib.Core.Path.{_≡_};
 ghost use Rattle.machine.specs.Names.{pathOk, requestPathOk, newPathOk, storedPathOk, stampOk, numberOk, requestPartOk, storedPartOk};
-ghost use Rattle.names.specs.Faults.{faultOf};
 
-// 1 where b may not stand after `before` in a path.
-fn fault(before: u8, b: u8) -> u8
-    ensures { λ r. ⌜ r ≡ faultOf before b ⌝ }
-{
-    if b < 33 {
-        return 1;
-    }
-    if 126 < b {
-        return 1;
-    }
-    if before == 47 {
-        if b == 47 {
-            return 1;
-        }
-    }
-    0
-}
-
-// Whether p is a path. Every byte is looked at: a loop without an early end goes many bytes at a time.
+// Whether p is a path. Most are visible ASCII alone, which is seen in one pass.
 fn path_ok(p: &[u8]) -> bool
     ensures { λ r. ⌜ r ≡ pathOk (now (p .entry)) ⌝ }
 {
@@ -32,16 +16,13 @@ fn path_ok(p: &[u8]) -> bool
     if 128 < n {
         return false;
     }
-    let mut before: u8 = 47;
-    let mut bad: u8 = 0;
-    let mut i = 0;
-    while i < n {
-        let b = p[i];
-        bad += fault(before, b);
-        before = b;
-        i += 1;
+    if plain::plain(p) {
+        return true;
     }
-    bad == 0
+    if !letters::whole(p) {
+        return false;
+    }
+    letters::parted(p)
 }
 
 // A path that GET, HEAD, DELETE or COPY's source may name.

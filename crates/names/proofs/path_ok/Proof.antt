@@ -1,80 +1,53 @@
--- `names::path_ok` meets its contract. The invariant: the faults counted and those to come are all of the path's. Assumes nothing.
-use Prim.Native.Nat.{_+_, _-_, _≤_}
-use mathlib.Core.Path.{_≡_}
-use lib.ListN.{getD, drop}
-use borrow.Author.Tests.{le-leb}
-use Rattle.machine.specs.Names.{pathOk}
-use Rattle.names.specs.Faults.{faultOf, faults, fault-small, no-faults, fault-here, faults-end}
-use Rattle.names.proofs.Tests.{tests}
+-- `names::path_ok` meets its contract. Assumes nothing.
+use mathlib.Core.Path.{sym, _∙_}
 use native.Mathlib.Omega.{arith}
+use borrow.Author.Needs.{needs}
+use Rattle.machine.specs.Names.{pathOk}
+use Rattle.names.proofs.PathLaws.{by-parts, plain-ok}
+use Rattle.names.proofs.Tests.{tests, said-no, said-yes}
 use Rattle.names.proofs.path_ok.Statement.{statement}
 use Rattle.names.proofs.path_ok.Tie as tie
 
-abbrev Inv-loop : tie.InvT-loop
-Inv-loop p n before₀ bad₀ i₀ before bad i = (bad + faults before (drop i p) ≡ faults 47 p) × (bad ≤ i) × (i ≤ n)
-
-abbrev μ-loop : tie.MeasureT-loop
-μ-loop p n before₀ bad₀ i₀ before bad i = n - i
-
-returns : tie.Need-returns Inv-loop μ-loop
+returns : tie.Need-returns
 unfolding pathOk
 returns c = search tests
 
-returns-2 : tie.Need-returns-2 Inv-loop μ-loop
+returns-2 : tie.Need-returns-2
 unfolding pathOk
 returns-2 c = search tests
 
-loop-holds : tie.Need-loop-holds Inv-loop μ-loop
-loop-holds c = omega arith
+plain-requires : tie.Need-plain-requires
+plain-requires c κs = search needs
 
-shared-slice-read-b : tie.Need-shared-slice-read-b Inv-loop μ-loop
-shared-slice-read-b c = omega arith
+returns-3 : tie.Need-returns-3
+returns-3 c = sym (plain-ok (c .before .before .before .before .before .args .p .now) (omega arith) (omega arith) (sym (c .before .plain .ensures) ∙ c .if3 .taken))
 
-fault-requires : tie.Need-fault-requires Inv-loop μ-loop
-fault-requires c κs = omega arith
+whole-requires : tie.Need-whole-requires
+whole-requires c κs = search needs
 
-add-bad : tie.Need-add-bad Inv-loop μ-loop
-add-bad c =
-    let k = c .before .before .before in
-    omega (arith, c .fault .ensures, fault-small (k .loop .before) (getD (k .before .before .before .before .args .p .now) (k .loop .i) 0))
+returns-4 : tie.Need-returns-4
+returns-4 c =
+    sym (by-parts (c .before .before .before .before .before .before .before .args .p .now) (omega arith) (omega arith)
+    ∙ rw (said-no (c .before .whole .ensures) (c .if4 .taken)))
 
-add-i : tie.Need-add-i Inv-loop μ-loop
-add-i c = omega arith
+parted-requires : tie.Need-parted-requires
+parted-requires c κs = search needs
 
-loop-less : tie.Need-loop-less Inv-loop μ-loop
-loop-less c = omega arith
-
-loop-again : tie.Need-loop-again Inv-loop μ-loop
-loop-again c =
-    let k = c .before .before .before in
-    let p = k .before .before .before .before .args .p .now in
-    let i = k .loop .i in
-    let b = getD p i 0 in
-    let here = fault-here (k .loop .before) p i (c .before .before .loop-test .taken) in
-    let said : c .fault .result ≡ faultOf (k .loop .before) b = c .fault .ensures in
-    (omega (arith, k .loop .inv .0), omega (arith, fault-small (k .loop .before) b), omega arith)
-
-returns-3 : tie.Need-returns-3 Inv-loop μ-loop
-unfolding pathOk
-returns-3 c =
-    let k = c .before in
-    let p = k .before .before .before .before .args .p .now in
-    let e : k .loop .bad ≡ faults 47 p = omega (arith, k .loop .inv .0, faults-end (k .loop .before) p (k .loop .i) (c .loop-test .left)) in
-    rw (e, le-leb _ _ (k .before .before .if1 .left), le-leb _ _ (k .before .if2 .left)) (no-faults 47 p)
+returns-5 : tie.Need-returns-5
+returns-5 c =
+    c .parted .ensures
+    ∙ sym (by-parts (c .before .before .before .before .before .before .before .before .args .p .now) (omega arith) (omega arith)
+    ∙ rw (said-yes (c .before .before .whole .ensures) (c .before .if4 .left)))
 
 pub path-ok-spec : {M : Type 1} → statement M
 path-ok-spec =
     tie.close
     (tie.spec
-    Inv-loop
-    μ-loop
     returns
     returns-2
-    loop-holds
-    shared-slice-read-b
-    fault-requires
-    add-bad
-    add-i
-    loop-less
-    loop-again
-    returns-3)
+    plain-requires
+    returns-3
+    whole-requires
+    returns-4
+    parted-requires
+    returns-5)

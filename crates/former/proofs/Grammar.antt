@@ -1,0 +1,127 @@
+-- `characters`, which finds a row by a character's first byte, accepts just what the grammar of RFC 3629 has. Assumes nothing.
+use Prim.Native.Nat.{ℕ, zero, suc, _<_}
+use mathlib.Core.Path.{_≡_, refl, ap, subst}
+use mathlib.Core.Bool.{Bool, true, false, not, _&&_, _||_, or-true, false≢true}
+use mathlib.Core.List.{List, [], _∷_, _++_}
+use native.Mathlib.Nat.{not-suc-le-zero}
+use native.Mathlib.Omega.{arith}
+use lib.Dec.{leb, eqb}
+use borrow.Author.Tests.{eqb-true, eqb-false, leb-true}
+use Rattle.row.proofs.RowLaws.{and-left, and-right, and-both}
+use Rattle.machine.specs.Names.{Bytes, Range, Form, _to_, within, forms, opens, behind, characters}
+use Rattle.former.specs.Abnf.{Row, this, other, Each, none, byte, Octets, end, char}
+
+-- what is due, then characters
+record Begun (due : List Range) (p : Bytes) : Type 0 where
+  start : Bytes
+  left : Bytes
+  is : start ++ left ≡ p
+  each : Each due start
+  octets : Octets left
+
+record Opened (fs : List Form) (b : ℕ) : Type 0 where
+  first : Range
+  row : Row fs first (behind fs b)
+  holds : within first b ≡ true
+
+opened : (fs : List Form) (b : ℕ) → opens fs b ≡ true → Opened fs b
+opened [] b e = absurd (false≢true e)
+opened ((first, rest) ∷ fs) b e = go (within first b) refl (opened fs b) e
+  where
+    go : (k : Bool) → within first b ≡ k → (opens fs b ≡ true → Opened fs b) → (k || opens fs b) ≡ true → Opened ((first, rest) ∷ fs) b
+    go true w more e = record { first = first; row = rw w this; holds = w }
+    go false w more e =
+        let o = more e in
+        record { first = o .first; row = rw w (other (o .row)); holds = o .holds }
+
+sound : (due : List Range) (p : Bytes) → characters due p ≡ true → Begun due p
+sound [] [] e = record { start = []; left = []; is = refl; each = none; octets = end }
+sound (r ∷ due) [] e = absurd (false≢true e)
+sound (r ∷ due) (b ∷ p) e =
+    let rest = sound due p (and-right (within r b) _ e) in
+    record { start = b ∷ rest .start; left = rest .left; is = ap (λ (q : Bytes). b ∷ q) (rest .is); each = byte (and-left (within r b) _ e) (rest .each); octets = rest .octets }
+sound [] (b ∷ p) e =
+    let o = opened forms b (and-left (opens forms b) _ e) in
+    let rest = sound (behind forms b) p (and-right (opens forms b) _ e) in
+    record { start = []; left = b ∷ p; is = refl; each = none; octets = subst Octets (ap (λ (q : Bytes). b ∷ q) (rest .is)) (char (o .row) (byte (o .holds) (rest .each)) (rest .octets)) }
+
+pub characters-octets : (p : Bytes) → characters [] p ≡ true → Octets p
+characters-octets p e = go (sound [] p e)
+  where
+    go : Begun [] p → Octets p
+    go g = first (g .start) (g .each) (g .is)
+      where
+        first : (s : Bytes) → Each [] s → s ++ g .left ≡ p → Octets p
+        first [] none q = subst Octets q (g .octets)
+
+-- no two rows share a first byte: for each row and each byte
+below : (f : ℕ → Bool) (n : ℕ) → Bool
+below f zero = true
+below f (suc n) = f n && below f n
+
+passes : (f : ℕ → Bool) (n : ℕ) → below f n ≡ true → (k : ℕ) → k < n → f k ≡ true
+unfolding below
+passes f zero e k h = absurd (not-suc-le-zero h)
+passes f (suc n) e k h = go (eqb k n) refl (passes f n (and-right (f n) (below f n) e) k)
+  where
+    go : (t : Bool) → eqb k n ≡ t → (k < n → f k ≡ true) → f k ≡ true
+    go true q less = rw (eqb-true k n q) (and-left (f n) (below f n) e)
+    go false q less =
+        let apart : k ≡ n → ⊥ = eqb-false k n q in
+        less (omega arith)
+
+same : List Range → List Range → Bool
+same [] [] = true
+same [] (r ∷ rs) = false
+same (r ∷ rs) [] = false
+same ((a to b) ∷ rs) ((c to d) ∷ ss) = eqb a c && eqb b d && same rs ss
+
+same-is : (rs ss : List Range) → same rs ss ≡ true → rs ≡ ss
+unfolding same
+same-is [] [] e = refl
+same-is [] (r ∷ ss) e = absurd (false≢true e)
+same-is (r ∷ rs) [] e = absurd (false≢true e)
+same-is ((a to b) ∷ rs) ((c to d) ∷ ss) e =
+    let ends = and-left (eqb a c && eqb b d) (same rs ss) e in
+    rw (eqb-true a c (and-left (eqb a c) (eqb b d) ends), eqb-true b d (and-right (eqb a c) (eqb b d) ends), same-is rs ss (and-right (eqb a c && eqb b d) (same rs ss) e))
+
+bytes : Range → Bool
+bytes (low to high) = leb high 255
+
+alone : Range → List Range → ℕ → Bool
+alone first rest b = not (within first b) || same (behind forms b) rest
+
+apart : List Form → Bool
+apart [] = true
+apart ((first, rest) ∷ fs) = bytes first && below (alone first rest) 256 && apart fs
+
+all-apart : apart forms ≡ true
+unfolding apart alone below same bytes
+all-apart = refl
+
+is-byte : (r : Range) (b : ℕ) → bytes r ≡ true → within r b ≡ true → b < 256
+unfolding bytes
+is-byte (low to high) b e w = omega (arith, leb-true high 255 e, leb-true b high (and-right (leb low b) (leb b high) w))
+
+row-of : {fs : List Form} {first : Range} {rest : List Range} (b : ℕ) → Row fs first rest → apart fs ≡ true → within first b ≡ true → behind forms b ≡ rest
+unfolding apart alone
+row-of b (this {first} {rest} {fs}) e w =
+    let here = and-left (bytes first && below (alone first rest) 256) (apart fs) e in
+    let h : b < 256 = is-byte first b (and-left (bytes first) _ here) w in
+    let t : alone first rest b ≡ true = passes (alone first rest) 256 (and-right (bytes first) _ here) b h in
+    same-is (behind forms b) rest (rw w at t)
+row-of b (other {f} {fs = fs} r) e w = row-of b r (and-right (bytes (f .0) && below (alone (f .0) (f .1)) 256) (apart fs) e) w
+
+row-opens : {fs : List Form} {first : Range} {rest : List Range} (b : ℕ) → Row fs first rest → within first b ≡ true → opens fs b ≡ true
+row-opens b this w = rw w
+row-opens b (other {f} r) w = rw (row-opens b r w) (or-true (within (f .0) b))
+
+passed : (due : List Range) (c p : Bytes) → Each due c → characters [] p ≡ true → characters due (c ++ p) ≡ true
+passed [] [] p none e = e
+passed (r ∷ due) (b ∷ c) p (byte w each) e = and-both (within r b) _ w (passed due c p each e)
+
+pub octets-characters : (p : Bytes) → Octets p → characters [] p ≡ true
+octets-characters [] end = refl
+octets-characters q (char {first} {rest} {c} {p} row (byte {b = b} {c = d} w each) octets) =
+    and-both (opens forms b) _ (row-opens b row w)
+    (rw (row-of b row all-apart w) (passed rest d p each (octets-characters p octets)))

@@ -1,0 +1,2 @@
+pub mod FormerWhole
+pub mod Grammar

@@ -1,0 +1,61 @@
+-- The test "whole" over a rule of paths: the present one, and the one before E2. Assumes nothing.
+use Prim.Native.Nat.{ℕ, _+_}
+use mathlib.Core.Bool.{Bool, cond}
+use mathlib.Core.List.{List, [], _∷_}
+use lib.Dec.{leb, ltb, eqb}
+use lib.ListN.{length, drop}
+use Rattle.order.specs.Order.{byBytes, same}
+use Rattle.machine.specs.Names.{Bytes, formerPathOk}
+use Rattle.row.specs.declared.Head.{Head}
+use Rattle.row.specs.Row.{Row, headOf, good}
+use Rattle.layout.specs.declared.Mark.{Mark}
+use Rattle.layout.specs.Header.{headerLength, headerAt}
+use Rattle.layout.specs.Rules.{plainKind, joinedKind, uploadKind, partsMost, all, isLess, noDigest, partRule, objectNext, entryNext, start}
+use Rattle.layout.specs.Memory.{tablesLength, headerOk, uploadsAmong, uploadRowsAt, uploadTables, uploadArena}
+
+-- the rules of rows and the test "whole" of layout/specs, with `pathIs` for the rule of paths
+module _ (pathIs : Bytes → Bool) where
+  unfoldable pub objectRuleBy : (last : List ℕ) → Head → (path : List ℕ) → Bool
+  objectRuleBy last h path =
+      all
+      (eqb (h .number) 0
+      ∷ leb 1 (h .stamp)
+      ∷ leb (h .kind) joinedKind
+      ∷ leb (h .count) (cond (eqb (h .kind) plainKind) 0 partsMost)
+      ∷ pathIs path
+      ∷ isLess (byBytes last path)
+      ∷ [])
+
+  unfoldable pub uploadRuleBy : (N : ℕ) → Mark → Head → (digest path : List ℕ) → Bool
+  uploadRuleBy N m h digest path =
+      all
+      (eqb (h .size) 0
+      ∷ eqb (h .count) 0
+      ∷ leb 1 (h .stamp)
+      ∷ ltb (m .upload) (h .number)
+      ∷ ltb (h .number) N
+      ∷ pathIs path
+      ∷ same digest noDigest
+      ∷ [])
+
+  unfoldable pub entryRuleBy : (N : ℕ) → Mark → Head → (digest path : List ℕ) → Bool
+  entryRuleBy N m h digest path = cond (eqb (h .kind) uploadKind) (uploadRuleBy N m h digest path) (partRule m h)
+
+  abbrev pub objectOkBy : (last : List ℕ) → Row → Bool
+  objectOkBy last r = objectRuleBy last (headOf r) (r .path)
+
+  abbrev pub entryOkBy : (N : ℕ) → Mark → Row → Bool
+  entryOkBy N m r = entryRuleBy N m (headOf r) (r .digest) (r .path)
+
+  unfoldable pub wholeBy : (t a : List ℕ) → Bool
+  wholeBy t a =
+      all
+      (headerOk tablesLength (length t) (length a) (headerAt t)
+      ∷ good (List ℕ) objectOkBy objectNext (headerAt t .objects) [] (drop headerLength t) a
+      ∷ good Mark (entryOkBy (headerAt t .next)) entryNext (headerAt t .uploads + headerAt t .parts) start (uploadTables t a) (uploadArena t a)
+      ∷ eqb (uploadsAmong (uploadRowsAt t a)) (headerAt t .uploads)
+      ∷ [])
+
+-- the test "whole" before E2
+unfoldable pub formerWhole : (t a : List ℕ) → Bool
+formerWhole t a = wholeBy formerPathOk t a

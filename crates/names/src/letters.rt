@@ -1,0 +1,148 @@
+// Characters of UTF-8, one after the other: the slow test, of paths that are not of visible ASCII alone.
+ghost use mathlib.Core.Path.{_≡_};
+ghost use mathlib.Core.Bool.{_&&_};
+ghost use mathlib.Core.List.{[]};
+ghost use Prim.Native.Nat.{_≤_, _<_};
+ghost use lib.Dec.{leb};
+ghost use lib.ListN.{length};
+ghost use Rattle.machine.specs.Names.{characters, apart};
+ghost use Rattle.names.specs.Letters.{widthOf, leastOf, mostOf, Letter};
+ghost use Rattle.names.specs.Doubles.{doubledOf};
+
+// How many bytes the character that b begins has: 0 if it begins none.
+fn width(b: u8) -> usize
+    ensures { λ r. ⌜ r ≡ widthOf b ⌝ }
+{
+    if b < 33 {
+        return 0;
+    }
+    if b < 127 {
+        return 1;
+    }
+    if b < 194 {
+        return 0;
+    }
+    if b < 224 {
+        return 2;
+    }
+    if b < 240 {
+        return 3;
+    }
+    if b < 245 {
+        return 4;
+    }
+    0
+}
+
+// The least second byte behind b.
+fn least(b: u8) -> u8
+    ensures { λ r. ⌜ r ≡ leastOf b ⌝ }
+{
+    if b == 194 {
+        return 160;
+    }
+    if b == 224 {
+        return 160;
+    }
+    if b == 240 {
+        return 144;
+    }
+    128
+}
+
+// The last second byte behind b.
+fn most(b: u8) -> u8
+    ensures { λ r. ⌜ r ≡ mostOf b ⌝ }
+{
+    if b == 237 {
+        return 159;
+    }
+    if b == 244 {
+        return 143;
+    }
+    191
+}
+
+fn between(low: u8, b: u8, high: u8) -> bool
+    ensures { λ r. ⌜ r ≡ (leb low b && leb b high) ⌝ }
+{
+    if b < low {
+        return false;
+    }
+    b <= high
+}
+
+// How many bytes the character at i has: 0 if none stands there.
+fn letter(p: &[u8], i: usize) -> usize
+    requires { ⌜ i < length (now p) ⌝ }
+    ensures { λ r. ⌜ Letter (now (p .entry)) i r ⌝ }
+{
+    let b = p[i];
+    let w = width(b);
+    if p.len() - i < w {
+        return 0;
+    }
+    if w < 2 {
+        return w;
+    }
+    if !between(least(b), p[i + 1], most(b)) {
+        return 0;
+    }
+    if w < 3 {
+        return w;
+    }
+    if !between(128, p[i + 2], 191) {
+        return 0;
+    }
+    if w < 4 {
+        return w;
+    }
+    if !between(128, p[i + 3], 191) {
+        return 0;
+    }
+    w
+}
+
+// Whether p is characters from its start to its end.
+pub(crate) fn whole(p: &[u8]) -> bool
+    ensures { λ r. ⌜ r ≡ characters [] (now (p .entry)) ⌝ }
+{
+    let mut i = 0;
+    while i < p.len() {
+        let w = letter(p, i);
+        if w == 0 {
+            return false;
+        }
+        i += w;
+    }
+    true
+}
+
+// 1 where a "/" stands behind a "/".
+fn doubled(before: u8, b: u8) -> u8
+    ensures { λ r. ⌜ r ≡ doubledOf before b ⌝ }
+{
+    if before == 47 {
+        if b == 47 {
+            return 1;
+        }
+    }
+    0
+}
+
+// Whether no "/" stands behind another, nor first.
+pub(crate) fn parted(p: &[u8]) -> bool
+    requires { ⌜ length (now p) ≤ 128 ⌝ }
+    ensures { λ r. ⌜ r ≡ apart 47 (now (p .entry)) ⌝ }
+{
+    let mut before: u8 = 47;
+    let mut bad: u8 = 0;
+    let mut i = 0;
+    while i < p.len() {
+        let b = p[i];
+        bad += doubled(before, b);
+        before = b;
+        i += 1;
+    }
+    bad == 0
+}

@@ -5,7 +5,7 @@ ghost use mathlib.Core.List.{[]};
 ghost use Prim.Native.Nat.{_≤_, _<_};
 ghost use lib.Dec.{leb};
 ghost use lib.ListN.{length};
-ghost use Rattle.machine.specs.Names.{characters, apart};
+ghost use Rattle.machine.specs.Names.{characters, apart, pathOk};
 ghost use Rattle.names.specs.Letters.{widthOf, leastOf, mostOf, Letter};
 ghost use Rattle.names.specs.Doubles.{doubledOf};
 
@@ -104,7 +104,7 @@ fn letter(p: &[u8], i: usize) -> usize
 }
 
 // Whether p is characters from its start to its end.
-pub(crate) fn whole(p: &[u8]) -> bool
+fn whole(p: &[u8]) -> bool
     ensures { λ r. ⌜ r ≡ characters [] (now (p .entry)) ⌝ }
 {
     let mut i = 0;
@@ -131,7 +131,7 @@ fn doubled(before: u8, b: u8) -> u8
 }
 
 // Whether no "/" stands behind another, nor first.
-pub(crate) fn parted(p: &[u8]) -> bool
+fn parted(p: &[u8]) -> bool
     requires { ⌜ length (now p) ≤ 128 ⌝ }
     ensures { λ r. ⌜ r ≡ apart 47 (now (p .entry)) ⌝ }
 {
@@ -145,4 +145,15 @@ pub(crate) fn parted(p: &[u8]) -> bool
         i += 1;
     }
     bad == 0
+}
+
+// Whether p, of 1 to 128 bytes, is a path.
+pub(crate) fn path(p: &[u8]) -> bool
+    requires { ⌜ (1 ≤ length (now p)) × (length (now p) ≤ 128) ⌝ }
+    ensures { λ r. ⌜ r ≡ pathOk (now (p .entry)) ⌝ }
+{
+    if !whole(p) {
+        return false;
+    }
+    parted(p)
 }

@@ -3,6 +3,8 @@ mod letters;
 mod plain;
 
 ghost use mathlib.Core.Path.{_≡_};
+ghost use Prim.Native.Nat.{_-_, _≤_};
+ghost use lib.ListN.{length, take, drop};
 ghost use Rattle.machine.specs.Names.{pathOk, requestPathOk, newPathOk, storedPathOk, stampOk, numberOk, requestPartOk, storedPartOk};
 
 // Whether p is a path. Most are visible ASCII alone, which is seen in one pass.
@@ -19,10 +21,7 @@ fn path_ok(p: &[u8]) -> bool
     if plain::plain(p) {
         return true;
     }
-    if !letters::whole(p) {
-        return false;
-    }
-    letters::parted(p)
+    letters::path(p)
 }
 
 // A path that GET, HEAD, DELETE or COPY's source may name.
@@ -44,6 +43,24 @@ pub fn stored_path_ok(p: &[u8]) -> bool
     ensures { λ r. ⌜ r ≡ storedPathOk (now (p .entry)) ⌝ }
 {
     path_ok(p)
+}
+
+// The same of the bytes of t from `from` to `to`, which stand after 33 others or more.
+pub fn stored_path_ok_at(t: &[u8], from: usize, to: usize) -> bool
+    requires { ⌜ (33 ≤ from) × (from ≤ to) × (to ≤ length (now t)) ⌝ }
+    ensures { λ r. ⌜ r ≡ storedPathOk (take (to - from) (drop from (now (t .entry)))) ⌝ }
+{
+    let n = to - from;
+    if n < 1 {
+        return false;
+    }
+    if 128 < n {
+        return false;
+    }
+    if plain::plain_at(t, from, to) {
+        return true;
+    }
+    letters::path(&t[from..to])
 }
 
 // Whether it is a stamp: 0 is none.

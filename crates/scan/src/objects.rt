@@ -2,9 +2,9 @@
 ghost use mathlib.Core.Path.{_≡_};
 ghost use mathlib.Core.Bool.{cond};
 ghost use mathlib.Core.List.{[]};
-ghost use Prim.Native.Nat.{_≤_};
+ghost use Prim.Native.Nat.{_-_, _≤_};
 ghost use lib.Dec.{eqb};
-ghost use lib.ListN.{length};
+ghost use lib.ListN.{length, take, drop};
 ghost use Rattle.order.specs.Order.{byBytes};
 ghost use Rattle.layout.specs.Rules.{plainKind, partsMost, isLess, objectRule};
 ghost use Rattle.scan.specs.Scan.{objectScan};
@@ -37,9 +37,10 @@ fn ascend(a: &[u8], b: &[u8]) -> bool
     }
 }
 
-// Whether the row of an object may stand after one whose path is `last`.
-fn object_ok(last: &[u8], h: Head, path: &[u8]) -> bool
-    ensures { λ r. ⌜ r ≡ objectRule (now (last .entry)) h (now (path .entry)) ⌝ }
+// Whether the row of an object, with its path from `path` to `end`, may stand after one whose path is `last`.
+fn object_ok(last: &[u8], h: Head, t: &[u8], path: usize, end: usize) -> bool
+    requires { ⌜ (33 ≤ path) × (path ≤ end) × (end ≤ length (now t)) ⌝ }
+    ensures { λ r. ⌜ r ≡ objectRule (now (last .entry)) h (take (end - path) (drop path (now (t .entry)))) ⌝ }
 {
     if h.number != 0 {
         return false;
@@ -53,10 +54,10 @@ fn object_ok(last: &[u8], h: Head, path: &[u8]) -> bool
     if most_parts(h.kind) < h.count {
         return false;
     }
-    if !names::stored_path_ok(path) {
+    if !names::stored_path_ok_at(t, path, end) {
         return false;
     }
-    ascend(last, path)
+    ascend(last, &t[path..end])
 }
 
 // Whether the rows of objects stand from `from` on, and where they end. The path of the row passed stands just before
@@ -75,7 +76,7 @@ pub(crate) fn scan_objects(t: &[u8], arena: &[u8], from: Offset, rows: u16) -> S
         };
         let path = at + row::HEAD_LENGTH;
         let end = path + h.pathlen as usize;
-        if !object_ok(&t[last..at], h, &t[path..end]) {
+        if !object_ok(&t[last..at], h, t, path, end) {
             return Scan::Bad;
         }
         last = path;

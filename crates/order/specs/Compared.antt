@@ -1,8 +1,8 @@
 -- What the code's comparisons answer. Assumes nothing.
-use Prim.Native.Nat.{ℕ, Ordering, Ordering·lt, Ordering·eq, Ordering·gt, _≤_, _<_}
+use Prim.Native.Nat.{ℕ, _+_, Ordering, Ordering·lt, Ordering·eq, Ordering·gt, _≤_, _<_}
 use mathlib.Core.Path.{_≡_}
 use mathlib.Core.List.{List}
-use lib.ListN.{length, take, getD}
+use lib.ListN.{length, take, drop, getD}
 use Rattle.order.specs.declared.Order.{Order}
 use Rattle.order.specs.declared.Order.the-variants.{Less, Equal, Greater}
 
@@ -12,9 +12,21 @@ orderOf Ordering·lt = Less
 orderOf Ordering·eq = Equal
 orderOf Ordering·gt = Greater
 
--- a and b agree on just their first r bytes
-pub record Common (a b : List ℕ) (r : ℕ) : Type 0 where
-  pub in-a : r ≤ length a
-  pub in-b : r ≤ length b
+-- of their first n bytes, a and b agree on just the first r
+pub record Common (a b : List ℕ) (n r : ℕ) : Type 0 where
+  pub inside : r ≤ n
   pub alike : take r a ≡ take r b
-  pub differ : r < length a → r < length b → getD a r 0 ≡ getD b r 0 → ⊥
+  pub differ : r < n → getD a r 0 ≡ getD b r 0 → ⊥
+
+-- a and b agree on the first r bytes, and not on eight more of the first n
+pub record CommonWords (a b : List ℕ) (n r : ℕ) : Type 0 where
+  pub inside : r ≤ n
+  pub alike : take r a ≡ take r b
+  pub differ : r + 8 ≤ n → take 8 (drop r a) ≡ take 8 (drop r b) → ⊥
+
+-- a and b agree on the first n bytes, and one has no more
+pub record SameStart (a b : List ℕ) (n : ℕ) : Type 0 where
+  pub in-a : n ≤ length a
+  pub in-b : n ≤ length b
+  pub alike : take n a ≡ take n b
+  pub one-ends : n < length a → length b ≤ n

@@ -1,9 +1,11 @@
 // Byte strings compared.
 ghost use mathlib.Core.Path.{_≡_};
-ghost use Prim.Native.Nat.{_≤_};
-ghost use lib.ListN.{length, take};
+ghost use Prim.Native.Nat.{_+_, _≤_, min};
+ghost use lib.ListN.{length, take, drop};
 ghost use Rattle.order.specs.Order.{byBytes, same, begins, ends};
-ghost use Rattle.order.specs.Compared.{Common, orderOf};
+ghost use Rattle.order.specs.Compared.{Common, CommonWords, SameStart, orderOf};
+ghost use Rattle.order.specs.Big.{fromBe};
+ghost use Rattle.number.specs.Number.{le};
 
 // How a stands to b.
 pub enum Order {
@@ -12,32 +14,47 @@ pub enum Order {
     Greater,
 }
 
-// How many bytes a and b have in common at their start, in steps of eight.
-fn common_words(a: &[u8], b: &[u8]) -> usize
-    ensures { λ r. ⌜ (r ≤ length (now (a .entry))) × ((r ≤ length (now (b .entry))) × (take r (now (a .entry)) ≡ take r (now (b .entry)))) ⌝ }
+// The bytes of x turned, at each width: read high byte first, they stand for what they stood for low byte first.
+fn swap_u16(x: u16) -> u16
+    ensures { λ r. ⌜ r ≡ fromBe (le 2 x) ⌝ }
 {
-    let mut i = 0;
-    while i + 8 <= a.len() {
-        if b.len() < i + 8 {
-            return i;
-        }
-        if number::get_u64(a, i) != number::get_u64(b, i) {
-            return i;
-        }
-        i += 8;
-    }
-    i
+    256 * (x % 256) + x / 256
 }
 
-// How many bytes a and b have in common at their start.
-fn common(a: &[u8], b: &[u8]) -> usize
-    ensures { λ r. ⌜ Common (now (a .entry)) (now (b .entry)) r ⌝ }
+fn swap_u32(x: u32) -> u32
+    ensures { λ r. ⌜ r ≡ fromBe (le 4 x) ⌝ }
 {
-    let mut i = common_words(a, b);
-    while i < a.len() {
-        if b.len() <= i {
-            return i;
-        }
+    65536 * (swap_u16((x % 65536) as u16) as u32) + swap_u16((x / 65536) as u16) as u32
+}
+
+fn swap_u64(x: u64) -> u64
+    ensures { λ r. ⌜ r ≡ fromBe (le 8 x) ⌝ }
+{
+    4294967296 * (swap_u32((x % 4294967296) as u32) as u64)
+        + swap_u32((x / 4294967296) as u32) as u64
+}
+
+// The number in the eight bytes of b from `at` on, high byte first.
+fn big_u64(b: &[u8], at: usize) -> u64
+    requires { ⌜ at + 8 ≤ length (now b) ⌝ }
+    ensures { λ r. ⌜ r ≡ fromBe (take 8 (drop at (now (b .entry)))) ⌝ }
+{
+    swap_u64(number::get_u64(b, at))
+}
+
+fn least(i: usize, j: usize) -> usize
+    ensures { λ r. ⌜ r ≡ min i j ⌝ }
+{
+    if i < j { i } else { j }
+}
+
+// How many of the first n bytes a and b have in common at their start.
+fn common_bytes(a: &[u8], b: &[u8], n: usize) -> usize
+    requires { ⌜ (n ≤ length (now a)) × (n ≤ length (now b)) ⌝ }
+    ensures { λ r. ⌜ Common (now (a .entry)) (now (b .entry)) n r ⌝ }
+{
+    let mut i = 0;
+    while i < n {
         if a[i] != b[i] {
             return i;
         }
@@ -46,24 +63,61 @@ fn common(a: &[u8], b: &[u8]) -> usize
     i
 }
 
-// Which of a and b is first, byte by byte; a string is before those that it begins.
+// The same, in steps of eight.
+fn common_words(a: &[u8], b: &[u8], n: usize) -> usize
+    requires { ⌜ (n ≤ length (now a)) × (n ≤ length (now b)) ⌝ }
+    ensures { λ r. ⌜ CommonWords (now (a .entry)) (now (b .entry)) n r ⌝ }
+{
+    let mut i = 0;
+    while 8 <= n - i {
+        if number::get_u64(a, i) != number::get_u64(b, i) {
+            return i;
+        }
+        i += 8;
+    }
+    i
+}
+
+// How a stands to b, where their first n bytes are the same and one has no more.
+fn by_length(a: &[u8], b: &[u8], n: usize) -> Order
+    requires { ⌜ SameStart (now a) (now b) n ⌝ }
+    ensures { λ r. ⌜ r ≡ orderOf (byBytes (now (a .entry)) (now (b .entry))) ⌝ }
+{
+    if n < a.len() {
+        return Order::Greater;
+    }
+    if n < b.len() {
+        return Order::Less;
+    }
+    Order::Equal
+}
+
+// Which of a and b is first, byte by byte; a string is before those that it begins. From eight bytes on, the first words that differ tell,
+// read high byte first; the last word overlaps the one before it.
 pub fn compare(a: &[u8], b: &[u8]) -> Order
     ensures { λ r. ⌜ r ≡ orderOf (byBytes (now (a .entry)) (now (b .entry))) ⌝ }
 {
-    let i = common(a, b);
-    if a.len() <= i {
-        if b.len() <= i {
-            return Order::Equal;
+    let n = least(a.len(), b.len());
+    if n < 8 {
+        let i = common_bytes(a, b, n);
+        if n <= i {
+            return by_length(a, b, n);
         }
-        return Order::Less;
-    }
-    if b.len() <= i {
+        if a[i] < b[i] {
+            return Order::Less;
+        }
         return Order::Greater;
     }
-    if a[i] < b[i] {
+    let k = least(common_words(a, b, n), n - 8);
+    let x = big_u64(a, k);
+    let y = big_u64(b, k);
+    if x < y {
         return Order::Less;
     }
-    Order::Greater
+    if y < x {
+        return Order::Greater;
+    }
+    by_length(a, b, n)
 }
 
 // Whether they are the same bytes.
@@ -73,10 +127,11 @@ pub fn equal(a: &[u8], b: &[u8]) -> bool
     if a.len() != b.len() {
         return false;
     }
-    if common(a, b) < a.len() {
-        return false;
+    match compare(a, b) {
+        Order::Less => false,
+        Order::Equal => true,
+        Order::Greater => false,
     }
-    true
 }
 
 // Whether s begins with the prefix.

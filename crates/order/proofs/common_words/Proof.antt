@@ -1,30 +1,24 @@
 -- `order::common_words` meets its contract. The invariant: the first i bytes are the same. Assumes nothing.
-use mathlib.Core.Path.{_≡_, refl, sym, _∙_}
-use Rattle.order.proofs.Strings.{same-word}
+use mathlib.Core.Path.{_≡_, refl, sym, ap, _∙_}
 use Prim.Native.Nat.{_-_, _≤_}
-use lib.ListN.{length, take}
+use lib.ListN.{length, take, drop}
+use Rattle.order.proofs.Strings.{same-word}
+use Rattle.number.specs.Number.{fromLe}
 use native.Mathlib.Omega.{arith}
-use borrow.Author.Needs.{needs}
 use Rattle.order.proofs.common_words.Statement.{statement}
 use Rattle.order.proofs.common_words.Tie as tie
 
 abbrev Inv-loop : tie.InvT-loop
-Inv-loop a b i₀ i = (i ≤ length a) × (i ≤ length b) × (take i a ≡ take i b)
+Inv-loop a b n i₀ i = (i ≤ n) × (take i a ≡ take i b)
 
 abbrev μ-loop : tie.MeasureT-loop
-μ-loop a b i₀ i = length a - i
+μ-loop a b n i₀ i = n - i
 
 loop-holds : tie.Need-loop-holds Inv-loop μ-loop
-loop-holds c = (omega arith, omega arith, refl)
+loop-holds c = (omega arith, refl)
 
-add-loop : tie.Need-add-loop Inv-loop μ-loop
-add-loop c = omega arith
-
-add-if1 : tie.Need-add-if1 Inv-loop μ-loop
-add-if1 c = omega arith
-
-returns : tie.Need-returns Inv-loop μ-loop
-returns c = search needs
+sub-loop : tie.Need-sub-loop Inv-loop μ-loop
+sub-loop c = omega arith
 
 get-u64-requires : tie.Need-get-u64-requires Inv-loop μ-loop
 get-u64-requires c κs = omega arith
@@ -32,8 +26,14 @@ get-u64-requires c κs = omega arith
 get-u64-requires-2 : tie.Need-get-u64-requires-2 Inv-loop μ-loop
 get-u64-requires-2 c κs = omega arith
 
-returns-2 : tie.Need-returns-2 Inv-loop μ-loop
-returns-2 c = search needs
+returns : tie.Need-returns Inv-loop μ-loop
+returns c =
+    let l = c .before .before .before .before .loop in
+    record {
+      inside = omega arith;
+      alike = l .inv .1;
+      differ = λ h e. c .if1 .taken (c .before .before .get-u64 .ensures ∙ ap fromLe e ∙ sym (c .before .get-u642 .ensures));
+    }
 
 add-i : tie.Need-add-i Inv-loop μ-loop
 add-i c = omega arith
@@ -43,16 +43,17 @@ loop-less c = omega arith
 
 loop-again : tie.Need-loop-again Inv-loop μ-loop
 loop-again c =
-    let l = c .before .before .before .before .before .loop in
-    let a = c .before .before .before .before .before .before .before .before .args in (
+    let k = c .before .before .before .before in
+    let a = k .before .before .before .args in (
       omega arith,
-      omega arith,
-      same-word (a .a .now) (a .b .now) (l .i) 8 (λ i. c .before .before .before .before .before .before .before .shared-slice-known .given i .fits) (λ i. c .before .before .before .before .before .before .shared-slice-known2 .given i .fits) (omega arith) (omega arith) (l .inv .2)
-          (sym (c .before .before .get-u64 .ensures) ∙ c .if2 .left ∙ c .before .get-u642 .ensures),
+      same-word (a .a .now) (a .b .now) (k .loop .i) 8 (λ i. k .before .before .shared-slice-known .given i .fits) (λ i. k .before .shared-slice-known2 .given i .fits) (omega arith) (omega arith) (k .loop .inv .1)
+          (sym (c .before .before .get-u64 .ensures) ∙ c .if1 .left ∙ c .before .get-u642 .ensures),
     )
 
-returns-3 : tie.Need-returns-3 Inv-loop μ-loop
-returns-3 c = search needs
+returns-2 : tie.Need-returns-2 Inv-loop μ-loop
+returns-2 c =
+    let k = c .before in
+    record { inside = omega arith; alike = k .loop .inv .1; differ = λ h. absurd (omega arith) }
 
 pub common-words-spec : {M : Type 1} → statement M
 common-words-spec =
@@ -61,13 +62,11 @@ common-words-spec =
     Inv-loop
     μ-loop
     loop-holds
-    add-loop
-    add-if1
-    returns
+    sub-loop
     get-u64-requires
     get-u64-requires-2
-    returns-2
+    returns
     add-i
     loop-less
     loop-again
-    returns-3)
+    returns-2)

@@ -1,27 +1,52 @@
--- `order::equal` meets its contract: strings of one length are equal where all their bytes are in common. Assumes nothing.
-use Rattle.order.proofs.Strings.{other-length, other-at, both-end-same}
+-- `order::equal` meets its contract: strings of one length are equal where they compare so. Assumes nothing.
 use native.Mathlib.Omega.{arith}
+use Rattle.order.proofs.Strings.{other-length}
+use Rattle.order.proofs.Answers.{same-answered}
 use borrow.Author.Needs.{needs}
 use Rattle.order.proofs.equal.Statement.{statement}
 use Rattle.order.proofs.equal.Tie as tie
 
 returns : tie.Need-returns
-returns c = other-length (c .before .before .before .args .a .now) (c .before .before .before .args .b .now) (omega arith)
+returns c =
+    let a = c .before .before .before .args in
+    other-length (a .a .now) (a .b .now) (omega arith)
 
-common-requires : tie.Need-common-requires
-common-requires c κs = search needs
+compare-requires : tie.Need-compare-requires
+compare-requires c κs = search needs
+
+enum-told : tie.Need-enum-told
+enum-told c = search needs
+
+enum-told-2 : tie.Need-enum-told-2
+enum-told-2 c = search needs
+
+enum-told-3 : tie.Need-enum-told-3
+enum-told-3 c = search needs
 
 returns-2 : tie.Need-returns-2
 returns-2 c =
-    let k = c .before .common in
-    let a = c .before .before .before .before .before .args in
-    other-at (a .a .now) (a .b .now) (k .result) (k .ensures .differ (omega arith) (omega arith))
+    let a = c .before .before .before .before .before .before .args in
+    same-answered (a .a .now) (a .b .now) _ _ (c .before .before .compare .ensures) (c .enum-told .given .1)
 
 returns-3 : tie.Need-returns-3
 returns-3 c =
-    let k = c .before .common in
-    let a = c .before .before .before .before .before .args in
-    both-end-same (a .a .now) (a .b .now) (k .result) (k .ensures .alike) (omega arith) (omega arith)
+    let a = c .before .before .before .before .before .before .args in
+    same-answered (a .a .now) (a .b .now) _ _ (c .before .before .compare .ensures) (c .enum-told2 .given .1)
+
+returns-4 : tie.Need-returns-4
+returns-4 c =
+    let a = c .before .before .before .before .before .before .args in
+    same-answered (a .a .now) (a .b .now) _ _ (c .before .before .compare .ensures) (c .enum-told3 .given .1)
 
 pub equal-spec : {M : Type 1} → statement M
-equal-spec = tie.close (tie.spec returns common-requires returns-2 returns-3)
+equal-spec =
+    tie.close
+    (tie.spec
+    returns
+    compare-requires
+    enum-told
+    enum-told-2
+    enum-told-3
+    returns-2
+    returns-3
+    returns-4)

@@ -27,9 +27,12 @@
  *   length.
  * - A call uses about 10 kilobytes of stack (measured; the tests fail above 16), and always ends.
  *
- * Paths are 1 to 128 bytes, each from 33 to 126, with no '/' first and no two adjacent; the empty path is the root,
- * which only get and head take. They are not C strings: no zero byte ends them. A stamp is a count of seconds since the
- * start of 1970, at least 1. Part numbers are 1 to 11,000.
+ * Paths are 1 to 128 bytes, with no '/' first and no two adjacent: well-formed UTF-8 (RFC 3629) of the characters 33 to
+ * 126 and from 160 (U+00A0) on. The limit counts bytes, not characters, and a character that the end of a path cuts off
+ * makes it bad. Paths are compared and listed by bytes, as they come: the two ways to write an accented letter, as one
+ * character or as two, are two paths. Prefixes and suffixes are any bytes. The empty path is the root, which only get
+ * and head take. Paths are not C strings: no zero byte ends them. A stamp is a count of seconds since the start of 1970,
+ * at least 1. Part numbers are 1 to 11,000.
  *
  * Saving: save all bytes of the tables and the arena together, while no call writes them. Write both to a new file,
  * fsync it, rename it to the name of the saves, and keep the last good save. After bringing both back, ask whether they

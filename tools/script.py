@@ -9,6 +9,10 @@ import hashlib
 import sys
 
 
+# Bytes that are no UTF-8 pass through text as they are.
+ANY = "surrogateescape"
+
+
 class Refused(Exception):
     pass
 
@@ -23,7 +27,12 @@ def need(condition, number):
 
 
 def path_ok(path):
-    return 1 <= len(path) <= 128 and all(33 <= c <= 126 for c in path) and b"//" not in path and path[:1] != b"/"
+    """Document 01's rule with E2's, by Python's own decoder."""
+    try:
+        letters = [ord(c) for c in path.decode("utf-8")]
+    except UnicodeDecodeError:
+        return False
+    return 1 <= len(path) <= 128 and all(33 <= c <= 126 or 160 <= c for c in letters) and b"//" not in path and path[:1] != b"/"
 
 
 def low_first(n, size):
@@ -156,7 +165,7 @@ def places_of(text):
 
 def answer(store, word, fields):
     """What is printed after the line, and the answer buffer (None for none), which starts as dots."""
-    texts = [b"" if f == "~" else f.encode() for f in fields] + [b"", b"", b""]
+    texts = [b"" if f == "~" else f.encode(errors=ANY) for f in fields] + [b"", b"", b""]
     number = int(fields[0]) if fields and fields[0].isdigit() else 0
     if word in ("TABLES", "ARENA"):
         return "", store.memory()[word == "ARENA"][:number]
@@ -193,7 +202,9 @@ def answer(store, word, fields):
 
 WORDS = "TABLES ARENA HEAD GET LIST UPLOADS DELETE PUT COPY INITIATE PART COMMIT ABORT DELETE_OBJECTS".split()
 store = Store(0)
-for line in sys.stdin.read().splitlines():
+for stream in (sys.stdin, sys.stdout):
+    stream.reconfigure(encoding="utf-8", errors=ANY)
+for line in sys.stdin.read().split("\n")[:-1]:
     word, *fields = line.split(" ")
     if word == "FRESH":
         store = Store(int(fields[0]))

@@ -28,7 +28,7 @@ const ROW_FIELDS: [(usize, usize, &[u64]); 8] = [
     (PATH_LENGTH_AT, 1, &[0, 1, 127, 128, 129, 255]),
     (18, 2, &[0, 1, 256, 257]),
     (20, 1, &[0, 1]),
-    (ROW_LEN, 1, &[32, 33, 47, 126, 127]),
+    (ROW_LEN, 1, &[32, 33, 47, 126, 127, 0xc3]),
 ];
 const PATH_LENGTH_AT: usize = 17;
 /// A row without its path.
@@ -63,7 +63,7 @@ pub fn list(seed: u64, index: u64) -> List {
 /// The good paths that a list draws on.
 fn pool(random: &mut Random) -> Vec<Vec<u8>> {
     let few: [&[u8]; 4] = [b"a", b"b", b"ab", b"a/"];
-    let usual: [&[u8]; 14] = [
+    let usual: [&[u8]; 19] = [
         b"a",
         b"a/",
         b"a/b",
@@ -78,6 +78,11 @@ fn pool(random: &mut Random) -> Vec<Vec<u8>> {
         b"recipe/rye",
         b"recipe/rye/",
         b"recipe/roll",
+        "Käsestange".as_bytes(),
+        "pain-au-levain-épicé".as_bytes(),
+        "a\u{a0}".as_bytes(),
+        "\u{10ffff}".as_bytes(),
+        "a/\u{fffd}/b".as_bytes(),
     ];
     match random.below(4) {
         0 => few.map(Vec::from).to_vec(),
@@ -85,6 +90,9 @@ fn pool(random: &mut Random) -> Vec<Vec<u8>> {
             let mut paths = usual.map(Vec::from).to_vec();
             for length in [LONGEST_PATH, LONGEST_PATH, LONGEST_PATH - 1, 8, 9, 16, 17] {
                 paths.push(good_path(random, length));
+            }
+            for length in [LONGEST_PATH, LONGEST_PATH - 1, 31, 32, 33, 64, 65] {
+                paths.push(letters_path(random, length));
             }
             paths
         }
@@ -114,8 +122,50 @@ fn good_path(random: &mut Random, length: usize) -> Vec<u8> {
     path
 }
 
+/// Letters of one to four bytes, at the edges of RFC 3629's rows.
+const LETTERS: [&str; 16] = [
+    "a", "b", "/", "\u{a0}", "ä", "é", "\u{7ff}", "\u{800}", "€", "\u{d7ff}", "\u{e000}", "\u{ffff}",
+    "\u{10000}", "🥐", "\u{fffff}", "\u{10ffff}",
+];
+
+/// A path of this length with letters of all lengths.
+fn letters_path(random: &mut Random, length: usize) -> Vec<u8> {
+    let mut path: Vec<u8> = Vec::new();
+    while path.len() < length {
+        let letter = random.pick(&LETTERS).as_bytes();
+        let slash = letter == b"/" && path.last().is_none_or(|last| *last == b'/');
+        if path.len() + letter.len() <= length && !slash {
+            path.extend(letter);
+        }
+    }
+    path
+}
+
+/// No letters: lone bytes, overlong forms, surrogates, code points below 160 and past 10FFFF, and letters that are cut off.
+const NO_LETTERS: [&[u8]; 20] = [
+    b"\x80", b"\xbf", b"\xc0\xaf", b"\xc1\xbf", b"\xe0\x80\xaf", b"\xe0\x9f\xbf", b"\xf0\x80\x80\xaf", b"\xf0\x8f\xbf\xbf",
+    b"\xed\xa0\x80", b"\xed\xa0\xbd\xed\xb8\x80", b"\xed\xbf\xbf", b"\xc2\x80", b"\xc2\x9f", b"\xf4\x90\x80\x80",
+    b"\xf5\x80\x80\x80", b"\xff", b"\xc3", b"\xe2\x82", b"\xf0\x9f\xa5", b"\xf0\x9f",
+];
+
+/// A good path with a fault in it, or one of 128 bytes that ends amid a letter.
+fn no_letters_path(random: &mut Random) -> Vec<u8> {
+    if random.one_in(4) {
+        let cut: [&[u8]; 4] = [b"\xc3", b"\xe2\x82", b"\xf0\x9f\xa5", b"\xe2"];
+        let cut = *random.pick(&cut);
+        let mut path = good_path(random, LONGEST_PATH - cut.len());
+        path.extend(cut);
+        return path;
+    }
+    let length = 1 + random.below(70);
+    let mut path = good_path(random, length);
+    let at = random.below(length + 1);
+    path.splice(at..at, random.pick(&NO_LETTERS).iter().copied());
+    path
+}
+
 fn bad_path(random: &mut Random) -> Vec<u8> {
-    let bad: [&[u8]; 14] = [
+    let bad: [&[u8]; 13] = [
         b"",
         b"/",
         b"/a",
@@ -127,7 +177,6 @@ fn bad_path(random: &mut Random) -> Vec<u8> {
         b"\x20",
         b"\0",
         b"a\x80",
-        b"\xc3\xa4",
         b"a/b/c//d",
         b"\xff",
     ];
@@ -155,6 +204,7 @@ fn bad_path(random: &mut Random) -> Vec<u8> {
             path[at..at + 2].fill(b'/');
             path
         }
+        6..=11 => no_letters_path(random),
         _ => random.pick(&bad).to_vec(),
     }
 }

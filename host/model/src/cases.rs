@@ -275,10 +275,46 @@ pub fn unmarked() -> Vec<Case> {
                 done(put(1, "~", "")),
                 refused(put(1, "a b", ""), 2),
                 refused(put(1, "a\u{7f}", ""), 2),
-                refused(put(1, "\u{e4}", ""), 2),
                 refused(put(1, "a\0", ""), 2),
             ],
         ),
+        day("letters outside ASCII", {
+            let of_three = format!("{}€", "p".repeat(125));
+            vec![
+                done(put(1, "Käsestange", "")),
+                done(put(2, "pain-au-levain-épicé", "")),
+                gets("Käsestange", "", 1, plain(OF_NOTHING)),
+                done(put(1, "\u{a0}", "")),
+                refused(put(1, "\u{9f}", ""), 2),
+                refused(put(1, "\u{80}", ""), 2),
+                done(put(1, "\u{10ffff}", "")),
+                done(put(1, &of_three, "")),
+                refused(put(1, &format!("p{of_three}"), ""), 2),
+                opens(1, "épicé", 1),
+                done(copy(3, "Käsestange", "ä/ö")),
+                done(delete("Käsestange")),
+                refused(head("Käsestange"), 3),
+            ]
+        }),
+        day("no UTF-8", {
+            let put = |path: &[u8]| Call::Put { stamp: 1, path: path.into(), data: Vec::new() };
+            let cut = |letter: &[u8]| [&[b'p'; 128][..128 - letter.len()], letter].concat();
+            let bad: [&[u8]; 12] = [
+                b"\x80",
+                b"a\xbf",
+                b"a\xc0\xafb",
+                b"\xe0\x80\xaf",
+                b"\xf0\x80\x80\xaf",
+                b"\xed\xa0\xbd\xed\xb8\x80",
+                b"\xed\xbf\xbf",
+                b"\xf4\x90\x80\x80",
+                b"\xf5\x80\x80\x80",
+                b"\xc2\x9f",
+                &cut(b"\xc3"),
+                &cut(b"\xe2\x82"),
+            ];
+            bad.iter().map(|path| refused(put(path), 2)).collect()
+        }),
         day(
             "part numbers",
             vec![

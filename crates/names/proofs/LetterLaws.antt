@@ -2,7 +2,7 @@
 -- Assumes nothing.
 use Prim.Native.Nat.{ℕ, zero, suc, _+_, _≤_, _<_}
 use mathlib.Core.Path.{_≡_, refl, sym, ap, _∙_}
-use mathlib.Core.Bool.{Bool, true, false, not, _&&_, cond, and-false, false≢true}
+use mathlib.Core.Bool.{Bool, true, false, not, _&&_, _||_, cond, and-false, false≢true}
 use mathlib.Core.List.{List, [], _∷_}
 use native.Mathlib.Nat.{not-suc-le-zero, le-of-suc-le-suc}
 use native.Mathlib.Numerals.{add-one}
@@ -10,8 +10,8 @@ use native.Mathlib.Omega.{arith}
 use lib.Dec.{leb, ltb, eqb, lit≤}
 use lib.ListN.{length, getD, take, drop, length-take, length-drop}
 use lib.Seq.{drop-cons}
-use borrow.Author.Tests.{eqb-true, eqb-false, lt-ltb, not-true, not-false}
-use Rattle.machine.specs.Names.{Range, _to_, within, tail, forms, opens, behind, characters}
+use borrow.Author.Tests.{eqb-true, eqb-false, ne-eqb, leb-true, le-leb, ltb-true, lt-ltb, le-ltb, not-true, not-false}
+use Rattle.machine.specs.Names.{Range, _to_, within, tail, forms, opens, behind, characters, apart}
 use Rattle.names.specs.Letters.{widthOf, leastOf, mostOf, due, Letter}
 
 and-left : (a b : Bool) → (a && b) ≡ true → a ≡ true
@@ -178,12 +178,56 @@ second-no b low high c r e l m n = rw (← l, ← m) (sym e ∙ not-true r n)
 pub second-yes : (b low high c : ℕ) (r : Bool) → r ≡ (leb low c && leb c high) → low ≡ leastOf b → high ≡ mostOf b → not r ≡ false → secondOk b c ≡ true
 second-yes b low high c r e l m n = rw (← l, ← m) (sym e ∙ not-false r n)
 
+-- only the first byte of a character can be a "/"
+far : ℕ → Bool
+far b = not (leb 2 (widthOf b)) || (ltb 47 b && ltb 47 (leastOf b))
+
+all-far : below far 256 ≡ true
+unfolding below far widthOf leastOf
+all-far = refl
+
+first-far : (b : ℕ) → b < 256 → 2 ≤ widthOf b → 47 < b
+unfolding far
+first-far b h l =
+    let t : (ltb 47 b && ltb 47 (leastOf b)) ≡ true = rw (le-leb 2 (widthOf b) l) at (passes far 256 all-far b h) in
+    ltb-true 47 b (and-left (ltb 47 b) _ t)
+
+second-far : (b c : ℕ) → b < 256 → 2 ≤ widthOf b → secondOk b c ≡ true → 47 < c
+unfolding far
+second-far b c h l e =
+    let t : (ltb 47 b && ltb 47 (leastOf b)) ≡ true = rw (le-leb 2 (widthOf b) l) at (passes far 256 all-far b h) in
+    omega (arith, ltb-true 47 (leastOf b) (and-right (ltb 47 b) _ t), leb-true (leastOf b) c (and-left (leb (leastOf b) c) _ e))
+
+tail-far : (c : ℕ) → (leb 128 c && leb c 191) ≡ true → 47 < c
+tail-far c e = omega (arith, leb-true 128 c (and-left (leb 128 c) _ e))
+
+-- what stands before counts where it is a "/" alone
+apart-any : (x y : ℕ) (q : List ℕ) → 47 < x → 47 < y → apart x q ≡ apart y q
+apart-any x y [] hx hy = refl
+apart-any x y (b ∷ q) hx hy = rw (ne-eqb x 47 (λ e. omega arith), ne-eqb y 47 (λ e. omega arith))
+
+-- a byte after the first
+apart-over : (x c : ℕ) (q : List ℕ) → 47 < x → 47 < c → apart x (c ∷ q) ≡ apart x q
+apart-over x c q hx hc = rw (ne-eqb x 47 (λ e. omega arith)) (apart-any c x q hc hx)
+
+pair-first : (b : ℕ) → 194 < b → b < 224 → (widthOf b ≡ 2) × (leastOf b ≡ 128) × (mostOf b ≡ 191)
+unfolding widthOf leastOf mostOf
+pair-first b low high = (
+  rw (le-ltb b 33 (omega arith), le-ltb b 127 (omega arith), le-ltb b 194 (omega arith), lt-ltb b 224 high),
+  rw (ne-eqb b 194 (λ e. omega arith), ne-eqb b 224 (λ e. omega arith), ne-eqb b 240 (λ e. omega arith)),
+  rw (ne-eqb b 237 (λ e. omega arith), ne-eqb b 244 (λ e. omega arith)),
+)
+
+over-byte : (b : ℕ) (p : List ℕ) (j k : ℕ) → k ≡ j + 1 → j < length p → 47 < b → 47 < getD p j 0 → apart b (drop j p) ≡ apart b (drop k p)
+over-byte b p j k e h hb hc = rw (e, from-one p j h) (apart-over b (getD p j 0) (drop (j + 1) p) hb hc)
+
 module _ (p : List ℕ) (i : ℕ) (known : getD p i 0 < 256) where
   nothing : i ≤ length p → characters [] (drop i p) ≡ false → Letter p i 0
-  nothing h e = record { inside = omega arith; rest = e }
+  nothing h e = record { inside = omega arith; rest = e; parted = λ before none. absurd (omega arith) }
 
-  passed : (w : ℕ) → 1 ≤ w → i + w ≤ length p → characters [] (drop i p) ≡ characters [] (drop (i + w) p) → Letter p i w
-  passed w l h e = record { inside = h; rest = rw (lt-ltb 0 w l) e }
+  passed : (w : ℕ) → 1 ≤ w → i + w ≤ length p → characters [] (drop i p) ≡ characters [] (drop (i + w) p)
+      → apart (getD p i 0) (drop (i + 1) p) ≡ apart (getD p i 0) (drop (i + w) p) → Letter p i w
+  passed w l h e over = record { inside = h; rest = rw (lt-ltb 0 w l) e; parted = λ before some. rw (from-one p i (omega arith), over) }
 
   pub is-cut-off : i < length p → length p < i + widthOf (getD p i 0) → Letter p i 0
   is-cut-off h l =
@@ -192,16 +236,28 @@ module _ (p : List ℕ) (i : ℕ) (known : getD p i 0 < 256) where
 
   pub is-short : (w : ℕ) → w ≡ widthOf (getD p i 0) → w < 2 → i < length p → Letter p i w
   is-short zero e l h = nothing (omega arith) (rw (from-one p i h) (no-first (getD p i 0) known (drop (i + 1) p) (sym e)))
-  is-short (suc zero) e l h = passed 1 (lit≤ tt) (omega arith) (rw (from-one p i h) (one (getD p i 0) known (drop (i + 1) p) (sym e)))
+  is-short (suc zero) e l h = passed 1 (lit≤ tt) (omega arith) (rw (from-one p i h) (one (getD p i 0) known (drop (i + 1) p) (sym e))) refl
   is-short (suc (suc w)) e l h = absurd (omega arith)
 
   pub is-no-second : i + 1 < length p → 2 ≤ widthOf (getD p i 0) → secondOk (getD p i 0) (getD p (i + 1) 0) ≡ false → Letter p i 0
   is-no-second h l e = nothing (omega arith) (rw (from-two p i h) (no-second (getD p i 0) known (getD p (i + 1) 0) (drop (i + 2) p) l e))
 
+  over-two : (w : ℕ) → 2 ≤ widthOf (getD p i 0) → i + 1 < length p → secondOk (getD p i 0) (getD p (i + 1) 0) ≡ true
+      → apart (getD p i 0) (drop (i + 1) p) ≡ apart (getD p i 0) (drop (i + 2) p)
+  over-two w l h s =
+      over-byte (getD p i 0) p (i + 1) (i + 2) (omega arith) h (first-far (getD p i 0) known l) (second-far (getD p i 0) (getD p (i + 1) 0) known l s)
+
   pub is-two : (w : ℕ) → w ≡ widthOf (getD p i 0) → w ≡ 2 → i + 1 < length p → secondOk (getD p i 0) (getD p (i + 1) 0) ≡ true → Letter p i w
   is-two w e n h s =
       rw n
-      (passed 2 (lit≤ tt) (omega arith) (rw (from-two p i h) (two (getD p i 0) known (getD p (i + 1) 0) (drop (i + 2) p) (sym e ∙ n) s)))
+      (passed 2 (lit≤ tt) (omega arith) (rw (from-two p i h) (two (getD p i 0) known (getD p (i + 1) 0) (drop (i + 2) p) (sym e ∙ n) s))
+      (over-two w (omega arith) h s))
+
+  -- two bytes as most letters outside ASCII have, C3 to DF and a tail
+  pub is-pair : 194 < getD p i 0 → getD p i 0 < 224 → i + 1 < length p → (leb 128 (getD p (i + 1) 0) && leb (getD p (i + 1) 0) 191) ≡ true → Letter p i 2
+  is-pair low high h t =
+      let q = pair-first (getD p i 0) low high in
+      is-two 2 (sym (q .0)) refl h (rw (q .1, q .2) t)
 
   pub is-no-third : i + 2 < length p → 3 ≤ widthOf (getD p i 0) → (leb 128 (getD p (i + 2) 0) && leb (getD p (i + 2) 0) 191) ≡ false → Letter p i 0
   is-no-third h l e =
@@ -213,7 +269,8 @@ module _ (p : List ℕ) (i : ℕ) (known : getD p i 0 < 256) where
   is-three w e n h s t =
       rw n
       (passed 3 (lit≤ tt) (omega arith)
-      (rw (from-three p i h) (three (getD p i 0) known (getD p (i + 1) 0) (getD p (i + 2) 0) (drop (i + 3) p) (sym e ∙ n) s t)))
+      (rw (from-three p i h) (three (getD p i 0) known (getD p (i + 1) 0) (getD p (i + 2) 0) (drop (i + 3) p) (sym e ∙ n) s t))
+      (over-two w (omega arith) (omega arith) s ∙ over-byte (getD p i 0) p (i + 2) (i + 3) (omega arith) h (first-far (getD p i 0) known (omega arith)) (tail-far (getD p (i + 2) 0) t)))
 
   pub is-no-fourth : i + 3 < length p → 4 ≤ widthOf (getD p i 0) → (leb 128 (getD p (i + 3) 0) && leb (getD p (i + 3) 0) 191) ≡ false → Letter p i 0
   is-no-fourth h l e =
@@ -225,7 +282,11 @@ module _ (p : List ℕ) (i : ℕ) (known : getD p i 0 < 256) where
       → (leb 128 (getD p (i + 2) 0) && leb (getD p (i + 2) 0) 191) ≡ true → (leb 128 (getD p (i + 3) 0) && leb (getD p (i + 3) 0) 191) ≡ true → Letter p i w
   is-four w e l h s t u =
       let n : w ≡ 4 = omega (arith, width-most (getD p i 0)) in
+      let far-first : 47 < getD p i 0 = first-far (getD p i 0) known (omega arith) in
       rw n
       (passed 4 (lit≤ tt) (omega arith)
       (rw (from-four p i h)
-      (four (getD p i 0) known (getD p (i + 1) 0) (getD p (i + 2) 0) (getD p (i + 3) 0) (drop (i + 4) p) (sym e ∙ n) s t u)))
+      (four (getD p i 0) known (getD p (i + 1) 0) (getD p (i + 2) 0) (getD p (i + 3) 0) (drop (i + 4) p) (sym e ∙ n) s t u))
+      (over-two w (omega arith) (omega arith) s
+      ∙ over-byte (getD p i 0) p (i + 2) (i + 3) (omega arith) (omega arith) far-first (tail-far (getD p (i + 2) 0) t)
+      ∙ over-byte (getD p i 0) p (i + 3) (i + 4) (omega arith) h far-first (tail-far (getD p (i + 3) 0) u)))

@@ -1,11 +1,11 @@
 -- A character of RFC 3629 by its first byte: how many bytes it has and what its second may be. Assumes nothing.
-use Prim.Native.Nat.{ℕ, zero, suc, _+_, _≤_}
+use Prim.Native.Nat.{ℕ, zero, suc, _+_, _≤_, _<_}
 use mathlib.Core.Path.{_≡_}
-use mathlib.Core.Bool.{Bool, _&&_, cond}
+use mathlib.Core.Bool.{Bool, true, not, _&&_, cond}
 use mathlib.Core.List.{List, [], _∷_}
-use lib.Dec.{ltb, eqb}
-use lib.ListN.{length, take, drop}
-use Rattle.machine.specs.Names.{Range, _to_, tail, characters}
+use lib.Dec.{leb, ltb, eqb}
+use lib.ListN.{length, getD, take, drop}
+use Rattle.machine.specs.Names.{Range, _to_, tail, characters, apart}
 
 unfoldable pub widthOf : ℕ → ℕ
 widthOf b = cond (ltb b 33) 0 (cond (ltb b 127) 1 (cond (ltb b 194) 0 (cond (ltb b 224) 2 (cond (ltb b 240) 3 (cond (ltb b 245) 4 0)))))
@@ -16,10 +16,18 @@ leastOf b = cond (eqb b 194) 160 (cond (eqb b 224) 160 (cond (eqb b 240) 144 128
 unfoldable pub mostOf : ℕ → ℕ
 mostOf b = cond (eqb b 237) 159 (cond (eqb b 244) 143 191)
 
--- r bytes at i are a character, or r is 0 and none stands there
+-- b and the byte after i are C3 to DF and a tail
+pub record Pair (p : List ℕ) (i b : ℕ) : Type 0 where
+  pub low : 194 < b
+  pub high : b < 224
+  pub inside : i + 1 < length p
+  pub second : (leb 128 (getD p (i + 1) 0) && leb (getD p (i + 1) 0) 191) ≡ true
+
+-- r bytes at i are a character, or r is 0 and none stands there; only its first byte can be a "/"
 pub record Letter (p : List ℕ) (i r : ℕ) : Type 0 where
   pub inside : i + r ≤ length p
   pub rest : characters [] (drop i p) ≡ (ltb 0 r && characters [] (drop (i + r) p))
+  pub parted : (before : ℕ) → 1 ≤ r → apart before (drop i p) ≡ (not (eqb before 47 && eqb (getD p i 0) 47) && apart (getD p i 0) (drop (i + r) p))
 
 -- what is due behind the first of w bytes
 abbrev pub due : (w low high : ℕ) → List Range

@@ -1,13 +1,11 @@
 // Characters of UTF-8, one after the other: the slow test, of paths that are not of visible ASCII alone.
 ghost use mathlib.Core.Path.{_≡_};
-ghost use mathlib.Core.Bool.{_&&_};
-ghost use mathlib.Core.List.{[]};
+ghost use mathlib.Core.Bool.{true, _&&_};
 ghost use Prim.Native.Nat.{_≤_, _<_};
-ghost use lib.Dec.{leb};
+ghost use lib.Dec.{leb, eqb};
 ghost use lib.ListN.{length};
-ghost use Rattle.machine.specs.Names.{characters, apart, pathOk};
-ghost use Rattle.names.specs.Letters.{widthOf, leastOf, mostOf, Letter};
-ghost use Rattle.names.specs.Doubles.{doubledOf};
+ghost use Rattle.machine.specs.Names.{pathOk};
+ghost use Rattle.names.specs.Letters.{widthOf, leastOf, mostOf, Pair, Letter};
 
 // How many bytes the character that b begins has: 0 if it begins none.
 fn width(b: u8) -> usize
@@ -72,12 +70,32 @@ fn between(low: u8, b: u8, high: u8) -> bool
     b <= high
 }
 
+// Whether a letter of two bytes that begins with C3 to DF stands at i, as most letters outside ASCII do.
+fn pair(p: &[u8], i: usize, b: u8) -> bool
+    requires { ⌜ i < length (now p) ⌝ }
+    ensures { λ r. ⌜ (r ≡ true → Pair (now (p .entry)) i b) ⌝ }
+{
+    if b <= 194 {
+        return false;
+    }
+    if 224 <= b {
+        return false;
+    }
+    if p.len() - i < 2 {
+        return false;
+    }
+    between(128, p[i + 1], 191)
+}
+
 // How many bytes the character at i has: 0 if none stands there.
 fn letter(p: &[u8], i: usize) -> usize
     requires { ⌜ i < length (now p) ⌝ }
     ensures { λ r. ⌜ Letter (now (p .entry)) i r ⌝ }
 {
     let b = p[i];
+    if pair(p, i, b) {
+        return 2;
+    }
     let w = width(b);
     if p.len() - i < w {
         return 0;
@@ -103,57 +121,34 @@ fn letter(p: &[u8], i: usize) -> usize
     w
 }
 
-// Whether p is characters from its start to its end.
-fn whole(p: &[u8]) -> bool
-    ensures { λ r. ⌜ r ≡ characters [] (now (p .entry)) ⌝ }
+// Whether both are "/".
+fn doubled(before: u8, b: u8) -> bool
+    ensures { λ r. ⌜ r ≡ (eqb before 47 && eqb b 47) ⌝ }
 {
+    if before != 47 {
+        return false;
+    }
+    b == 47
+}
+
+// Whether p, of 1 to 128 bytes, is a path: characters from its start to its end, with no "/" after another, nor first.
+pub(crate) fn path(p: &[u8]) -> bool
+    requires { ⌜ (1 ≤ length (now p)) × (length (now p) ≤ 128) ⌝ }
+    ensures { λ r. ⌜ r ≡ pathOk (now (p .entry)) ⌝ }
+{
+    let mut before: u8 = 47;
     let mut i = 0;
     while i < p.len() {
         let w = letter(p, i);
         if w == 0 {
             return false;
         }
+        let b = p[i];
+        if doubled(before, b) {
+            return false;
+        }
+        before = b;
         i += w;
     }
     true
-}
-
-// 1 where a "/" stands behind a "/".
-fn doubled(before: u8, b: u8) -> u8
-    ensures { λ r. ⌜ r ≡ doubledOf before b ⌝ }
-{
-    if before == 47 {
-        if b == 47 {
-            return 1;
-        }
-    }
-    0
-}
-
-// Whether no "/" stands behind another, nor first.
-fn parted(p: &[u8]) -> bool
-    requires { ⌜ length (now p) ≤ 128 ⌝ }
-    ensures { λ r. ⌜ r ≡ apart 47 (now (p .entry)) ⌝ }
-{
-    let mut before: u8 = 47;
-    let mut bad: u8 = 0;
-    let mut i = 0;
-    while i < p.len() {
-        let b = p[i];
-        bad += doubled(before, b);
-        before = b;
-        i += 1;
-    }
-    bad == 0
-}
-
-// Whether p, of 1 to 128 bytes, is a path.
-pub(crate) fn path(p: &[u8]) -> bool
-    requires { ⌜ (1 ≤ length (now p)) × (length (now p) ≤ 128) ⌝ }
-    ensures { λ r. ⌜ r ≡ pathOk (now (p .entry)) ⌝ }
-{
-    if !whole(p) {
-        return false;
-    }
-    parted(p)
 }

@@ -50,11 +50,11 @@ pub fn stored_path_ok_at(t: &[u8], from: usize, to: usize) -> bool
     requires { ⌜ (33 ≤ from) × (from ≤ to) × (to ≤ length (now t)) ⌝ }
     ensures { λ r. ⌜ r ≡ storedPathOk (take (to - from) (drop from (now (t .entry)))) ⌝ }
 {
-    let n = to - from;
-    if n < 1 {
+    let length = to - from;
+    if length < 1 {
         return false;
     }
-    if 128 < n {
+    if 128 < length {
         return false;
     }
     if plain::plain_at(t, from, to) {

@@ -9,8 +9,8 @@ use borrow.Author.Needs.{needs}
 use Rattle.names.proofs.stored_path_ok_at.Statement.{statement}
 use Rattle.names.proofs.stored_path_ok_at.Tie as tie
 
-sub-n : tie.Need-sub-n
-sub-n c = search needs
+sub-length : tie.Need-sub-length
+sub-length c = search needs
 
 returns : tie.Need-returns
 unfolding storedPathOk
@@ -59,7 +59,7 @@ pub stored-path-ok-at-spec : {M : Type 1} → statement M
 stored-path-ok-at-spec =
     tie.close
     (tie.spec
-    sub-n
+    sub-length
     returns
     returns-2
     plain-at-requires

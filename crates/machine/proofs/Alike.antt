@@ -1,23 +1,25 @@
 -- Two states that are alike but for one upload's parts, and what a call does to both: it answers alike, unless it is refused by 4 or 5.
 -- Assumes nothing.
-use Prim.Native.Nat.{ℕ}
+use Prim.Native.Nat.{ℕ, zero, suc}
 use mathlib.Core.Path.{_≡_, refl, sym, ap, _∙_, subst}
 use mathlib.Core.Bool.{Bool, true, false, cond, false≢true}
-use mathlib.Core.List.{[], _∷_}
+use mathlib.Core.List.{List, [], _∷_, map}
 use mathlib.Core.Option.{Option, none, some}
 use borrow.Author.Tests.{eq-eqb, ne-eqb, eqb-true, eqb-false}
-use lib.Dec.{eqb}
+use lib.Dec.{eqb, ltb}
+use lib.ListN.{length, take}
 use Rattle.order.proofs.OrderLaws.{numbers}
 use Rattle.machine.specs.Map.{Map, byNumber, lookup, insert, remove, mapped}
 use Rattle.machine.specs.Names.{Bytes}
 use Rattle.machine.specs.State.{Object, Part, Upload, State, withO, withU}
-use Rattle.machine.specs.Calls.{Call, PUT, GET, HEAD, DELETE, COPY, LIST, INITIATE, PART, COMMIT, ABORT, UPLOADS, DELETE-OBJECTS, Answer, Refusal, Outcome, refuse, accept, _else_then_, given, lent}
-use Rattle.machine.specs.Steps.{putAt, objectAt, deleteAt, act, replyOf, after, next}
+use Rattle.machine.specs.Calls.{Call, PUT, GET, HEAD, DELETE, COPY, LIST, INITIATE, PART, COMMIT, ABORT, UPLOADS, DELETE-OBJECTS, SWEEP, Answer, Refusal, Outcome, refuse, accept, _else_then_, given, lent}
+use Rattle.machine.specs.Steps.{putAt, objectAt, deleteAt, abortAt, due, toSweep, afterAborts, act, replyOf, after, next}
 use Rattle.machine.specs.Demand3.{Kind, looks, initiates, sends, commits, other, kind, partOf, commitOf, isLook}
 use Rattle.machine.proofs.Options.{none-some}
 use Rattle.machine.proofs.MapLaws.{insert-there}
 use Rattle.machine.proofs.MapEach.{each, lookup-each, each-insert, each-remove}
 use Rattle.machine.proofs.Places.{places-uploads, places-results, places-state}
+use Rattle.machine.proofs.Sweeping.{abort-leaves}
 use Rattle.machine.proofs.Effects.{Quiet, Does, opens-upload, sets-part, has-effects, step-does}
 
 -- the upload u with no parts, any other as it is
@@ -46,6 +48,52 @@ Room b o = (replyOf b o .result ≡ 4 → ⊥) × (replyOf b o .result ≡ 5 →
 pub record Same (u : ℕ) (look : Bool) (b : Bytes) (s s′ : State) (o o′ : Outcome) : Type 0 where
   pub like : Like u (after s o) (after s′ o′)
   pub shows : look ≡ true → replyOf b o′ ≡ replyOf b o
+
+-- the same uploads are due in states that are alike
+started-bare : (u v : ℕ) (x : Upload) → bareAt u v x .started ≡ x .started
+started-bare u v x = go (eqb v u)
+  where
+    go : (b : Bool) → (cond b (record { path = x .path; started = x .started; parts = [] }) x) .started ≡ x .started
+    go true = refl
+    go false = refl
+
+due-bare : (u t : ℕ) (m : Map ℕ Upload) → due t (bare u m) ≡ bare u (due t m)
+unfolding due
+due-bare u t [] = refl
+due-bare u t (e ∷ m) = rw (started-bare u (e .0) (e .1), due-bare u t m) (go (ltb (e .1 .started) t))
+  where
+    go : (b : Bool) → cond b ((e .0, bareAt u (e .0) (e .1)) ∷ bare u (due t m)) (bare u (due t m)) ≡ bare u (cond b (e ∷ due t m) (due t m))
+    go true = refl
+    go false = refl
+
+numbers-bare : (u n : ℕ) (m : Map ℕ Upload) → map (λ (e : ℕ × Upload). e .0) (take n (bare u m)) ≡ map (λ (e : ℕ × Upload). e .0) (take n m)
+numbers-bare u zero m = refl
+numbers-bare u (suc n) [] = refl
+numbers-bare u (suc n) (e ∷ m) = ap (λ (l : List ℕ). e .0 ∷ l) (numbers-bare u n m)
+
+length-bare : (u : ℕ) (m : Map ℕ Upload) → length (bare u m) ≡ length m
+length-bare u [] = refl
+length-bare u (e ∷ m) = ap suc (length-bare u m)
+
+module _ (u t : ℕ) (m m′ : Map ℕ Upload) (e : bare u m ≡ bare u m′) where
+  same-due : bare u (due t m) ≡ bare u (due t m′)
+  same-due = sym (due-bare u t m) ∙ ap (due t) e ∙ due-bare u t m′
+
+  due-length : length (due t m) ≡ length (due t m′)
+  due-length = sym (length-bare u (due t m)) ∙ ap length same-due ∙ length-bare u (due t m′)
+
+  same-swept : (n : ℕ) → toSweep t n m ≡ toSweep t n m′
+  same-swept n = sym (numbers-bare u n (due t m)) ∙ ap (λ (d : Map ℕ Upload). map (λ (w : ℕ × Upload). w .0) (take n d)) same-due ∙ numbers-bare u n (due t m′)
+
+-- ABORTs leave states alike
+aborts-like : (u : ℕ) (us : List ℕ) (s s′ : State) → Like u s s′ → Like u (afterAborts s us) (afterAborts s′ us)
+aborts-like u [] s s′ l = l
+aborts-like u (v ∷ us) s s′ l =
+    aborts-like u us (after s (abortAt s v)) (after s′ (abortAt s′ v)) (rw (abort-leaves s v, abort-leaves s′ v) (record {
+      objects = l .objects;
+      uploads = each-remove numbers (bareAt u) v (s .U) ∙ ap (remove byNumber v) (l .uploads) ∙ sym (each-remove numbers (bareAt u) v (s′ .U));
+      number = l .number;
+    }))
 
 -- one step of both lists
 abbrev pub Went : (A u : ℕ) (s s′ : State) → Call → Type 0
@@ -129,7 +177,7 @@ module _ (A u : ℕ) (s : State) (m : Map ℕ Upload) (e : bare u (s .U) ≡ bar
   at-alike l b (c ∷ p) k k′ h = alike-else _ _ _ _ _ _ (alike-given _ _ _ _ _ _ h)
 
   act-alike : (c : Call) → partOf u (kind c) ≡ false → commitOf u (kind c) ≡ false → Alike (isLook (kind c)) (lent c) (act A s c) (act A (withU s m) c)
-  unfolding act deleteAt
+  unfolding act deleteAt abortAt
   act-alike (PUT t p d) h k = alike-else _ _ _ _ _ _ (put-alike t p d)
   act-alike (GET p b) h k = at-alike _ _ p _ _ λ x. alike-else _ _ _ _ _ _ (alike-accept _ _ _ _ _ _ (like-O _))
   act-alike (HEAD p) h k = at-alike _ _ p _ _ λ x. alike-accept _ _ _ _ _ _ (like-O _)
@@ -150,6 +198,9 @@ module _ (A u : ℕ) (s : State) (m : Map ℕ Upload) (e : bare u (s .U) ≡ bar
       (record { objects = refl; uploads = removed v; number = refl })))
   act-alike (ABORT v) h k =
       alike-found _ _ (bareAt u v) _ _ _ _ _ (found v) λ x y q. alike-accept _ _ _ _ _ _ (record { objects = refl; uploads = removed v; number = refl })
+  act-alike (SWEEP t n) h k =
+      rw (← due-length u t (s .U) m e, ← same-swept u t (s .U) m e n)
+      (alike-else _ _ _ _ _ _ (alike-accept _ _ _ _ _ _ (aborts-like u (toSweep t n (s .U)) s (withU s m) (like-O (s .O)))))
   act-alike (UPLOADS prefix b) h k = alike-unseen _ _ _ _ _ _ _ _ _
   act-alike (DELETE-OBJECTS names ps over b) h k =
       rw (places-results m s names ps, places-state m s names ps)

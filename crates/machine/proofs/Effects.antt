@@ -5,7 +5,7 @@ use Prim.Native.Nat.{ℕ, _≤_}
 use mathlib.Core.Path.{_≡_, refl, subst}
 use mathlib.Core.Bool.{true, false, _&&_}
 use mathlib.Core.List.{List, [], _∷_}
-use mathlib.Core.Option.{some}
+use mathlib.Core.Option.{Option, none, some}
 use native.Mathlib.Omega.{arith}
 use borrow.Author.Tests.{leb-true}
 use lib.Dec.{leb}
@@ -16,8 +16,8 @@ use Rattle.machine.specs.Names.{Bytes, newPathOk, stampOk, requestPartOk
 use Rattle.machine.specs.Digest.{md5, length-md5}
 use Rattle.machine.specs.Etags.{plain}
 use Rattle.machine.specs.State.{Object, Part, Upload, State, withObject, withoutObject, withUpload, withoutUpload, withNext, withPart, partsIn, held, counted}
-use Rattle.machine.specs.Calls.{Call, PUT, GET, HEAD, DELETE, COPY, LIST, INITIATE, PART, COMMIT, ABORT, UPLOADS, DELETE-OBJECTS, NamePlace, Answer, nothing, etag, number, Reply, Refusal, Outcome, refuse, accept, lent}
-use Rattle.machine.specs.Steps.{newUpload, newPart, joinedObject, fit, putAt, deleteAt, deletePlace, afterPlaces, act, replyOf, after, reply, next}
+use Rattle.machine.specs.Calls.{Call, PUT, GET, HEAD, DELETE, COPY, LIST, INITIATE, PART, COMMIT, ABORT, UPLOADS, DELETE-OBJECTS, SWEEP, NamePlace, Answer, nothing, etag, number, Reply, Refusal, badRequest, Outcome, refuse, accept, given, lent}
+use Rattle.machine.specs.Steps.{newUpload, newPart, joinedObject, fit, putAt, deleteAt, deletePlace, afterPlaces, abortAt, toSweep, afterAborts, act, replyOf, after, reply, next}
 use Rattle.machine.specs.Valid.{ObjectOk, UploadOk, Valid}
 use Rattle.machine.specs.Demand3.{Kind, looks, initiates, sends, commits, other, kind, answers}
 use Rattle.machine.proofs.Options.{both}
@@ -98,8 +98,18 @@ module _ (A : ℕ) (s : State) where
   places-do a names (p ∷ ps) =
       deleted a (placed names p) (deletePlace a names p) (then-place a names p) (places-do (after a (deletePlace a names p)) names ps)
 
+  -- the ABORT of uploads, one after the other
+  aborts-do : (a : State) (us : List ℕ) → Effects A s a (afterAborts a us)
+  unfolding abortAt given
+  aborts-do a [] = stop
+  aborts-do a (u ∷ us) = go (lookup byNumber u (a .U)) refl (aborts-do (after a (abortAt a u)) us)
+    where
+      go : (o : Option Upload) → lookup byNumber u (a .U) ≡ o → {b : State} → Effects A s (after a (given o badRequest λ x. accept nothing [] (withoutUpload a u))) b → Effects A s a b
+      go none e h = h
+      go (some x) e h = closes u x e h
+
   act-does : (c : Call) → Then (λ r out s′. Does A s (kind c) r s′) (act A s c)
-  unfolding act deleteAt Then
+  unfolding act deleteAt abortAt Then
   act-does (PUT t p d) = then-else _ _ _ _ λ h. let b = both _ _ h in put-does t p d (b .0) (b .1)
   act-does (GET p b) = then-object _ s p _ λ x. then-else _ _ _ _ λ _. has-effects tt (λ n. refl) stop
   act-does (HEAD p) = then-object _ s p _ λ x. has-effects tt (λ n. refl) stop
@@ -120,6 +130,7 @@ module _ (A : ℕ) (s : State) where
   act-does (UPLOADS prefix b) = then-else _ _ _ _ λ _. has-effects tt (λ n. refl) stop
   act-does (DELETE-OBJECTS names ps over b) =
       then-else _ _ _ _ λ _. then-else _ _ _ _ λ _. then-else _ _ _ _ λ _. has-effects tt (λ n. refl) (places-do s names ps)
+  act-does (SWEEP t n) = then-else _ _ _ _ λ _. has-effects tt (λ n. refl) (aborts-do s (toSweep t n (s .U)))
 
   -- what holds where a call is refused, and of whatever an accepted one does, holds of every call's reply and the state after it
   pub step-does : (P : Reply → State → Type 0) (c : Call) → ((n : Refusal) → P (replyOf (lent c) (refuse n)) s) →

@@ -11,6 +11,7 @@ pub mod Records
 pub mod Rules
 pub mod Outcome
 pub mod Places
+pub mod Sweeping
 pub mod Counts
 pub mod Effects
 pub mod KeepsValid

@@ -9,6 +9,7 @@ use native.Mathlib.Omega.{arith}
 use Rattle.order.specs.Order.{by}
 use Rattle.order.proofs.OrderLaws.{cases, Lawful}
 use Rattle.machine.specs.Map.{Map, lookup, insert, remove, Above, Ascending, Every}
+use Rattle.machine.proofs.Options.{none-some}
 
 module _ {K X : Type 0} {cmp : K → K → Ordering} (L : Lawful cmp) where
   pub lookup-insert : (k : K) (v : X) (m : Map K X) → lookup cmp k (insert cmp k v m) ≡ some v
@@ -85,6 +86,14 @@ module _ {K X : Type 0} {cmp : K → K → Ordering} (L : Lawful cmp) where
       (λ q. simp q)
       (λ q. simp q (lookup-above k m (rw (L .alike k (e .0) q) (a .0))))
       (λ q. simp q (lookup-remove k m (a .1)))
+
+  pub remove-absent : (k : K) (m : Map K X) → lookup cmp k m ≡ none → remove cmp k m ≡ m
+  remove-absent k [] h = refl
+  remove-absent k (e ∷ m) h =
+      cases (cmp k (e .0))
+      (λ q. simp q)
+      (λ q. absurd (none-some (sym (rw q at h))))
+      (λ q. simp q (ap (λ (r : Map K X). e ∷ r) (remove-absent k m (rw q at h))))
 
   pub lookup-remove-other : (j k : K) (m : Map K X) → Ascending cmp m → (j ≡ k → ⊥) → lookup cmp j (remove cmp k m) ≡ lookup cmp j m
   lookup-remove-other j k [] a d = refl

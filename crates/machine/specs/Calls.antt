@@ -14,7 +14,7 @@ pub record NamePlace : Type 0 where
 
 -- "Each stands in it with its arguments as values, the bytes that its answer buffer holds beforehand among them."
 -- E1: DELETE-OBJECTS has "one buffer of names and a list of name places"; how many bytes are left over after the last place, where the places
--- come as bytes; and the buffer for the results.
+-- come as bytes; and the buffer for the results. E3: "A sweep takes a stamp and a number n".
 pub data Call : Type 0 where
   PUT : (stamp : ℕ) (path content : Bytes) → Call
   GET : (path buffer : Bytes) → Call
@@ -28,14 +28,16 @@ pub data Call : Type 0 where
   ABORT : (upload : ℕ) → Call
   UPLOADS : (prefix buffer : Bytes) → Call
   DELETE-OBJECTS : (names : Bytes) (places : List NamePlace) (leftOver : ℕ) (results : Bytes) → Call
+  SWEEP : (stamp most : ℕ) → Call
 
--- what is answered beside the result: "metadata (PART's etag with it), numbers, counts"
+-- what is answered beside the result: "metadata (PART's etag with it), numbers, counts"; E3: "how many it aborted and whether more are due"
 pub data Answer : Type 0 where
   nothing : Answer
   metadata : (length created : ℕ) → Etag → Answer
   etag : Etag → Answer
   number : ℕ → Answer
   counts : (records bytes : ℕ) → Answer
+  swept : (count : ℕ) (more : Bool) → Answer
 
 -- what a caller gets: "the result number, metadata (PART's etag with it), numbers, counts and every byte of the answer buffer"
 pub record Reply : Type 0 where
@@ -88,3 +90,4 @@ lent (COMMIT u ns) = []
 lent (ABORT u) = []
 lent (UPLOADS prefix b) = b
 lent (DELETE-OBJECTS names ps over b) = b
+lent (SWEEP t n) = []

@@ -12,7 +12,7 @@ use Rattle.machine.specs.Names.{Bytes}
 use Rattle.machine.specs.Digest.{md5}
 use Rattle.machine.specs.Etags.{joined}
 use Rattle.machine.specs.State.{Object, State, fresh}
-use Rattle.machine.specs.Calls.{Call, PUT, GET, HEAD, DELETE, COPY, LIST, INITIATE, PART, COMMIT, ABORT, UPLOADS, DELETE-OBJECTS, Answer, nothing, metadata, etag, number, counts, Reply}
+use Rattle.machine.specs.Calls.{Call, PUT, GET, HEAD, DELETE, COPY, LIST, INITIATE, PART, COMMIT, ABORT, UPLOADS, DELETE-OBJECTS, SWEEP, Answer, nothing, metadata, etag, number, counts, swept, Reply}
 use Rattle.machine.specs.Fits.{member, distinct}
 use Rattle.machine.specs.Steps.{about, reply}
 use Rattle.machine.specs.Lists.{Trace, trace, final}
@@ -38,6 +38,7 @@ kind (COMMIT u ns) = commits u
 kind (ABORT u) = other
 kind (UPLOADS prefix b) = other
 kind (DELETE-OBJECTS names ps over b) = other
+kind (SWEEP t n) = other
 
 -- "A call is accepted when its result is 0."
 abbrev pub accepted : Reply → Bool
@@ -80,6 +81,7 @@ answers u (metadata l c e) = false
 answers u (etag e) = false
 answers u (number n) = eqb u n
 answers u (counts r b) = false
+answers u (swept c m) = false
 
 -- the stamp and the path of an INITIATE that answers this upload number
 abbrev pub opens : (upload : ℕ) → Answer → Kind → Option (ℕ × Bytes)

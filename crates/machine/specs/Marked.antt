@@ -7,7 +7,7 @@ use Rattle.machine.specs.Digest.{md5}
 use Rattle.machine.specs.Etags.{absent, plain, joined}
 use Rattle.machine.specs.State.{fresh, held, counted}
 use Rattle.machine.specs.Calls.{Call, PUT, GET, HEAD, DELETE, COPY, INITIATE, PART, COMMIT, ABORT, Answer, nothing, metadata, etag, number, Reply, given, _else_then_}
-use Rattle.machine.specs.Steps.{putAt, objectAt, deleteAt, act}
+use Rattle.machine.specs.Steps.{putAt, objectAt, deleteAt, abortAt, act}
 use Rattle.machine.specs.Lists.{trace}
 
 -- an order: calls from FRESH over an arena, and what each answers
@@ -118,5 +118,5 @@ abbrev pub replies : (arena : ℕ) → List Call → List Reply
 replies arena cs = map (λ (e : Call × Reply). e .1) (trace arena fresh cs)
 
 pub marked-answered : map (λ (w : MarkedOrder). replies (w .arena) (w .calls)) marked ≡ map (λ (w : MarkedOrder). w .replies) marked
-unfolding _else_then_ given act putAt objectAt deleteAt counted held pathOk requestPathOk newPathOk stampOk numberOk requestPartOk
+unfolding _else_then_ given act putAt objectAt deleteAt abortAt counted held pathOk requestPathOk newPathOk stampOk numberOk requestPartOk
 marked-answered = refl

@@ -1,9 +1,9 @@
 -- Document 01's steps and document 02's: what each call answers and does, its checks in checking order. Assumes nothing.
-use Prim.Native.Nat.{ℕ, _+_}
+use Prim.Native.Nat.{ℕ, _+_, min}
 use mathlib.Core.Bool.{Bool, _&&_}
-use mathlib.Core.List.{List, [], _∷_, _++_}
+use mathlib.Core.List.{List, [], _∷_, _++_, map}
 use mathlib.Core.Option.{Option, none, some}
-use lib.Dec.{leb, eqb}
+use lib.Dec.{leb, ltb, eqb}
 use lib.ListN.{length, take, drop}
 use Rattle.number.specs.Number.{le}
 use Rattle.order.specs.Order.{byBytes, begins, ends}
@@ -12,7 +12,7 @@ use Rattle.machine.specs.Names.{Bytes, requestPathOk, newPathOk, stampOk
 use Rattle.machine.specs.Digest.{md5}
 use Rattle.machine.specs.Etags.{absent, plain, joined, text}
 use Rattle.machine.specs.State.{Object, Part, Upload, State, fresh, withObject, withoutObject, withUpload, withoutUpload, withNext, withPart, held, counted}
-use Rattle.machine.specs.Calls.{Call, PUT, GET, HEAD, DELETE, COPY, LIST, INITIATE, PART, COMMIT, ABORT, UPLOADS, DELETE-OBJECTS, NamePlace, Answer, nothing, metadata, etag, number, counts, Reply, badRequest, notFound, tableFull, arenaFull, numbersUsedUp, bufferShort, tooMany, code, Outcome, refuse, accept, _else_then_, given, lent}
+use Rattle.machine.specs.Calls.{Call, PUT, GET, HEAD, DELETE, COPY, LIST, INITIATE, PART, COMMIT, ABORT, UPLOADS, DELETE-OBJECTS, SWEEP, NamePlace, Answer, nothing, metadata, etag, number, counts, swept, Reply, badRequest, notFound, tableFull, arenaFull, numbersUsedUp, bufferShort, tooMany, code, Outcome, refuse, accept, _else_then_, given, lent}
 
 -- "Bytes of the answer buffer past those written do not change"; a refusal answers nothing but its number; "Success is 0."
 abbrev pub replyOf : (buffer : Bytes) → Outcome → Reply
@@ -116,6 +116,25 @@ openUnder prefix m = keep (λ u x. begins prefix (x .path)) m
 unfoldable pub uploadRecord : ℕ → Upload → Bytes
 uploadRecord u x = le 4 u ++ (length (x .path) ∷ x .path ++ (le 8 (x .started) ++ le 2 (length (x .parts))))
 
+-- ABORT's step: "removes it from U"
+unfoldable pub abortAt : State → (upload : ℕ) → Outcome
+abortAt s u =
+    given (lookup byNumber u (s .U)) badRequest λ x.
+    accept nothing [] (withoutUpload s u)
+
+-- E3: "open uploads started before the stamp"
+unfoldable pub due : (stamp : ℕ) → Map ℕ Upload → Map ℕ Upload
+due t m = keep (λ u x. ltb (x .started) t) m
+
+-- E3: those that a sweep aborts, "by ascending number, at most n of them"
+abbrev pub toSweep : (stamp most : ℕ) → Map ℕ Upload → List ℕ
+toSweep t n m = map (λ (e : ℕ × Upload). e .0) (take n (due t m))
+
+-- E3: "The store afterwards is as after those single ABORT calls"
+abbrev pub afterAborts : State → (uploads : List ℕ) → State
+afterAborts s [] = s
+afterAborts s (u ∷ us) = afterAborts (after s (abortAt s u)) us
+
 -- the step of each call, over an arena of length A
 unfoldable pub act : (A : ℕ) → State → Call → Outcome
 act A s (PUT t p d) = stampOk t && newPathOk p else badRequest then putAt A s t p d
@@ -149,9 +168,7 @@ act A s (COMMIT u ns) =
     let s′ : State = withoutUpload (withObject s (x .path) (joinedObject x xs)) u in
     counted s′ else tableFull then
     accept nothing [] s′
-act A s (ABORT u) =
-    given (lookup byNumber u (s .U)) badRequest λ x.
-    accept nothing [] (withoutUpload s u)
+act A s (ABORT u) = abortAt s u
 act A s (UPLOADS prefix b) =
     let l = openUnder prefix (s .U) in
     let out = records uploadRecord l in
@@ -162,6 +179,11 @@ act A s (DELETE-OBJECTS names ps over b) =
     eqb over 0 else badRequest then
     leb (length ps) (length b) else bufferShort then
     accept nothing (placeResults s names ps) (afterPlaces s names ps)
+-- E3: "A stamp of 0 is a bad request"; "The count is the smaller of n and the number due", and more are due where that is more than n
+act A s (SWEEP t n) =
+    let d = length (due t (s .U)) in
+    stampOk t else badRequest then
+    accept (swept (min n d) (ltb n d)) [] (afterAborts s (toSweep t n (s .U)))
 
 -- FRESH over an arena of length A: "Bad request: .. FRESH got an arena over 1,048,576"
 unfoldable pub FRESH : (A : ℕ) → Outcome

@@ -12,7 +12,7 @@ use Rattle.machine.specs.Digest.{md5}
 use Rattle.machine.specs.Etags.{absent, plain, joined, text}
 use Rattle.machine.specs.State.{Object, State, fresh, held, counted}
 use Rattle.machine.specs.Calls.{Call, PUT, GET, HEAD, COPY, LIST, INITIATE, PART, COMMIT, ABORT, UPLOADS, nothing, metadata, etag, number, counts, Reply, badRequest, refuse, accept, given, _else_then_}
-use Rattle.machine.specs.Steps.{putAt, objectAt, isListed, listed, listRecord, openUnder, uploadRecord, FRESH, act, reply}
+use Rattle.machine.specs.Steps.{putAt, objectAt, abortAt, isListed, listed, listRecord, openUnder, uploadRecord, FRESH, act, reply}
 use Rattle.machine.specs.Lists.{trace, final}
 use Rattle.machine.specs.Marked.{says, writes, refused, a, r, xyz, A, B, m7, m7-replies, replies}
 
@@ -99,7 +99,7 @@ fullShelf = final 0 fresh (putMany 256)
 pub paths-ceiling : map (λ (e : Call × Reply). e .1 .result)
     (trace 0 fullShelf (PUT 1 a [] ∷ INITIATE 1 a ∷ COMMIT 1 [] ∷ COPY 2 (65 ∷ 65 ∷ []) a ∷ COPY 2 (65 ∷ 65 ∷ []) (66 ∷ 65 ∷ []) ∷ ABORT 1 ∷ []))
     ≡ 4 ∷ 0 ∷ 4 ∷ 4 ∷ 0 ∷ 0 ∷ []
-unfolding putMany _else_then_ given act putAt counted held pathOk requestPathOk newPathOk stampOk
+unfolding putMany _else_then_ given act putAt counted held pathOk requestPathOk newPathOk stampOk abortAt
 paths-ceiling = refl
 
 -- 16 uploads, and 256 parts over all uploads
@@ -115,11 +115,11 @@ abbrev pub lastResults : State → List Call → List ℕ
 lastResults s cs = map (λ (e : Call × Reply). e .1 .result) (trace 0 s cs)
 
 pub uploads-ceiling : lastResults (final 0 fresh (initiateMany 16)) (INITIATE 1 r ∷ ABORT 3 ∷ INITIATE 1 r ∷ []) ≡ 4 ∷ 0 ∷ 0 ∷ []
-unfolding initiateMany _else_then_ given act counted pathOk newPathOk stampOk
+unfolding initiateMany _else_then_ given act counted pathOk newPathOk stampOk abortAt
 uploads-ceiling = refl
 
 pub parts-ceiling : lastResults (final 0 fresh (initiateMany 2 ++ partMany 1 200 ++ partMany 2 56)) (PART 2 57 [] ∷ PART 2 56 [] ∷ ABORT 1 ∷ PART 2 57 [] ∷ []) ≡ 4 ∷ 0 ∷ 0 ∷ 0 ∷ []
-unfolding initiateMany partMany _else_then_ given act counted held pathOk newPathOk stampOk numberOk requestPartOk
+unfolding initiateMany partMany _else_then_ given act counted held pathOk newPathOk stampOk numberOk requestPartOk abortAt
 parts-ceiling = refl
 
 -- "Numbers used up: INITIATE when 4,294,967,295 has been given out"; with 16 open it is 4
@@ -135,7 +135,7 @@ unfolding _else_then_ act counted pathOk newPathOk stampOk
 numbers-used-up = refl
 
 pub full-first : lastResults (final 0 (late 4294967280) (initiateMany 16)) (INITIATE 1 r ∷ ABORT 4294967280 ∷ INITIATE 1 r ∷ []) ≡ 4 ∷ 0 ∷ 6 ∷ []
-unfolding initiateMany _else_then_ given act counted pathOk newPathOk stampOk
+unfolding initiateMany _else_then_ given act counted pathOk newPathOk stampOk abortAt
 full-first = refl
 
 -- FRESH: "an arena over 1,048,576" is refused by 2

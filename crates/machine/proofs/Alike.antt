@@ -6,14 +6,14 @@ use mathlib.Core.Bool.{Bool, true, false, cond, false≢true}
 use mathlib.Core.List.{List, [], _∷_, map}
 use mathlib.Core.Option.{Option, none, some}
 use borrow.Author.Tests.{eq-eqb, ne-eqb, eqb-true, eqb-false}
-use lib.Dec.{eqb, ltb}
+use lib.Dec.{eqb}
 use lib.ListN.{length, take}
 use Rattle.order.proofs.OrderLaws.{numbers}
 use Rattle.machine.specs.Map.{Map, byNumber, lookup, insert, remove, mapped}
 use Rattle.machine.specs.Names.{Bytes}
 use Rattle.machine.specs.State.{Object, Part, Upload, State, withO, withU}
 use Rattle.machine.specs.Calls.{Call, PUT, GET, HEAD, DELETE, COPY, LIST, INITIATE, PART, COMMIT, ABORT, UPLOADS, DELETE-OBJECTS, SWEEP, Answer, Refusal, Outcome, refuse, accept, _else_then_, given, lent}
-use Rattle.machine.specs.Steps.{putAt, objectAt, deleteAt, abortAt, due, toSweep, afterAborts, act, replyOf, after, next}
+use Rattle.machine.specs.Steps.{putAt, objectAt, deleteAt, abortAt, isDue, due, toSweep, afterAborts, act, replyOf, after, next}
 use Rattle.machine.specs.Demand3.{Kind, looks, initiates, sends, commits, other, kind, partOf, commitOf, isLook}
 use Rattle.machine.proofs.Options.{none-some}
 use Rattle.machine.proofs.MapLaws.{insert-there}
@@ -60,7 +60,7 @@ started-bare u v x = go (eqb v u)
 due-bare : (u t : ℕ) (m : Map ℕ Upload) → due t (bare u m) ≡ bare u (due t m)
 unfolding due
 due-bare u t [] = refl
-due-bare u t (e ∷ m) = rw (started-bare u (e .0) (e .1), due-bare u t m) (go (ltb (e .1 .started) t))
+due-bare u t (e ∷ m) = rw (started-bare u (e .0) (e .1), due-bare u t m) (go (isDue t (e .1)))
   where
     go : (b : Bool) → cond b ((e .0, bareAt u (e .0) (e .1)) ∷ bare u (due t m)) (bare u (due t m)) ≡ bare u (cond b (e ∷ due t m) (due t m))
     go true = refl

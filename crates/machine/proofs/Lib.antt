@@ -27,3 +27,4 @@ pub mod MapTwo
 pub mod Apart
 pub mod Swaps
 pub mod SwapCases
+pub mod Sweep

@@ -12,6 +12,7 @@ pub mod Fits
 pub mod Demand3
 pub mod InPlace
 pub mod DeleteObjects
+pub mod Sweep
 pub mod Marked
 pub mod Unmarked
 pub mod Cases

@@ -123,8 +123,11 @@ abortAt s u =
     accept nothing [] (withoutUpload s u)
 
 -- E3: "open uploads started before the stamp"
+abbrev pub isDue : (stamp : ℕ) → Upload → Bool
+isDue t x = ltb (x .started) t
+
 unfoldable pub due : (stamp : ℕ) → Map ℕ Upload → Map ℕ Upload
-due t m = keep (λ u x. ltb (x .started) t) m
+due t m = keep (λ u x. isDue t x) m
 
 -- E3: those that a sweep aborts, "by ascending number, at most n of them"
 abbrev pub toSweep : (stamp most : ℕ) → Map ℕ Upload → List ℕ

@@ -19,9 +19,11 @@ use Rattle.types.specs.declared.InitiateAnswer.{InitiateAnswer}
 use Rattle.types.specs.declared.InitiateAnswer.the-variants as initiate
 use Rattle.types.specs.declared.ListAnswer.{ListAnswer}
 use Rattle.types.specs.declared.ListAnswer.the-variants as list
+use Rattle.types.specs.declared.SweepAnswer.{SweepAnswer}
+use Rattle.types.specs.declared.SweepAnswer.the-variants as sweep
 use Rattle.machine.specs.Names.{Bytes}
 use Rattle.machine.specs.Etags as machine
-use Rattle.machine.specs.Calls.{NamePlace, Answer, nothing, metadata, etag, number, counts, Reply}
+use Rattle.machine.specs.Calls.{NamePlace, Answer, nothing, metadata, etag, number, counts, swept, Reply}
 
 -- an etag, with its digest as sixteen bytes
 abbrev pub etagOf : Etag → machine.Etag
@@ -73,6 +75,11 @@ initiateReply (initiate.Opened u) = success (number (u .0)) []
 abbrev pub listReply : ListAnswer → Bytes → Reply
 listReply (list.Refused n) b = refused n b
 listReply (list.Written c) b = success (counts (c .records) (c .bytes)) b
+
+-- E3, SWEEP: "how many it aborted and whether more are due"
+abbrev pub sweepReply : SweepAnswer → Reply
+sweepReply (sweep.Refused n) = refused n []
+sweepReply (sweep.Swept x) = success (swept (x .count) (x .more)) []
 
 -- "a part list goes as 16-bit numbers, low byte first, and an odd byte left over makes it unfit": 0 is no part's number
 unfoldable pub partList : Bytes → List ℕ

@@ -15,13 +15,14 @@ use Rattle.layout.specs.Header.{headerLength}
 use Rattle.layout.specs.Memory.{uploadRow, partRows, rowsOf}
 use Rattle.layout.proofs.UploadLaws.{length-part-rows}
 use Rattle.find.specs.declared.RowPlace.{RowPlace}
+use Rattle.find.specs.declared.Numbered.{Numbered}
 use Rattle.find.specs.declared.search.Goal.{Goal}
 use Rattle.find.specs.declared.search.Goal.the-variants as goal
-use Rattle.find.specs.Places.{placeAfter, beforeUpload, beforeParts, beforePart, throughParts, fromUpload, afterUpload, fromPart, uploadPlace, partPlace, uploadRowOf, partsRowOf, passedParts}
-use Rattle.find.specs.Search.{reach, stopsOf, rowPlaceAt, IsRow, IsRowPlace, sought, leads}
+use Rattle.find.specs.Places.{placeAfter, beforeUpload, beforeParts, beforePart, throughParts, fromUpload, afterUpload, fromPart, uploadPlace, partPlace, uploadRowOf, partsRowOf, passedParts, firstDue}
+use Rattle.find.specs.Search.{reach, stopsOf, rowPlaceAt, IsRow, IsRowPlace, sought, leads, leader}
 use Rattle.find.proofs.Splits.{upload-place, upload-found, parts-place, parts-after, part-place}
 use Rattle.find.proofs.Walk.{rowPlace}
-use Rattle.find.proofs.Searches.{reach-end, reach-upload, upload-leads, reach-part, part-leads, reach-next}
+use Rattle.find.proofs.Searches.{reach-end, reach-upload, upload-leads, reach-part, part-leads, reach-next, due-leads}
 use Rattle.find.proofs.Found.{is-some}
 
 -- Row places -------------------------------------------------------------------------------------------------------------
@@ -122,6 +123,13 @@ first-part-row s u p q e f = f ∙ ap (λ (i : ℕ). rowPlaceAt (rowsOf s) (i + 
 
 pub parts-row-place : (s : State) (u : ℕ) (p : RowPlace) → p ≡ partsRowOf s u → isSome (lookup byNumber u (s .U)) ≡ true → IsRowPlace (rowsOf s) p
 parts-row-place s u p e o = is-row-place (rowsOf s) p (length (beforeUpload s u) + 1) e (let l = open-within s u o in omega arith)
+
+-- the first that started before a stamp
+pub due-answer : (t : ℕ) (s : State) (p : RowPlace) (r : Numbered) → p ≡ sought (goal.Due t) (rowsOf s) 0 → r ≡ leader (drop (p .row) (rowsOf s)) → r ≡ firstDue t s
+unfolding sought
+due-answer t s p r e f =
+    let n : p .row ≡ reach (stopsOf (goal.Due t)) (rowsOf s) = omega (arith, place-row (rowsOf s) p _ e) in
+    f ∙ ap (λ (i : ℕ). leader (drop i (rowsOf s))) n ∙ due-leads t s
 
 -- Parts ------------------------------------------------------------------------------------------------------------------
 

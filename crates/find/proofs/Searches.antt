@@ -1,21 +1,24 @@
 -- What the searches along the rows find. Assumes nothing.
 use Prim.Native.Nat.{ℕ, suc, _+_, compare}
 use mathlib.Core.Path.{_≡_, refl, sym, ap, _∙_}
-use mathlib.Core.Bool.{false}
+use mathlib.Core.Bool.{Bool, true, false}
 use mathlib.Core.List.{List, [], _∷_, _++_}
 use native.Mathlib.Omega.{arith}
 use borrow.Author.Tests.{eq-eqb, ne-eqb}
+use lib.Dec.{eqb}
 use lib.ListN.{length, take, drop, length-append}
 use Rattle.order.proofs.OrderLaws.{cases, alike, below}
 use Rattle.machine.specs.Map.{isSome, Map, byNumber, lookup, place}
 use Rattle.machine.specs.Names.{Bytes}
 use Rattle.machine.specs.Etags.{Etag, absent, plain, joined}
 use Rattle.machine.specs.State.{Object, Part, Upload, State}
+use Rattle.machine.specs.Steps.{isDue, due}
 use Rattle.row.specs.Row.{Row}
 use Rattle.layout.specs.Rules.{uploadKind, partKind}
-use Rattle.layout.specs.Memory.{objectRow, objectRows, partRows, uploadRows, rowsOf}
+use Rattle.layout.specs.Memory.{rowKind, objectRow, objectRows, partRows, uploadRows, rowsOf}
 use Rattle.find.specs.declared.search.Goal.the-variants as goal
-use Rattle.find.specs.Search.{reach, stopsAt, stopsOf, leads}
+use Rattle.find.specs.Search.{reach, stopsAt, stopsOf, leads, leader}
+use Rattle.find.specs.Places.{firstOf, firstDue}
 
 -- to the end of the rows
 pub reach-end : (rs : List Row) → reach (stopsOf goal.End) rs ≡ length rs
@@ -24,14 +27,14 @@ reach-end [] = refl
 reach-end (r ∷ rs) = ap suc (reach-end rs)
 
 -- to an upload
+object-kind : (e : Etag) → eqb (rowKind e) uploadKind ≡ false
+object-kind absent = refl
+object-kind (plain d) = refl
+object-kind (joined d n) = refl
+
 object-passes : (u : ℕ) (p : Bytes) (x : Object) → stopsOf (goal.Upload u) (objectRow p x) ≡ false
 unfolding stopsAt
-object-passes u p x = go (x .etag)
-  where
-    go : (e : Etag) → stopsOf (goal.Upload u) (objectRow p (record { content = x .content; created = x .created; etag = e })) ≡ false
-    go absent = refl
-    go (plain d) = refl
-    go (joined d n) = refl
+object-passes u p x = rw (object-kind (x .etag))
 
 reach-objects : (u : ℕ) (m : Map Bytes Object) (rs : List Row) → reach (stopsOf (goal.Upload u)) (objectRows m ++ rs) ≡ length (objectRows m) + reach (stopsOf (goal.Upload u)) rs
 unfolding reach objectRows
@@ -99,3 +102,33 @@ pub reach-next : (ps : Map ℕ Part) (m : Map ℕ Upload) → reach (stopsOf goa
 unfolding reach partRows stopsAt
 reach-next [] m = reach-no-upload m
 reach-next (e ∷ ps) m = ap suc (reach-next ps m)
+
+-- to an upload that started before a stamp: the first row there is the upload's
+module _ (t : ℕ) where
+  -- the rows from where the search stops
+  abbrev onward : List Row → List Row
+  onward rs = drop (reach (stopsOf (goal.Due t)) rs) rs
+
+  due-objects : (m : Map Bytes Object) (rs : List Row) → leader (onward (objectRows m ++ rs)) ≡ leader (onward rs)
+  unfolding reach objectRows stopsAt
+  due-objects [] rs = refl
+  due-objects (e ∷ m) rs = rw (object-kind (e .1 .etag)) (due-objects m rs)
+
+  due-parts : (ps : Map ℕ Part) (rs : List Row) → leader (onward (partRows ps ++ rs)) ≡ leader (onward rs)
+  unfolding reach partRows stopsAt
+  due-parts [] rs = refl
+  due-parts (e ∷ ps) rs = due-parts ps rs
+
+  due-uploads : (m : Map ℕ Upload) → leader (onward (uploadRows m)) ≡ firstOf (due t m)
+  unfolding reach leader uploadRows stopsAt firstOf due
+  due-uploads [] = refl
+  due-uploads (e ∷ m) = go (isDue t (e .1)) refl (due-parts (e .1 .parts) (uploadRows m) ∙ due-uploads m)
+    where
+      go : (b : Bool) → isDue t (e .1) ≡ b → leader (onward (partRows (e .1 .parts) ++ uploadRows m)) ≡ firstOf (due t m)
+          → leader (onward (uploadRows (e ∷ m))) ≡ firstOf (due t (e ∷ m))
+      go true q h = rw q
+      go false q h = rw q h
+
+  pub due-leads : (s : State) → leader (onward (rowsOf s)) ≡ firstDue t s
+  unfolding rowsOf
+  due-leads s = due-objects (s .O) (uploadRows (s .U)) ∙ due-uploads (s .U)

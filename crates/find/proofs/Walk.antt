@@ -17,7 +17,7 @@ use Rattle.layout.specs.Memory.{rowsOf, Stands}
 use Rattle.layout.proofs.RowCounts.{length-rows}
 use Rattle.find.specs.declared.RowPlace.{RowPlace}
 use Rattle.find.specs.declared.search.Goal.{Goal}
-use Rattle.find.specs.Search.{reach, stopsAt, stopsOf, rowPlaceAt, sought, leads}
+use Rattle.find.specs.Search.{reach, stopsAt, stopsOf, rowPlaceAt, sought, leads, leader}
 use Rattle.find.proofs.RowsAt.{At, Read, row-at, row-read}
 
 abbrev pub rowPlace : ℕ → ℕ → ℕ → RowPlace
@@ -113,3 +113,11 @@ leads-none kind number rs i l = rw (drop-of-length-le rs l)
 pub leads-row : (kind number : ℕ) (rs : List Row) (i : ℕ) (r : Row) → drop i rs ≡ r ∷ drop (i + 1) rs → leads kind number (drop i rs) ≡ (eqb (r .kind) kind && eqb (r .number) number)
 unfolding leads
 leads-row kind number rs i r e = rw e
+
+pub leader-none : (rs : List Row) (i : ℕ) → length rs ≤ i → leader (drop i rs) ≡ record { found = false; number = 0 }
+unfolding leader
+leader-none rs i l = rw (drop-of-length-le rs l)
+
+pub leader-row : (rs : List Row) (i : ℕ) (r : Row) → drop i rs ≡ r ∷ drop (i + 1) rs → leader (drop i rs) ≡ record { found = true; number = r .number }
+unfolding leader
+leader-row rs i r e = rw e

@@ -1,17 +1,18 @@
 -- Searches along the rows. Assumes nothing.
 use Prim.Native.Nat.{ℕ, suc, _+_, _≤_, _<_}
 use mathlib.Core.Path.{_≡_}
-use mathlib.Core.Bool.{Bool, false, _&&_, _||_, cond}
+use mathlib.Core.Bool.{Bool, true, false, _&&_, _||_, cond}
 use mathlib.Core.List.{List, [], _∷_}
-use lib.Dec.{leb, eqb}
+use lib.Dec.{leb, ltb, eqb}
 use lib.ListN.{length, take, drop}
 use Rattle.row.specs.declared.Head.{Head}
 use Rattle.row.specs.Row.{Row, encodeRows, contentsOf, headOf}
 use Rattle.layout.specs.Header.{headerLength}
 use Rattle.layout.specs.Rules.{uploadKind}
 use Rattle.find.specs.declared.RowPlace.{RowPlace}
+use Rattle.find.specs.declared.Numbered.{Numbered}
 use Rattle.find.specs.declared.search.Goal.{Goal}
-use Rattle.find.specs.declared.search.Goal.the-variants.{End, Upload, NextUpload, Part}
+use Rattle.find.specs.declared.search.Goal.the-variants.{End, Upload, NextUpload, Part, Due}
 
 -- how many rows stand before the first that passes a test
 unfoldable pub reach : (Row → Bool) → List Row → ℕ
@@ -24,6 +25,7 @@ stopsAt End h = false
 stopsAt (Upload u) h = eqb (h .kind) uploadKind && leb u (h .number)
 stopsAt NextUpload h = eqb (h .kind) uploadKind
 stopsAt (Part n) h = eqb (h .kind) uploadKind || leb n (h .number)
+stopsAt (Due t) h = eqb (h .kind) uploadKind && ltb (h .stamp) t
 
 abbrev pub stopsOf : Goal → Row → Bool
 stopsOf g r = stopsAt g (headOf r)
@@ -48,3 +50,8 @@ sought g rs i = rowPlaceAt rs (i + reach (stopsOf g) (drop i rs))
 unfoldable pub leads : (kind number : ℕ) → List Row → Bool
 leads kind number [] = false
 leads kind number (r ∷ rs) = eqb (r .kind) kind && eqb (r .number) number
+
+-- the number of the first row
+unfoldable pub leader : List Row → Numbered
+leader [] = record { found = false; number = 0 }
+leader (r ∷ rs) = record { found = true; number = r .number }

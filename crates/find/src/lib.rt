@@ -9,6 +9,7 @@ pub use objects::find_object;
 pub use uploads::find_part;
 pub use uploads::find_part_from;
 pub use uploads::find_upload;
+pub use uploads::first_due;
 pub use uploads::held;
 pub use uploads::parts_end;
 pub use uploads::parts_row;
@@ -30,6 +31,12 @@ pub struct RowPlace {
     pub row: usize,
     pub at: usize,
     pub base: usize,
+}
+
+// The number of a row; 0 where there is none.
+pub struct Numbered {
+    pub found: bool,
+    pub number: u32,
 }
 
 // How many parts an upload has, and the place of the row after them.

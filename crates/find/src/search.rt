@@ -1,20 +1,22 @@
 // A search along the rows.
+use crate::Numbered;
 use crate::RowPlace;
 use crate::counts::read_counts;
 use row::Head;
 ghost use mathlib.Core.Path.{_≡_};
 ghost use Prim.Native.Nat.{_+_};
 ghost use lib.ListN.{drop};
-ghost use Rattle.find.specs.Search.{stopsAt, sought, rowPlaceAt, leads};
+ghost use Rattle.find.specs.Search.{stopsAt, sought, rowPlaceAt, leads, leader};
 ghost use Rattle.find.specs.Known.{rowsIn, WholeRow, WholePlace};
 
 // Where a search along the rows stops: after them all; at the upload with a number, or the first above it; at the next
-// upload; at the part with a number, the first above it, or the next upload.
+// upload; at the part with a number, the first above it, or the next upload; at the next upload that started before a stamp.
 pub(crate) enum Goal {
     End,
     Upload(u32),
     NextUpload,
     Part(u16),
+    Due(u64),
 }
 
 // Whether a search stops at the row with this head.
@@ -26,6 +28,7 @@ fn stops(h: Head, goal: Goal) -> bool
         Goal::Upload(u) => h.kind == layout::UPLOAD_KIND && u <= h.number,
         Goal::NextUpload => h.kind == layout::UPLOAD_KIND,
         Goal::Part(n) => h.kind == layout::UPLOAD_KIND || n as u32 <= h.number,
+        Goal::Due(t) => h.kind == layout::UPLOAD_KIND && h.stamp < t,
     }
 }
 
@@ -77,4 +80,24 @@ pub(crate) fn stands(tables: &[u8], arena: &[u8], here: RowPlace, kind: u8, numb
     }
     let h = row::read_head(tables, here.at);
     h.kind == kind && h.number == number
+}
+
+// The number of the row there; none after the rows.
+pub(crate) fn number_of(tables: &[u8], arena: &[u8], here: RowPlace) -> Numbered
+    requires { ⌜ WholePlace (now tables) (now arena) here ⌝ }
+    ensures { λ r. ⌜ r ≡ leader (drop (here .row) (rowsIn (now (tables .entry)) (now (arena .entry)))) ⌝ }
+{
+    let counts = read_counts(tables, arena);
+    let rows = counts.rows;
+    if rows <= here.row {
+        return Numbered {
+            found: false,
+            number: 0,
+        };
+    }
+    let h = row::read_head(tables, here.at);
+    Numbered {
+        found: true,
+        number: h.number,
+    }
 }

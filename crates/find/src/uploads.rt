@@ -1,16 +1,18 @@
 // Where an upload and its parts stand, where the rows end, and how much is held.
 use crate::Lookup;
+use crate::Numbered;
 use crate::PassedParts;
 use crate::RowPlace;
 use crate::search::Goal;
 use crate::search::next_row;
+use crate::search::number_of;
 use crate::search::seek;
 use crate::search::stands;
 ghost use mathlib.Core.Path.{_≡_};
 ghost use mathlib.Core.Bool.{true};
 ghost use Rattle.machine.specs.State.{held};
 ghost use Rattle.layout.specs.Memory.{whole, stateOf};
-ghost use Rattle.find.specs.Places.{placeAfter, uploadPlace, partPlace, uploadRowOf, partsRowOf, passedParts};
+ghost use Rattle.find.specs.Places.{placeAfter, uploadPlace, partPlace, uploadRowOf, partsRowOf, passedParts, firstDue};
 ghost use Rattle.find.specs.Known.{rowsIn, WholeOpen, WholeRow, WholePlace, OfOpen, OfOpenAt, OfOpenBefore};
 
 // The row of the upload with this number, or where it would stand.
@@ -116,4 +118,18 @@ pub fn parts_end(tables: &[u8], arena: &[u8], upload: u32) -> PassedParts
 {
     let here = upload_row(tables, arena, upload);
     pass_parts(tables, arena, here)
+}
+
+// The number of the first upload that started before a stamp.
+pub fn first_due(tables: &[u8], arena: &[u8], stamp: u64) -> Numbered
+    requires { ⌜ whole (now tables) (now arena) ≡ true ⌝ }
+    ensures { λ r. ⌜ r ≡ firstDue stamp (stateOf (now (tables .entry)) (now (arena .entry))) ⌝ }
+{
+    let first = RowPlace {
+        row: 0,
+        at: layout::HEADER_LENGTH,
+        base: 0,
+    };
+    let here = seek(tables, arena, first, Goal::Due(stamp));
+    number_of(tables, arena, here)
 }

@@ -14,16 +14,11 @@ use Rattle.machine.specs.Lists.{trace, final}
 use Rattle.machine.specs.Demand3.{accepted}
 use Rattle.machine.specs.Sweep.{singleAborts, AllAccepted, AsAborts, SweptAmidAnyList}
 use Rattle.machine.proofs.MapLaws.{ascending-remove}
-use Rattle.machine.proofs.Sweeping.{abort-leaves, abort-accepted, first-due, one-swept}
+use Rattle.machine.proofs.Sweeping.{aborts-objects, abort-accepted, first-due, one-swept}
 use Rattle.machine.proofs.InPlace.{same-in-place}
 
--- no ABORT changes an object
-aborts-objects : (s : State) (us : List ℕ) → afterAborts s us .O ≡ s .O
-aborts-objects s [] = refl
-aborts-objects s (u ∷ us) = aborts-objects (after s (abortAt s u)) us ∙ ap (λ (z : State). z .O) (abort-leaves s u)
-
 module _ (A : ℕ) where
-  aborts-final : (s : State) (us : List ℕ) → afterAborts s us ≡ final A s (singleAborts us)
+  pub aborts-final : (s : State) (us : List ℕ) → afterAborts s us ≡ final A s (singleAborts us)
   unfolding act
   aborts-final s [] = refl
   aborts-final s (u ∷ us) = aborts-final (after s (abortAt s u)) us

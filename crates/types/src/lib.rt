@@ -30,6 +30,12 @@ pub struct Counts {
     pub bytes: u32,
 }
 
+// How many uploads SWEEP aborted, and whether more are due.
+pub struct Sweep {
+    pub count: u32,
+    pub more: bool,
+}
+
 // Where a name stands in a buffer of names: its first byte, from 0, and how many bytes it has.
 pub struct Place {
     pub start: u32,
@@ -81,4 +87,10 @@ pub enum InitiateAnswer {
 pub enum ListAnswer {
     Refused(u8),
     Written(Counts),
+}
+
+// SWEEP.
+pub enum SweepAnswer {
+    Refused(u8),
+    Swept(Sweep),
 }

@@ -6,7 +6,7 @@ use mathlib.Core.List.{[]}
 use Rattle.machine.specs.Map.{isSome, byNumber, lookup}
 use Rattle.machine.specs.State.{State, withoutUpload}
 use Rattle.machine.specs.Calls.{ABORT, nothing, badRequest, accept}
-use Rattle.machine.specs.Steps.{act}
+use Rattle.machine.specs.Steps.{abortAt, act}
 use Rattle.find.specs.declared.Lookup.{Lookup}
 use Rattle.find.specs.Places.{uploadPlace}
 use Rattle.find.proofs.Found.{is-some, is-none}
@@ -23,19 +23,19 @@ module _ (m : Memory) (u : ℕ) where
     found-is = ap (λ (p : Lookup). p .found) is
 
     pub abort-open : place .found ≡ true → 0 ≡ resultOf (outcome (ABORT u) m)
-    unfolding outcome act
+    unfolding outcome act abortAt
     abort-open e = let x = is-some _ (sym found-is ∙ e) in sym (result-found (lookup byNumber u (s .U)) badRequest _ (x .0) (x .1))
 
     pub abort-closed : place .found ≡ false → 2 ≡ resultOf (outcome (ABORT u) m)
-    unfolding outcome act
+    unfolding outcome act abortAt
     abort-closed e = sym (result-missing (lookup byNumber u (s .U)) badRequest _ (is-none _ (sym found-is ∙ e)))
 
   -- result 0
   module _ (zero-result : resultOf (outcome (ABORT u) m) ≡ 0) where
     pub abort-there : isSome (lookup byNumber u (s .U)) ≡ true
-    unfolding outcome act
+    unfolding outcome act abortAt
     abort-there = ap isSome (was-found (lookup byNumber u (s .U)) badRequest _ zero-result .1)
 
     pub abort-accepted : outcome (ABORT u) m ≡ accept nothing [] (withoutUpload s u)
-    unfolding outcome act
+    unfolding outcome act abortAt
     abort-accepted = was-found (lookup byNumber u (s .U)) badRequest _ zero-result .2

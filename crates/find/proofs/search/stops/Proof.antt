@@ -4,8 +4,6 @@ use borrow.Author.Tests.{eq-eqb, ne-eqb}
 use Rattle.find.specs.Search.{stopsAt}
 use Rattle.find.proofs.search.stops.Statement.{statement}
 use Rattle.find.proofs.search.stops.Tie as tie
-use Rattle.find.proofs.search.stops.Reads as reads
-use Rattle.find.proofs.search.stops.Lts as lts
 
 enum-told : tie.Need-enum-told
 enum-told c = search needs
@@ -21,6 +19,9 @@ enum-known-goal-2 c = search needs
 
 cast-result : tie.Need-cast-result
 cast-result c = search needs
+
+enum-known-goal-3 : tie.Need-enum-known-goal-3
+enum-known-goal-3 c = search needs
 
 returns : tie.Need-returns
 unfolding stopsAt
@@ -46,6 +47,14 @@ returns-6 : tie.Need-returns-6
 unfolding stopsAt
 returns-6 c = rw (c .before .before .before .before .goal2 .given .1, ne-eqb _ _ (c .before .if2 .left))
 
+returns-7 : tie.Need-returns-7
+unfolding stopsAt
+returns-7 c = rw (c .before .before .before .before .goal3 .given .1, eq-eqb _ _ (c .before .if3 .taken))
+
+returns-8 : tie.Need-returns-8
+unfolding stopsAt
+returns-8 c = rw (c .before .before .before .goal3 .given .1, ne-eqb _ _ (c .if3 .left))
+
 pub stops-spec : {M : Type 1} → statement M
 stops-spec =
     tie.close
@@ -55,9 +64,12 @@ stops-spec =
     enum-told-2
     enum-known-goal-2
     cast-result
+    enum-known-goal-3
     returns
     returns-2
     returns-3
     returns-4
     returns-5
-    returns-6)
+    returns-6
+    returns-7
+    returns-8)

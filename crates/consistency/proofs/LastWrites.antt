@@ -10,8 +10,8 @@ use Rattle.order.proofs.OrderLaws.{bytes, numbers, same-true}
 use Rattle.machine.specs.Map.{Map, byNumber, lookup, insert, also}
 use Rattle.machine.specs.Names.{Bytes}
 use Rattle.machine.specs.State.{Object, Part, Upload, State, fresh}
-use Rattle.machine.specs.Calls.{Call, PUT, GET, HEAD, DELETE, COPY, LIST, INITIATE, PART, COMMIT, ABORT, UPLOADS, DELETE-OBJECTS, Reply, lent}
-use Rattle.machine.specs.Steps.{plainObject, joinedObject, fit, deleteAt, act, reply, next}
+use Rattle.machine.specs.Calls.{Call, PUT, GET, HEAD, DELETE, COPY, LIST, INITIATE, PART, COMMIT, ABORT, UPLOADS, DELETE-OBJECTS, SWEEP, Reply, lent}
+use Rattle.machine.specs.Steps.{plainObject, joinedObject, fit, deleteAt, abortAt, toSweep, act, reply, next}
 use Rattle.machine.specs.Lists.{Trace, trace, final}
 use Rattle.machine.specs.Valid.{UploadOk, Valid}
 use Rattle.machine.specs.Demand3.{lastPart, startOf, joinedFrom}
@@ -19,6 +19,7 @@ use Rattle.consistency.specs.LastWrites.{Change, sets, copies, joins, re
 use Rattle.machine.proofs.MapLaws.{every-lookup, lookup-insert, lookup-insert-other}
 use Rattle.machine.proofs.Fit.{fit-listed}
 use Rattle.machine.proofs.Outcome.{refused-not-accepted, Then, then-else, then-given, then-object, then-put, then-step}
+use Rattle.machine.proofs.Sweeping.{aborts-objects}
 use Rattle.machine.proofs.KeepsValid.{fresh-valid, final-valid}
 use Rattle.machine.proofs.Commits.{Agrees, fresh-agrees, sent, joined-new}
 use Rattle.machine.proofs.Traces.{final-append, trace-append}
@@ -50,7 +51,7 @@ Changed s (some (joins u ns)) o =
 Changed s (some (removes ps)) o = Removed ps (s .O) o
 
 pub act-changes : (A : ℕ) (s : State) (c : Call) → Then (λ r out s′. Changed s (change c) (s′ .O)) (act A s c)
-unfolding act deleteAt Then
+unfolding act deleteAt abortAt Then
 act-changes A s (PUT t p d) = then-else _ _ _ _ λ _. then-put _ A s t p d λ _ _. refl
 act-changes A s (GET p b) = then-object _ s p _ λ x. then-else _ _ _ _ λ _. refl
 act-changes A s (HEAD p) = then-object _ s p _ λ x. refl
@@ -63,6 +64,7 @@ act-changes A s (COMMIT u ns) = then-given _ _ _ _ λ x e. then-given _ _ _ _ λ
 act-changes A s (ABORT u) = then-given _ _ _ _ λ x _. refl
 act-changes A s (UPLOADS prefix b) = then-else _ _ _ _ λ _. refl
 act-changes A s (DELETE-OBJECTS names ps over b) = then-else _ _ _ _ λ _. then-else _ _ _ _ λ _. then-else _ _ _ _ λ _. places-removed A s names ps
+act-changes A s (SWEEP t n) = then-else _ _ _ _ λ _. aborts-objects s (toSweep t n (s .U))
 
 module _ (A : ℕ) (s : State) (t : Trace) (v : Valid A s) (a : Agrees (s .U) (s .N) (λ u n. lastPart u n t) (λ u. startOf u t))
     (was : Bytes → Option Object) (w : (p : Bytes) → lookup byBytes p (s .O) ≡ was p) where

@@ -10,7 +10,7 @@ use borrow.Author.Tests.{eq-eqb, ne-eqb, eqb-true}
 use Rattle.machine.specs.Map.{also, keep, Every}
 use Rattle.machine.specs.Names.{Bytes}
 use Rattle.machine.specs.State.{Object}
-use Rattle.machine.specs.Calls.{Call, PUT, GET, HEAD, DELETE, COPY, LIST, INITIATE, PART, COMMIT, ABORT, UPLOADS, DELETE-OBJECTS, Answer, nothing, metadata, etag, number, counts, Reply}
+use Rattle.machine.specs.Calls.{Call, PUT, GET, HEAD, DELETE, COPY, LIST, INITIATE, PART, COMMIT, ABORT, UPLOADS, DELETE-OBJECTS, SWEEP, Answer, nothing, metadata, etag, number, counts, swept, Reply}
 use Rattle.machine.specs.Lists.{Trace}
 use Rattle.machine.specs.Demand3.{Kind, looks, initiates, sends, commits, other, kind, accepted, _or_, carries, carried, lastPart, lastParts, answers, opens, opened, startOf, commitOf, NoCommitAccepted}
 use Rattle.consistency.specs.LastWrites.{Change, sets, copies, joins, removes, change, Write, writes, written, isTo, left, lastOf, lastWrite}
@@ -215,6 +215,7 @@ change-kind (COMMIT v ns) = refl
 change-kind (ABORT v) = tt
 change-kind (UPLOADS prefix b) = tt
 change-kind (DELETE-OBJECTS names ps over b) = refl
+change-kind (SWEEP t n) = tt
 
 writer-builds-none : (u : ℕ) (a : Answer) (was : Bytes → Option Object) (before : Trace) (p : Bytes) (x : Option Change) (k : Kind) → OfKind x k →
     isTo p (also x (writes was before)) ≡ true → builds u a k ≡ false
@@ -234,6 +235,7 @@ other-answer u v (metadata l c e) d h = refl
 other-answer u v (etag e) d h = refl
 other-answer u v (number n) d h = other-number u v n d h
 other-answer u v (counts r b) d h = refl
+other-answer u v (swept c m) d h = refl
 
 -- what built one upload built no other
 other-builds : (u v : ℕ) (a : Answer) (k : Kind) → (u ≡ v → ⊥) → builds v a k ≡ true → builds u a k ≡ false

@@ -8,7 +8,7 @@ use Rattle.order.specs.Order.{same}
 use Rattle.machine.specs.Map.{mapped, also}
 use Rattle.machine.specs.Names.{Bytes}
 use Rattle.machine.specs.State.{Object}
-use Rattle.machine.specs.Calls.{Call, PUT, GET, HEAD, DELETE, COPY, LIST, INITIATE, PART, COMMIT, ABORT, UPLOADS, DELETE-OBJECTS, NamePlace, Reply}
+use Rattle.machine.specs.Calls.{Call, PUT, GET, HEAD, DELETE, COPY, LIST, INITIATE, PART, COMMIT, ABORT, UPLOADS, DELETE-OBJECTS, SWEEP, NamePlace, Reply}
 use Rattle.machine.specs.Steps.{plainObject}
 use Rattle.machine.specs.Lists.{Trace}
 use Rattle.machine.specs.Demand3.{accepted, startOf, lastParts, joinedFrom}
@@ -35,6 +35,7 @@ change (COMMIT u ns) = some (joins u ns)
 change (ABORT u) = none
 change (UPLOADS prefix b) = none
 change (DELETE-OBJECTS names ps over b) = some (removes (map (nameAt names) ps))
+change (SWEEP t n) = none
 
 -- paths, and what is left at each: an object, or nothing
 abbrev pub Write : Type 0

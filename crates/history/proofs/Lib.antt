@@ -7,3 +7,4 @@ pub mod Aborted
 pub mod InPlace
 pub mod DeleteObjects
 pub mod Swaps
+pub mod Sweep

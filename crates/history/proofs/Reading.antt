@@ -9,7 +9,7 @@ use Rattle.order.specs.Order.{byBytes}
 use Rattle.machine.specs.Map.{isSome, Map, lookup}
 use Rattle.machine.specs.Names.{Bytes}
 use Rattle.machine.specs.State.{Object, State}
-use Rattle.machine.specs.Calls.{Call, PUT, GET, HEAD, DELETE, COPY, LIST, INITIATE, PART, COMMIT, ABORT, UPLOADS, DELETE-OBJECTS, Reply, lent}
+use Rattle.machine.specs.Calls.{Call, PUT, GET, HEAD, DELETE, COPY, LIST, INITIATE, PART, COMMIT, ABORT, UPLOADS, DELETE-OBJECTS, SWEEP, Reply, lent}
 use Rattle.machine.specs.Steps.{act, reply, next}
 use Rattle.machine.specs.Lists.{Trace}
 use Rattle.machine.specs.Demand3.{kind, isLook}
@@ -48,6 +48,7 @@ looks-same A s s′ (COMMIT u ns) e l = absurd (false≢true l)
 looks-same A s s′ (ABORT u) e l = absurd (false≢true l)
 looks-same A s s′ (UPLOADS prefix b) e l = absurd (false≢true l)
 looks-same A s s′ (DELETE-OBJECTS names ps over b) e l = absurd (false≢true l)
+looks-same A s s′ (SWEEP t n) e l = absurd (false≢true l)
 
 -- Over memory -------------------------------------------------------------------------------------------------------------------
 

@@ -4,5 +4,6 @@ pub mod LastWrites
 pub mod Questions
 pub mod InPlace
 pub mod DeleteObjects
+pub mod Sweep
 pub mod Batch
 pub mod Swaps

@@ -3,18 +3,21 @@ use Prim.Native.Nat.{ℕ}
 use mathlib.Core.Path.{_≡_}
 use mathlib.Core.Bool.{Bool, true, false}
 use mathlib.Core.List.{List, [], _∷_, _++_}
+use mathlib.Core.Option.{none, some}
 use lib.Dec.{eqb}
-use Rattle.machine.specs.Map.{isSome}
-use Rattle.machine.specs.Calls.{Call, PUT, GET, HEAD, DELETE, COPY, LIST, INITIATE, PART, COMMIT, ABORT, UPLOADS, DELETE-OBJECTS, Reply}
-use Rattle.machine.specs.Lists.{Trace}
-use Rattle.machine.specs.Demand3.{kind, isLook, accepted}
+use Rattle.machine.specs.Map.{isSome, byNumber, lookup}
+use Rattle.machine.specs.State.{Upload, State, fresh}
+use Rattle.machine.specs.Calls.{Call, PUT, GET, HEAD, DELETE, COPY, LIST, INITIATE, PART, COMMIT, ABORT, UPLOADS, DELETE-OBJECTS, SWEEP, Reply}
+use Rattle.machine.specs.Steps.{next}
+use Rattle.machine.specs.Lists.{Trace, final}
+use Rattle.machine.specs.Demand3.{kind, isLook, accepted, calls}
 use Rattle.consistency.specs.LastWrites.{change}
 use Rattle.contract.specs.Made.{Memory, Made}
 use Rattle.history.specs.Demand3.{Committed}
 
 -- "Can a batch record be read before its last weighing is committed?" -----------------------------------------------------
 
--- the calls that set or remove an object: PUT, DELETE, COPY, COMMIT and DELETE_OBJECTS; INITIATE, PART and ABORT do not
+-- the calls that set or remove an object: PUT, DELETE, COPY, COMMIT and DELETE_OBJECTS; INITIATE, PART, ABORT and SWEEP do not
 abbrev pub changesObjects : Call → Bool
 changesObjects c = isSome (change c)
 
@@ -43,15 +46,22 @@ names u (COMMIT v ns) = eqb u v
 names u (ABORT v) = eqb u v
 names u (UPLOADS prefix b) = false
 names u (DELETE-OBJECTS ns ps over b) = false
+names u (SWEEP t n) = false
 
 -- every call that names the upload is refused, by 2
 abbrev pub Shut : (upload : ℕ) → Trace → Type 0
 Shut u [] = Unit {0}
 Shut u (e ∷ t) = (names u (e .0) ≡ true → e .1 .result ≡ 2) × Shut u t
 
--- What an accepted ABORT of upload u means for the rest of the run, which leaves memory m: the upload is shut, and every COMMIT that is
--- accepted later names another upload and joins the parts that were sent to that one.
-pub record StaysOut (A : ℕ) (before : Trace) (u : ℕ) (r : Reply) (later : Trace) (m : Memory) : Type 0 where
+-- upload u is open after the calls `before`, and not after the call c, which is made next: c is its ABORT, its COMMIT, or a SWEEP that aborts it
+abbrev pub EndedBy : (A : ℕ) (before : Trace) → Call → (upload : ℕ) → Type 0
+EndedBy A before c u =
+    let s : State = final A fresh (calls before) in
+    (x : Upload) × (lookup byNumber u (s .U) ≡ some x) × (lookup byNumber u (next A s c .U) ≡ none)
+
+-- What the call c with reply r, after which upload u is gone, means for the rest of the run, which leaves memory m: the upload is shut, and every
+-- COMMIT that is accepted later names another upload and joins the parts that were sent to that one.
+pub record StaysOut (A : ℕ) (before : Trace) (c : Call) (u : ℕ) (r : Reply) (later : Trace) (m : Memory) : Type 0 where
   pub shut : Shut u later
   pub records : (between after : Trace) (v : ℕ) (ns : List ℕ) (q : Reply) → later ≡ between ++ (COMMIT v ns, q) ∷ after → accepted q ≡ true
-      → (v ≡ u → ⊥) × Committed A (before ++ (ABORT u, r) ∷ between) v ns q after m
+      → (v ≡ u → ⊥) × Committed A (before ++ (c, r) ∷ between) v ns q after m

@@ -1,5 +1,5 @@
-// The store's calls: FRESH, document 01's eleven and document 02's DELETE_OBJECTS, which also takes its places as bytes. Each promises
-// `Made` (crate `contract`), FRESH `MadeFresh`, and none has a precondition.
+// The store's calls: FRESH, document 01's eleven, and document 02's DELETE_OBJECTS, which also takes its places as bytes, and SWEEP. Each
+// promises `Made` (crate `contract`), FRESH `MadeFresh`, and none has a precondition.
 pub use commits::commit;
 pub use copies::copy;
 pub use deletes::delete_objects;
@@ -7,6 +7,7 @@ pub use deletes::packed::delete_packed;
 pub use listing::list;
 pub use reads::get;
 pub use reads::head;
+pub use sweeps::sweep;
 pub use uploading::abort::abort;
 pub use uploading::initiate::initiate;
 pub use uploading::part::part;

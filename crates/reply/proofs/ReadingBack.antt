@@ -1,16 +1,18 @@
 -- What `replyBytes` writes is read back, where the values fit their widths. Assumes nothing.
 use Prim.Native.Nat.{ℕ, _<_, _^_}
-use mathlib.Core.Path.{_≡_, ap, ap₂}
+use mathlib.Core.Path.{_≡_, refl, ap, ap₂, _∙_}
+use mathlib.Core.Bool.{Bool, true, false}
 use native.Mathlib.Omega.{arith}
+use lib.Dec.{eqb}
 use lib.ListN.{length, take, drop}
 use lib.Seq.{take-at}
 use Rattle.number.specs.Number.{le}
 use Rattle.number.proofs.NumberLaws.{length-le, fromLe-le}
 use Rattle.machine.specs.Names.{Bytes}
 use Rattle.machine.specs.Etags.{Etag, absent, plain, joined, countOf, digestOf}
-use Rattle.machine.specs.Calls.{metadata, etag, number, counts}
-use Rattle.reply.specs.Reply.{kindOf, fieldBytes, fieldsWith, replyBytes}
-use Rattle.reply.specs.ReadBack.{numberAt, etagFrom, etagIn, metadataIn, numberIn, countsIn}
+use Rattle.machine.specs.Calls.{metadata, etag, number, counts, swept}
+use Rattle.reply.specs.Reply.{kindOf, fieldBytes, fieldsWith, moreOf, replyBytes}
+use Rattle.reply.specs.ReadBack.{numberAt, etagFrom, etagIn, metadataIn, numberIn, countsIn, sweptIn}
 
 -- an etag that fits its fields: 16 bytes of digest, a count of 16 bits
 abbrev pub EtagFits : Etag → Type 0
@@ -18,9 +20,9 @@ EtagFits absent = Unit {0}
 EtagFits (plain digest) = length digest ≡ 16
 EtagFits (joined digest count) = (length digest ≡ 16) × (count < 65536)
 
-module _ (created size upload records bytes kind count : ℕ) (digest : Bytes) where
+module _ (created size upload records bytes kind more count : ℕ) (digest : Bytes) where
   abbrev o : Bytes
-  o = fieldBytes created size upload records bytes kind count digest
+  o = fieldBytes created size upload records bytes kind more count digest
 
   created-at : created < 256 ^ 8 → numberAt 0 8 o ≡ created
   unfolding fieldBytes le
@@ -46,6 +48,10 @@ module _ (created size upload records bytes kind count : ℕ) (digest : Bytes) w
   unfolding fieldBytes le
   kind-at h = fromLe-le 1 kind h
 
+  more-at : more < 256 ^ 1 → numberAt 25 1 o ≡ more
+  unfolding fieldBytes le
+  more-at h = fromLe-le 1 more h
+
   count-at : count < 256 ^ 2 → numberAt 26 2 o ≡ count
   unfolding fieldBytes le
   count-at h = fromLe-le 2 count h
@@ -60,18 +66,18 @@ module _ (created size upload records bytes kind count : ℕ) (digest : Bytes) w
 
 -- the etag, whatever stands in the other fields
 etag-with : (created size upload records bytes : ℕ) (e : Etag) → EtagFits e → etagIn (fieldsWith created size upload records bytes e) ≡ e
-etag-with created size upload records bytes absent h = etag-at created size upload records bytes 0 0 (le 16 0) (omega arith) (omega arith) (length-le 16 0)
-etag-with created size upload records bytes (plain digest) h = etag-at created size upload records bytes 1 0 digest (omega arith) (omega arith) h
+etag-with created size upload records bytes absent h = etag-at created size upload records bytes 0 0 0 (le 16 0) (omega arith) (omega arith) (length-le 16 0)
+etag-with created size upload records bytes (plain digest) h = etag-at created size upload records bytes 1 0 0 digest (omega arith) (omega arith) h
 etag-with created size upload records bytes (joined digest count) h =
     let n = h .1 in
-    etag-at created size upload records bytes 2 count digest (omega arith) (omega arith) (h .0)
+    etag-at created size upload records bytes 2 0 count digest (omega arith) (omega arith) (h .0)
 
 pub metadata-back : (size created : ℕ) (e : Etag) → size < 4294967296 → created < 18446744073709551616 → EtagFits e
     → metadataIn (replyBytes (metadata size created e)) ≡ metadata size created e
 unfolding replyBytes metadataIn
 metadata-back size created e hs hc he =
-    let l = length-at created size 0 0 0 (kindOf e) (countOf e) (digestOf e) (omega arith) in
-    let c = created-at created size 0 0 0 (kindOf e) (countOf e) (digestOf e) (omega arith) in
+    let l = length-at created size 0 0 0 (kindOf e) 0 (countOf e) (digestOf e) (omega arith) in
+    let c = created-at created size 0 0 0 (kindOf e) 0 (countOf e) (digestOf e) (omega arith) in
     λ i. metadata (l i) (c i) (etag-with created size 0 0 0 e he i)
 
 pub etag-back : (e : Etag) → EtagFits e → etagIn (replyBytes (etag e)) ≡ e
@@ -80,9 +86,20 @@ etag-back e h = etag-with 0 0 0 0 0 e h
 
 pub number-back : (n : ℕ) → n < 4294967296 → numberIn (replyBytes (number n)) ≡ number n
 unfolding replyBytes numberIn
-number-back n h = ap number (upload-at 0 0 n 0 0 _ _ _ (omega arith))
+number-back n h = ap number (upload-at 0 0 n 0 0 _ _ _ _ (omega arith))
 
 pub counts-back : (records bytes : ℕ) → records < 4294967296 → bytes < 4294967296 → countsIn (replyBytes (counts records bytes)) ≡ counts records bytes
 unfolding replyBytes countsIn
 counts-back records bytes hr hb =
-    ap₂ counts (records-at 0 0 0 records bytes _ _ _ (omega arith)) (bytes-at 0 0 0 records bytes _ _ _ (omega arith))
+    ap₂ counts (records-at 0 0 0 records bytes _ _ _ _ (omega arith)) (bytes-at 0 0 0 records bytes _ _ _ _ (omega arith))
+
+-- whether more are due, as a number
+more-back : (more : Bool) → (moreOf more < 256 ^ 1) × (eqb (moreOf more) 1 ≡ more)
+more-back true = (omega arith, refl)
+more-back false = (omega arith, refl)
+
+pub swept-back : (count : ℕ) (more : Bool) → count < 4294967296 → sweptIn (replyBytes (swept count more)) ≡ swept count more
+unfolding replyBytes sweptIn
+swept-back count more h =
+    let m = more-back more in
+    ap₂ swept (records-at 0 0 0 count 0 _ _ _ _ (omega arith)) (ap (λ (n : ℕ). eqb n 1) (more-at 0 0 0 count 0 _ (moreOf more) _ _ (m .0)) ∙ m .1)

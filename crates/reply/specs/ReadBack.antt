@@ -6,7 +6,7 @@ use lib.ListN.{take, drop}
 use Rattle.number.specs.Number.{fromLe}
 use Rattle.machine.specs.Names.{Bytes}
 use Rattle.machine.specs.Etags.{Etag, absent, plain, joined}
-use Rattle.machine.specs.Calls.{Call, PUT, GET, HEAD, DELETE, COPY, LIST, INITIATE, PART, COMMIT, ABORT, UPLOADS, DELETE-OBJECTS, Answer, nothing, metadata, etag, number, counts}
+use Rattle.machine.specs.Calls.{Call, PUT, GET, HEAD, DELETE, COPY, LIST, INITIATE, PART, COMMIT, ABORT, UPLOADS, DELETE-OBJECTS, SWEEP, Answer, nothing, metadata, etag, number, counts, swept}
 
 -- the number of so many bytes at an offset, low byte first
 abbrev pub numberAt : (offset width : ℕ) → Bytes → ℕ
@@ -32,6 +32,10 @@ numberIn o = number (numberAt 12 4 o)
 unfoldable pub countsIn : Bytes → Answer
 countsIn o = counts (numberAt 16 4 o) (numberAt 20 4 o)
 
+-- how many uploads SWEEP aborted, and whether more are due
+unfoldable pub sweptIn : Bytes → Answer
+sweptIn o = swept (numberAt 16 4 o) (eqb (numberAt 25 1 o) 1)
+
 -- what call k answered, as a reply with bytes o tells it
 abbrev pub answerIn : Call → (o : Bytes) → Answer
 answerIn (PUT t p d) o = nothing
@@ -46,3 +50,4 @@ answerIn (COMMIT u ns) o = nothing
 answerIn (ABORT u) o = nothing
 answerIn (UPLOADS prefix b) o = countsIn o
 answerIn (DELETE-OBJECTS names ps over b) o = nothing
+answerIn (SWEEP t n) o = sweptIn o

@@ -7,10 +7,11 @@ use types::GetAnswer;
 use types::InitiateAnswer;
 use types::ListAnswer;
 use types::PartAnswer;
+use types::SweepAnswer;
 ghost use mathlib.Core.Path.{_≡_};
 ghost use mathlib.Core.List.{[]};
 ghost use lib.ListN.{length};
-ghost use Rattle.contract.specs.Answers.{doneReply, getReply, partReply, initiateReply, listReply};
+ghost use Rattle.contract.specs.Answers.{doneReply, getReply, partReply, initiateReply, listReply, sweepReply};
 ghost use Rattle.reply.specs.Reply.{replyOver};
 
 // PUT, DELETE, COPY, COMMIT, ABORT and DELETE_OBJECTS: the number alone.
@@ -76,6 +77,20 @@ pub fn written(a: ListAnswer, reply: &mut [u8]) -> u32
         ListAnswer::Refused(n) => n as u32,
         ListAnswer::Written(c) => {
             fields::write(reply, 0, 0, 0, c.records, c.bytes, Etag::Absent);
+            0
+        }
+    }
+}
+
+// SWEEP: how many uploads it aborted, and whether more are due.
+pub fn swept(a: SweepAnswer, reply: &mut [u8]) -> u32
+    requires { ⌜ length (now reply) ≡ 48 ⌝ }
+    ensures { λ r. ⌜ (r ≡ sweepReply a .result) × (now (reply .exit) ≡ replyOver (sweepReply a .answer) (now (reply .entry))) ⌝ }
+{
+    match a {
+        SweepAnswer::Refused(n) => n as u32,
+        SweepAnswer::Swept(s) => {
+            fields::write_swept(reply, s.count, s.more);
             0
         }
     }

@@ -6,3 +6,4 @@ pub mod Demand3
 pub mod Questions
 pub mod DeleteObjects
 pub mod Swaps
+pub mod Sweep

@@ -7,10 +7,12 @@ use mathlib.Core.List.{List, _∷_, _++_}
 use borrow.Author.Tests.{eq-eqb, ne-eqb}
 use lib.ListN.{length}
 use Rattle.number.specs.Number.{AreBytes}
-use Rattle.machine.specs.Names.{Bytes}
-use Rattle.machine.specs.Calls.{ABORT, Reply}
-use Rattle.machine.specs.Lists.{Trace}
-use Rattle.machine.specs.Demand3.{accepted}
+use Rattle.machine.specs.Calls.{ABORT, SWEEP, Reply}
+use Rattle.machine.specs.State.{fresh}
+use Rattle.machine.specs.Steps.{toSweep}
+use Rattle.machine.specs.Lists.{Trace, final}
+use Rattle.machine.specs.Fits.{member}
+use Rattle.machine.specs.Demand3.{accepted, calls}
 use Rattle.contract.specs.Made.{Memory}
 use Rattle.history.specs.Questions.{ChangesNone, SameReads, StaysOut}
 use Rattle.history.specs.LastWrites.{Consistent}
@@ -51,5 +53,11 @@ c-unread {m} {m′} b run h = c-reads-same m m′ (unread b run h)
 
 -- "Can weighings of an aborted upload turn up in a later record?"
 pub stays-out : (A : ℕ) (es : List Event) (m : Memory) → CFromFresh A es m → (before after : Trace) (u : ℕ) (r : Reply)
-    → heard es ≡ before ++ (ABORT u, r) ∷ after → accepted r ≡ true → StaysOut A before u r after m
+    → heard es ≡ before ++ (ABORT u, r) ∷ after → accepted r ≡ true → StaysOut A before (ABORT u) u r after m
 stays-out A es m f = aborted.stays-out A (heard es) m (from-fresh A es m f)
+
+-- E3: the same of an upload that a sweep aborted
+pub swept-stays-out : (A : ℕ) (es : List Event) (m : Memory) → CFromFresh A es m → (before after : Trace) (u : ℕ) (r : Reply) (stamp most : ℕ)
+    → heard es ≡ before ++ (SWEEP stamp most, r) ∷ after → accepted r ≡ true
+    → member u (toSweep stamp most (final A fresh (calls before) .U)) ≡ true → StaysOut A before (SWEEP stamp most) u r after m
+swept-stays-out A es m f = aborted.swept-stays-out A (heard es) m (from-fresh A es m f)

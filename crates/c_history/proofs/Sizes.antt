@@ -1,4 +1,4 @@
--- How many records LIST and UPLOADS write of a valid state, and how many bytes. Assumes nothing.
+-- How many records LIST and UPLOADS write of a valid state, and how many bytes; how many uploads are due. Assumes nothing.
 use Prim.Native.Nat.{ℕ, suc, _*_, _/_, _≤_}
 use mathlib.Core.Bool.{Bool, true, false, cond}
 use mathlib.Core.List.{[], _∷_}
@@ -12,7 +12,7 @@ use Rattle.machine.specs.Map.{Map, Every, keep, records}
 use Rattle.machine.specs.Names.{Bytes}
 use Rattle.machine.specs.Etags.{Etag, absent, plain, joined, text}
 use Rattle.machine.specs.State.{Object, Upload, State}
-use Rattle.machine.specs.Steps.{isListed, listed, listRecord, openUnder, uploadRecord}
+use Rattle.machine.specs.Steps.{isListed, listed, listRecord, openUnder, uploadRecord, isDue, due}
 use Rattle.machine.specs.Valid.{EtagOk, ObjectOk, UploadOk, Valid}
 use Rattle.machine.proofs.Records.{length-listRecord}
 use Rattle.layout.proofs.TestLaws.{stored-path-length}
@@ -92,3 +92,7 @@ module _ (A : ℕ) (s : State) (v : Valid A s) where
     opens-bytes =
         let every = kept-every (λ (u : ℕ) (x : Upload). begins prefix (x .path)) (UploadOk (s .N)) (s .U) (v .upload) in
         omega (arith, records-length uploadRecord (UploadOk (s .N)) 143 (upload-record-length (s .N)) (openUnder prefix (s .U)) every, opens-few)
+
+  pub due-few : (t : ℕ) → length (due t (s .U)) ≤ 16
+  unfolding due
+  due-few t = omega (arith, kept-length (λ (u : ℕ) (x : Upload). isDue t x) (s .U), v .opens)

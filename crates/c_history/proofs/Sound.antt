@@ -11,7 +11,7 @@ use Rattle.contract.specs.Made.{Memory, wholeMemory, stateIn, meantReply, Made,
 use Rattle.reply.specs.Reply.{replyLength}
 use Rattle.rathnodi.specs.Exported.{numberedWith, Exported}
 use Rattle.c_history.specs.Events.{Event, alone, replied}
-use Rattle.c_history.specs.Lists.{Step, put, get, head, delete, copy, list, initiate, part, commit, abort, uploads, delete-objects}
+use Rattle.c_history.specs.Lists.{Step, put, get, head, delete, copy, list, initiate, part, commit, abort, uploads, delete-objects, sweep}
 
 -- what the function that was called promised
 unfoldable pub Promised : Event → Memory → Memory → Type 0
@@ -32,6 +32,7 @@ promised (commit l h) = h
 promised (abort h) = h
 promised (uploads h) = h
 promised (delete-objects l h) = h
+promised (sweep h) = h
 
 -- memory that stands for a valid state where it is whole
 unfoldable pub Sound : Memory → Type 0

@@ -1,10 +1,12 @@
 -- Every reply of 48 bytes is read back as the answer that the machine gave: over a valid state all values fit. Assumes nothing.
-use Prim.Native.Nat.{ℕ, _≤_}
+use Prim.Native.Nat.{ℕ, min, _≤_}
 use mathlib.Core.Path.{_≡_, refl, ap}
 use mathlib.Core.List.{[], _∷_}
 use mathlib.Core.Option.{some}
+use native.Mathlib.Nat.{min-le-right}
 use native.Mathlib.Omega.{arith}
 use borrow.Author.Tests.{leb-true}
+use lib.Dec.{ltb}
 use lib.ListN.{length}
 use Rattle.order.specs.Order.{byBytes}
 use Rattle.order.proofs.OrderLaws.{bytes}
@@ -13,8 +15,8 @@ use Rattle.machine.specs.Names.{Bytes, lastUploadNumber}
 use Rattle.machine.specs.Digest.{md5, length-md5}
 use Rattle.machine.specs.Etags.{Etag, absent, plain, joined}
 use Rattle.machine.specs.State.{Object, State, objectLength, held}
-use Rattle.machine.specs.Calls.{Call, PUT, GET, HEAD, DELETE, COPY, LIST, INITIATE, PART, COMMIT, ABORT, UPLOADS, DELETE-OBJECTS, Answer, etag, Outcome}
-use Rattle.machine.specs.Steps.{about, objectAt, listed, listRecord, openUnder, uploadRecord, deleteAt, act}
+use Rattle.machine.specs.Calls.{Call, PUT, GET, HEAD, DELETE, COPY, LIST, INITIATE, PART, COMMIT, ABORT, UPLOADS, DELETE-OBJECTS, SWEEP, Answer, etag, Outcome}
+use Rattle.machine.specs.Steps.{about, objectAt, listed, listRecord, openUnder, uploadRecord, deleteAt, abortAt, due, act}
 use Rattle.machine.specs.Valid.{EtagOk, ObjectOk, Valid}
 use Rattle.machine.proofs.MapLaws.{every-lookup}
 use Rattle.machine.proofs.MapSums.{total-share}
@@ -23,8 +25,8 @@ use Rattle.layout.proofs.TestLaws.{stamp-range}
 use Rattle.layout.specs.Memory.{arenaMost}
 use Rattle.reply.specs.Reply.{replyBytes}
 use Rattle.reply.specs.ReadBack.{answerIn, metadataIn}
-use Rattle.reply.proofs.ReadingBack.{EtagFits, metadata-back, etag-back, number-back, counts-back}
-use Rattle.c_history.proofs.Sizes.{listed-few, listed-bytes, opens-few, opens-bytes}
+use Rattle.reply.proofs.ReadingBack.{EtagFits, metadata-back, etag-back, number-back, counts-back, swept-back}
+use Rattle.c_history.proofs.Sizes.{listed-few, listed-bytes, opens-few, opens-bytes, due-few}
 
 -- the answer of an accepted call k is read back from its reply
 abbrev pub ReadBack : Call → Answer → Bytes → State → Type 0
@@ -53,7 +55,7 @@ module _ (A : ℕ) (s : State) (small : A ≤ arenaMost) (v : Valid A s) where
   found-back Q (b ∷ p) k h = then-else _ _ _ _ λ _. then-given _ _ _ _ λ x e. h x (object-back (b ∷ p) x e)
 
   pub reads-back : (k : Call) → Then (ReadBack k) (act A s k)
-  unfolding act deleteAt
+  unfolding act deleteAt abortAt
   reads-back (PUT t p d) = then-else _ _ _ _ λ _. then-put _ A s t p d λ _ _. refl
   reads-back (GET p b) = found-back _ p _ λ x e. then-else _ _ _ _ λ _. then-accept _ _ _ _ e
   reads-back (HEAD p) = found-back _ p _ λ x e. then-accept _ _ _ _ e
@@ -83,3 +85,7 @@ module _ (A : ℕ) (s : State) (small : A ≤ arenaMost) (v : Valid A s) where
       then-else _ _ _ _ λ _. then-accept _ _ _ _
       (counts-back (length (openUnder prefix (s .U))) (length (records uploadRecord (openUnder prefix (s .U)))) (omega arith) (omega arith))
   reads-back (DELETE-OBJECTS names ps over b) = then-else _ _ _ _ λ _. then-else _ _ _ _ λ _. then-else _ _ _ _ λ _. then-accept _ _ _ _ refl
+  reads-back (SWEEP t n) =
+      let d = length (due t (s .U)) in
+      let few = due-few A s v t in
+      then-else _ _ _ _ λ _. then-accept _ _ _ _ (swept-back (min n d) (ltb n d) (omega (arith, min-le-right n d)))

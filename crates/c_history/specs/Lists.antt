@@ -4,7 +4,7 @@ use mathlib.Core.Path.{_≡_}
 use mathlib.Core.List.{List, [], _∷_}
 use lib.ListN.{length}
 use Rattle.machine.specs.Names.{Bytes}
-use Rattle.machine.specs.Calls.{PUT, GET, HEAD, DELETE, COPY, LIST, INITIATE, PART, COMMIT, ABORT, UPLOADS, DELETE-OBJECTS}
+use Rattle.machine.specs.Calls.{PUT, GET, HEAD, DELETE, COPY, LIST, INITIATE, PART, COMMIT, ABORT, UPLOADS, DELETE-OBJECTS, SWEEP}
 use Rattle.contract.specs.Answers.{partList, placesIn, leftOver}
 use Rattle.contract.specs.Made.{Memory, Made, MadeFresh}
 use Rattle.rathnodi.specs.Exported.{numbered, numberedWith, Exported}
@@ -25,6 +25,7 @@ pub data Step : Event → Memory → Memory → Type 0 where
   uploads : {n : ℕ} {p b o b′ o′ : Bytes} {m : Memory} → Exported (UPLOADS p b) m o n b′ o′ m → Step (replied (UPLOADS p b) o n b′ o′) m m
   delete-objects : {n : ℕ} {names b b′ : Bytes} {m m′ : Memory} (l : Bytes) → Made (DELETE-OBJECTS names (placesIn l) (leftOver l) b) m (numberedWith n b′) m′
       → Step (alone (DELETE-OBJECTS names (placesIn l) (leftOver l) b) n b′) m m′
+  sweep : {t most n : ℕ} {o o′ : Bytes} {m m′ : Memory} → Exported (SWEEP t most) m o n [] o′ m′ → Step (replied (SWEEP t most) o n [] o′) m m′
 
 -- calls made one after the other, each lent the memory that the one before left
 pub data CRun : List Event → Memory → Memory → Type 0 where

@@ -4,7 +4,7 @@ use mathlib.Core.Path.{_≡_}
 use mathlib.Core.List.{List, [], _∷_}
 use lib.ListN.{length}
 use Rattle.machine.specs.Names.{Bytes}
-use Rattle.machine.specs.Calls.{PUT, GET, HEAD, DELETE, COPY, LIST, INITIATE, PART, COMMIT, ABORT, UPLOADS, DELETE-OBJECTS}
+use Rattle.machine.specs.Calls.{PUT, GET, HEAD, DELETE, COPY, LIST, INITIATE, PART, COMMIT, ABORT, UPLOADS, DELETE-OBJECTS, SWEEP}
 use Rattle.contract.specs.Answers.{partList, placesIn, leftOver}
 use Rattle.contract.specs.Made.{Memory, freshResult}
 use Rattle.history.specs.Demand3.{Demand3}
@@ -28,6 +28,10 @@ shelfEvents stamp path content other n answer found about listing counts answer�
 -- DELETE_OBJECTS, with the result buffer before it and after it
 unfoldable pub clearEvents : (names places : Bytes) (n : ℕ) (results results′ : Bytes) → List Event
 clearEvents names places n results results′ = alone (DELETE-OBJECTS names (placesIn places) (leftOver places) results) n results′ ∷ []
+
+-- SWEEP, with the reply before it and after it
+unfoldable pub sweepEvents : (stamp most n : ℕ) (reply reply′ : Bytes) → List Event
+sweepEvents stamp most n reply reply′ = replied (SWEEP stamp most) reply n [] reply′ ∷ []
 
 -- the calls on an upload, with its number 1 and its part 1
 unfoldable pub weighEvents : (stamp : ℕ) (path content list : Bytes) → Weighed → (opened sent answer counts : Bytes) → (opened′ sent′ answer′ counts′ : Bytes) → List Event

@@ -1,7 +1,7 @@
 // The exported functions, each called as C calls it.
 ghost use Rattle.contract.specs.Made.{memory};
 ghost use Rattle.c_history.specs.Lists.{CRun};
-ghost use Rattle.c_history.specs.Shift.{shelfEvents, clearEvents, weighEvents, Concluded};
+ghost use Rattle.c_history.specs.Shift.{shelfEvents, clearEvents, sweepEvents, weighEvents, Concluded};
 
 // What the calls on objects returned.
 pub struct Shelf {
@@ -73,6 +73,16 @@ pub fn clear(
         (memory (now (tables .exit)) (now (arena .exit))) ⌝ }
 {
     rathnodi::objects::rathnodi_delete_objects(tables, arena, names, places, results)
+}
+
+// SWEEP.
+pub fn sweep(tables: &mut [u8], arena: &mut [u8], stamp: u64, most: u32, reply: &mut [u8]) -> u32
+    ensures { λ r. ⌜ CRun
+        (sweepEvents stamp most r (now (reply .entry)) (now (reply .exit)))
+        (memory (now (tables .entry)) (now (arena .entry)))
+        (memory (now (tables .exit)) (now (arena .exit))) ⌝ }
+{
+    rathnodi::parts::rathnodi_sweep(tables, arena, stamp, most, reply)
 }
 
 // INITIATE, PART, UPLOADS, COMMIT, ABORT.

@@ -14,9 +14,11 @@ use Rattle.types.specs.declared.InitiateAnswer.{InitiateAnswer}
 use Rattle.types.specs.declared.InitiateAnswer.the-variants as initiate
 use Rattle.types.specs.declared.ListAnswer.{ListAnswer}
 use Rattle.types.specs.declared.ListAnswer.the-variants as list
+use Rattle.types.specs.declared.SweepAnswer.{SweepAnswer}
+use Rattle.types.specs.declared.SweepAnswer.the-variants as sweep
 use Rattle.machine.specs.Names.{Bytes}
 use Rattle.machine.specs.Calls.{Call, Reply, lent}
-use Rattle.contract.specs.Answers.{doneReply, resultsReply, getReply, partReply, initiateReply, listReply}
+use Rattle.contract.specs.Answers.{doneReply, resultsReply, getReply, partReply, initiateReply, listReply, sweepReply}
 use Rattle.contract.specs.Made.{Memory, meantReply, Made}
 use Rattle.reply.specs.Reply.{replyOver}
 use Rattle.rathnodi.specs.Exported.{numbered, numberedWith, answerWith, replyAfter, Exported}
@@ -74,3 +76,7 @@ module _ (k : Call) (tells : Telling k) (m m′ : Memory) (o o′ : Bytes) (n : 
   pub part-stored : (a : PartAnswer) → Made k m (partReply a) m′ → n ≡ partReply a .result → o′ ≡ replyOver (partReply a .answer) o → Exported k m o n [] o′ m′
   part-stored (part.Refused x) made n-is o-is = with-reply _ made n-is o-is
   part-stored (part.Stored x) made n-is o-is = with-reply _ made n-is o-is
+
+  pub swept-out : (a : SweepAnswer) → Made k m (sweepReply a) m′ → n ≡ sweepReply a .result → o′ ≡ replyOver (sweepReply a .answer) o → Exported k m o n [] o′ m′
+  swept-out (sweep.Refused x) made n-is o-is = with-reply _ made n-is o-is
+  swept-out (sweep.Swept x) made n-is o-is = with-reply _ made n-is o-is

@@ -5,7 +5,7 @@ use mathlib.Core.Bool.{Bool, true, false}
 use lib.ListN.{length}
 use Rattle.machine.specs.Names.{Bytes}
 use Rattle.machine.specs.State.{State}
-use Rattle.machine.specs.Calls.{Call, GET, HEAD, LIST, INITIATE, PART, UPLOADS, Answer, Outcome, refuse, accept, _else_then_, lent}
+use Rattle.machine.specs.Calls.{Call, GET, HEAD, LIST, INITIATE, PART, UPLOADS, SWEEP, Answer, Outcome, refuse, accept, _else_then_, lent}
 use Rattle.machine.specs.Steps.{act, replyOf}
 use Rattle.machine.proofs.Outcome.{refused-not-accepted, Then, then-accept, then-else, then-given, then-object}
 use Rattle.contract.specs.Made.{Memory, wholeMemory, stateIn, meantReply}
@@ -43,6 +43,10 @@ part-tells u n d A s = then-else _ _ _ _ λ _. then-given _ _ _ _ λ x _. then-e
 pub uploads-tells : (p b : Bytes) → Telling (UPLOADS p b)
 unfolding act
 uploads-tells p b A s = then-else _ _ _ _ λ _. then-accept Tells _ _ _ λ o. refl
+
+pub sweep-tells : (t n : ℕ) → Telling (SWEEP t n)
+unfolding act
+sweep-tells t n A s = then-else _ _ _ _ λ _. then-accept Tells _ _ _ λ o. refl
 
 -- by the answer or by the number: the reply slice is the same
 outcome-over : (b o : Bytes) (x : Outcome) → Then Tells x → replyOver (replyOf b x .answer) o ≡ replyAfter (replyOf b x) o

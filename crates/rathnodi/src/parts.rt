@@ -4,7 +4,7 @@ use types::PartNumber;
 use types::Stamp;
 use types::UploadNumber;
 ghost use mathlib.Core.List.{[]};
-ghost use Rattle.machine.specs.Calls.{INITIATE, PART, COMMIT, ABORT, UPLOADS};
+ghost use Rattle.machine.specs.Calls.{INITIATE, PART, COMMIT, ABORT, UPLOADS, SWEEP};
 ghost use Rattle.contract.specs.Answers.{partList};
 ghost use Rattle.contract.specs.Made.{memory, Made};
 ghost use Rattle.rathnodi.specs.Exported.{numbered, Exported};
@@ -91,6 +91,31 @@ pub extern "C" fn rathnodi_abort(tables: &mut [u8], arena: &mut [u8], upload: u3
 {
     let aborted = store::abort(tables, arena, UploadNumber(upload));
     reply::done(aborted)
+}
+
+// SWEEP: the open uploads that started before the stamp leave the store with their parts, by ascending number, at most so many; to
+// the reply how many, and whether more are due.
+#[no_mangle]
+pub extern "C" fn rathnodi_sweep(
+    tables: &mut [u8],
+    arena: &mut [u8],
+    stamp: u64,
+    most: u32,
+    reply: &mut [u8],
+) -> u32
+    ensures { λ r. ⌜ Exported (SWEEP stamp most)
+        (memory (now (tables .entry)) (now (arena .entry)))
+        (now (reply .entry))
+        r
+        []
+        (now (reply .exit))
+        (memory (now (tables .exit)) (now (arena .exit))) ⌝ }
+{
+    if reply.len() != REPLY_LEN {
+        return 1;
+    }
+    let swept = store::sweep(tables, arena, Stamp(stamp), most);
+    reply::swept(swept, reply)
 }
 
 // UPLOADS: a record of each open upload under the prefix to the front of the answer buffer, their counts to the reply.

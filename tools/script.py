@@ -3,7 +3,7 @@
 
 usage: tools/script.py < crates/script/stdin > crates/script/stdout
 
-Only the front of tables and arena (TABLES, ARENA) follows docs/LAYOUT.md; all else is document 01's machine.
+Only the front of tables and arena (TABLES, ARENA) follows docs/LAYOUT.md; all else is the machine of documents 01 and 02.
 """
 import hashlib
 import sys
@@ -105,6 +105,13 @@ class Store:
         need(upload in self.uploads, 2)
         del self.uploads[upload]
 
+    def sweep(self, stamp, most):
+        need(stamp >= 1, 2)
+        due = [number for number, upload in sorted(self.uploads.items()) if upload[1] < stamp]
+        for number in due[:most]:
+            self.abort(number)
+        return f", swept {len(due[:most])}, more {int(most < len(due))}"
+
     def listing(self, prefix, suffix):
         for path, (data, created, digest, count) in sorted(self.objects.items()):
             if path.startswith(prefix) and path[len(prefix):].endswith(suffix):
@@ -193,6 +200,7 @@ def answer(store, word, fields):
         "PART": lambda: store.part(number, int(fields[1]), texts[2]),
         "COMMIT": lambda: store.commit(number, parts_of(texts[1].decode())),
         "ABORT": lambda: store.abort(number),
+        "SWEEP": lambda: store.sweep(number, int(fields[1])),
     }
     try:
         return ": 0" + (calls[word]() or ""), None
@@ -200,7 +208,7 @@ def answer(store, word, fields):
         return f": {refusal}", None
 
 
-WORDS = "TABLES ARENA HEAD GET LIST UPLOADS DELETE PUT COPY INITIATE PART COMMIT ABORT DELETE_OBJECTS".split()
+WORDS = "TABLES ARENA HEAD GET LIST UPLOADS DELETE PUT COPY INITIATE PART COMMIT ABORT DELETE_OBJECTS SWEEP".split()
 store = Store(0)
 for stream in (sys.stdin, sys.stdout):
     stream.reconfigure(encoding="utf-8", errors=ANY)

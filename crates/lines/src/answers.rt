@@ -10,6 +10,8 @@ use types::InitiateAnswer;
 use types::ListAnswer;
 use types::Metadata;
 use types::PartAnswer;
+use types::Sweep;
+use types::SweepAnswer;
 
 pub fn print(bytes: &[u8]) {
     io::write_all(STDOUT_FILENO, bytes);
@@ -87,6 +89,22 @@ pub fn print_written(a: ListAnswer) {
     match a {
         ListAnswer::Refused(n) => print_result(n),
         ListAnswer::Written(c) => print_counts(c),
+    }
+}
+
+fn print_sweep(s: Sweep) {
+    print_number(b": 0, swept ", s.count as u64);
+    if s.more {
+        print(b", more 1");
+    } else {
+        print(b", more 0");
+    }
+}
+
+pub fn print_swept(a: SweepAnswer) {
+    match a {
+        SweepAnswer::Refused(n) => print_result(n),
+        SweepAnswer::Swept(s) => print_sweep(s),
     }
 }
 

@@ -35,12 +35,14 @@ pub const ABORT: usize = 13;
 
 pub const DELETE_OBJECTS: usize = 14;
 
-pub const OTHER: usize = 15;
+pub const SWEEP: usize = 15;
+
+pub const OTHER: usize = 16;
 
 // Which of these words the line begins with. A line that begins with another is a comment.
 pub fn word_of(line: &[u8]) -> usize {
     let names =
-        b"TABLES ARENA HEAD GET LIST UPLOADS DELETE FRESH PUT COPY INITIATE PART COMMIT ABORT DELETE_OBJECTS";
+        b"TABLES ARENA HEAD GET LIST UPLOADS DELETE FRESH PUT COPY INITIATE PART COMMIT ABORT DELETE_OBJECTS SWEEP";
     let word = field(line, 0);
     for k in 0..OTHER {
         if order::equal(field(names, k), word) {

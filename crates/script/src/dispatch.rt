@@ -6,6 +6,7 @@ use lines::answers::print_front;
 use lines::answers::print_opened;
 use lines::answers::print_result;
 use lines::answers::print_stored;
+use lines::answers::print_swept;
 use lines::answers::print_written;
 use lines::fields::field;
 use lines::fields::list_bytes;
@@ -24,6 +25,7 @@ use lines::words::INITIATE;
 use lines::words::LIST;
 use lines::words::PART;
 use lines::words::PUT;
+use lines::words::SWEEP;
 use lines::words::TABLES;
 use lines::words::UPLOADS;
 use lines::words::front_len;
@@ -32,6 +34,7 @@ use types::InitiateAnswer;
 use types::PartAnswer;
 use types::PartNumber;
 use types::Stamp;
+use types::SweepAnswer;
 use types::UploadNumber;
 ghost use mathlib.Core.Path.{_≡_};
 ghost use lib.ListN.{length};
@@ -143,6 +146,11 @@ fn part(tables: &mut [u8], arena: &mut [u8], line: &[u8]) -> PartAnswer {
     )
 }
 
+fn sweep(tables: &mut [u8], arena: &mut [u8], line: &[u8]) -> SweepAnswer {
+    let most = number(line, 2, 4294967295) as u32;
+    store::sweep(tables, arena, Stamp(stamp(line)), most)
+}
+
 // The words that answer a result alone.
 fn done_call(tables: &mut [u8], arena: &mut [u8], word: usize, line: &[u8]) -> DoneAnswer {
     if word == DELETE {
@@ -202,6 +210,7 @@ fn changing_call(tables: &mut [u8], arena: &mut [u8], word: usize, line: &[u8]) 
         INITIATE => print_opened(initiate(tables, arena, line)),
         PART => print_stored(part(tables, arena, line)),
         DELETE_OBJECTS => delete_objects(tables, arena, line),
+        SWEEP => print_swept(sweep(tables, arena, line)),
         _ => print_done(done_call(tables, arena, word, line)),
     }
 }
@@ -210,7 +219,7 @@ fn changing_call(tables: &mut [u8], arena: &mut [u8], word: usize, line: &[u8]) 
 pub(crate) fn run(tables: &mut [u8], arena: &mut [u8], word: usize, line: &[u8]) {
     if word <= UPLOADS {
         reading_call(tables, arena, word, line);
-    } else if word <= DELETE_OBJECTS {
+    } else if word <= SWEEP {
         changing_call(tables, arena, word, line);
     }
 }

@@ -4,7 +4,7 @@
 // A line is a word and its fields, separated by one space; `~` is an empty field:
 //   FRESH arena, PUT stamp path data, COPY stamp source destination, DELETE path, HEAD path, GET buffer path, LIST buffer prefix suffix,
 //   INITIATE stamp path, PART upload number data, COMMIT upload numbers, ABORT upload, UPLOADS buffer prefix,
-//   DELETE_OBJECTS buffer names places,
+//   DELETE_OBJECTS buffer names places, SWEEP stamp most,
 //   TABLES length and ARENA length, which print so many of the first bytes.
 // A list's entries are separated by commas, and `+` there is an odd byte; a place is start:length, and `*n` is n places 0:0. An arena has
 // at most 4,096 bytes, a buffer at most 512; it starts as dots. A line that begins with another word is a comment.

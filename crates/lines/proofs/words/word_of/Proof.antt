@@ -6,10 +6,10 @@ use Rattle.lines.proofs.words.word_of.Statement.{statement}
 use Rattle.lines.proofs.words.word_of.Tie as tie
 
 abbrev Inv-loop : tie.InvT-loop
-Inv-loop line names word k₀ k = k ≤ 15
+Inv-loop line names word k₀ k = k ≤ 16
 
 abbrev μ-loop : tie.MeasureT-loop
-μ-loop line names word k₀ k = 15 - k
+μ-loop line names word k₀ k = 16 - k
 
 field-requires : tie.Need-field-requires Inv-loop μ-loop
 field-requires c κs = search needs

@@ -32,7 +32,7 @@
  * makes it bad. Paths are compared and listed by bytes, as they come: the two ways to write an accented letter, as one
  * character or as two, are two paths. Prefixes and suffixes are any bytes. The empty path is the root, which only get
  * and head take. Paths are not C strings: no zero byte ends them. A stamp is a count of seconds since the start of 1970,
- * at least 1. Part numbers are 1 to 11,000.
+ * at least 1. Stamps may go back: only sweep compares them. Part numbers are 1 to 11,000.
  *
  * Saving: save all bytes of the tables and the arena together, while no call writes them. Write both to a new file,
  * fsync it, rename it to the name of the saves, and keep the last good save. After bringing both back, ask whether they
@@ -53,9 +53,9 @@ extern "C" {
 
 /* The version. MAJOR grows where a caller or a saved store has to change, MINOR where something is added. */
 #define RATHNODI_VERSION_MAJOR 1
-#define RATHNODI_VERSION_MINOR 1
+#define RATHNODI_VERSION_MINOR 2
 #define RATHNODI_VERSION_PATCH 0
-/* The same as a text, "1.1.0" for example. */
+/* The same as a text, "1.2.0" for example. */
 #define RATHNODI_VERSION RATHNODI_DOTTED(RATHNODI_VERSION_MAJOR, RATHNODI_VERSION_MINOR, RATHNODI_VERSION_PATCH)
 #define RATHNODI_DOTTED(major, minor, patch) \
     RATHNODI_QUOTED(major) "." RATHNODI_QUOTED(minor) "." RATHNODI_QUOTED(patch)
@@ -146,9 +146,11 @@ enum {
     RATHNODI_REPLY_CREATED = 0,      /* 8 bytes: get, head */
     RATHNODI_REPLY_LENGTH = 8,       /* 4 bytes: get, head */
     RATHNODI_REPLY_UPLOAD = 12,      /* 4 bytes: initiate */
-    RATHNODI_REPLY_RECORDS = 16,     /* 4 bytes: list, uploads; how many records were written */
+    RATHNODI_REPLY_RECORDS = 16,     /* 4 bytes: list, uploads; how many records were written
+                                      *          sweep; how many uploads were aborted */
     RATHNODI_REPLY_BYTES = 20,       /* 4 bytes: list, uploads; how many bytes they are */
     RATHNODI_REPLY_ETAG_KIND = 24,   /* 1 byte:  get, head, part */
+    RATHNODI_REPLY_MORE = 25,        /* 1 byte:  sweep; 1 where more uploads are due, else 0 */
     RATHNODI_REPLY_ETAG_COUNT = 26,  /* 2 bytes: get, head; a joined etag's count */
     RATHNODI_REPLY_ETAG_DIGEST = 28  /* 16 bytes: get, head, part */
 };
@@ -162,7 +164,7 @@ struct rathnodi_reply {
     uint32_t records;
     uint32_t bytes;
     uint8_t etag_kind;
-    uint8_t zero;
+    uint8_t more;
     uint16_t etag_count;
     uint8_t etag_digest[16];
     uint8_t zeros[4];
@@ -175,7 +177,7 @@ RATHNODI_REPLY_AT(upload, RATHNODI_REPLY_UPLOAD);
 RATHNODI_REPLY_AT(records, RATHNODI_REPLY_RECORDS);
 RATHNODI_REPLY_AT(bytes, RATHNODI_REPLY_BYTES);
 RATHNODI_REPLY_AT(etag_kind, RATHNODI_REPLY_ETAG_KIND);
-RATHNODI_REPLY_AT(zero, RATHNODI_REPLY_ETAG_KIND + 1);
+RATHNODI_REPLY_AT(more, RATHNODI_REPLY_MORE);
 RATHNODI_REPLY_AT(etag_count, RATHNODI_REPLY_ETAG_COUNT);
 RATHNODI_REPLY_AT(etag_digest, RATHNODI_REPLY_ETAG_DIGEST);
 RATHNODI_REPLY_AT(zeros, RATHNODI_REPLY_ETAG_DIGEST + 16);
@@ -249,6 +251,12 @@ uint32_t rathnodi_commit(uint8_t *tables, size_t tables_len, uint8_t *arena, siz
 
 /* Removes an open upload and its parts. */
 uint32_t rathnodi_abort(uint8_t *tables, size_t tables_len, uint8_t *arena, size_t arena_len, uint32_t upload)
+    RATHNODI_CALL;
+
+/* Aborts open uploads that were started before the stamp, by ascending number, at most `most` of them. The reply has in
+ * `records` how many it aborted, and in `more` whether uploads that were started before the stamp are left. */
+uint32_t rathnodi_sweep(uint8_t *tables, size_t tables_len, uint8_t *arena, size_t arena_len, uint64_t stamp,
+                        uint32_t most, uint8_t *reply, size_t reply_len)
     RATHNODI_CALL;
 
 /* The open uploads whose path begins with the prefix, ascending by number. A record is: number (4 bytes), path length

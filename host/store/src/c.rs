@@ -125,6 +125,16 @@ extern "C" {
         arena_len: usize,
         upload: u32,
     ) -> u32;
+    pub fn rathnodi_sweep(
+        tables: *mut u8,
+        tables_len: usize,
+        arena: *mut u8,
+        arena_len: usize,
+        stamp: u64,
+        most: u32,
+        reply: *mut u8,
+        reply_len: usize,
+    ) -> u32;
     pub fn rathnodi_uploads(
         tables: *const u8,
         tables_len: usize,

@@ -7,7 +7,7 @@ pub mod c;
 pub mod slices;
 mod store;
 
-pub use store::{Etag, Metadata, Object, Refusal, Store, Upload};
+pub use store::{Etag, Metadata, Object, Refusal, Store, Sweep, Upload};
 
 /// The one right length of the tables.
 pub const TABLES_LEN: usize = 53_842;

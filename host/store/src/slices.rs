@@ -215,6 +215,21 @@ pub fn abort(tables: &mut [u8], arena: &mut [u8], upload: u32) -> u32 {
     }
 }
 
+pub fn sweep(tables: &mut [u8], arena: &mut [u8], stamp: u64, most: u32, reply: &mut [u8]) -> u32 {
+    unsafe {
+        c::rathnodi_sweep(
+            tables.as_mut_ptr(),
+            tables.len(),
+            arena.as_mut_ptr(),
+            arena.len(),
+            stamp,
+            most,
+            reply.as_mut_ptr(),
+            reply.len(),
+        )
+    }
+}
+
 pub fn uploads(
     tables: &[u8],
     arena: &[u8],

@@ -82,6 +82,13 @@ pub struct Upload {
     pub parts: u16,
 }
 
+/// What a sweep did: how many uploads it aborted, and whether more are due.
+#[derive(Clone, Copy, Debug, PartialEq, Eq)]
+pub struct Sweep {
+    pub count: u32,
+    pub more: bool,
+}
+
 /// A reply, read at the offsets of include/rathnodi.h.
 struct Reply([u8; REPLY_LEN]);
 
@@ -249,6 +256,14 @@ impl Store {
 
     pub fn abort(&mut self, upload: u32) -> Result<(), Refusal> {
         Refusal::of(slices::abort(&mut self.tables, &mut self.arena, upload))
+    }
+
+    /// Aborts the open uploads that were started before the stamp, by ascending number, at most so
+    /// many of them.
+    pub fn sweep(&mut self, stamp: u64, most: u32) -> Result<Sweep, Refusal> {
+        let (tables, arena, mut reply) = (&mut self.tables, &mut self.arena, Reply::new());
+        Refusal::of(slices::sweep(tables, arena, stamp, most, &mut reply.0))?;
+        Ok(Sweep { count: reply.number(16), more: reply.0[25] == 1 })
     }
 
     pub fn uploads(&self, prefix: &[u8]) -> Result<Vec<Upload>, Refusal> {

@@ -1,6 +1,6 @@
 //! The wrapper: a walk through each call, and memory that is saved and brought back.
 
-use rathnodi::{slices, Etag, Metadata, Object, Refusal, Store, Upload, TABLES_LEN};
+use rathnodi::{slices, Etag, Metadata, Object, Refusal, Store, Sweep, Upload, TABLES_LEN};
 
 /// d16fb36f0911f878998c136191af705e
 const OF_XYZ: [u8; 16] = 0xd16fb36f_0911f878_998c1361_91af705e_u128.to_be_bytes();
@@ -51,6 +51,25 @@ fn many_deleted() {
     let results = store.delete_objects(b"a", &[(0, 1); 1000]).unwrap();
     assert_eq!((results[0], &results[1..]), (Ok(()), [absent; 999].as_slice()));
     assert_eq!(store.delete_objects(b"", &[]), Ok(vec![]));
+}
+
+#[test]
+fn swept() {
+    let mut store = Store::fresh(8).unwrap();
+    for stamp in [9, 3, 5, 4] {
+        store.initiate(stamp, b"r").unwrap();
+    }
+    let open = |store: &Store| -> Vec<u32> {
+        store.uploads(b"").unwrap().iter().map(|upload| upload.number).collect()
+    };
+    assert_eq!(store.sweep(0, 1), Err(Refusal::BadRequest));
+    assert_eq!(store.sweep(5, 1), Ok(Sweep { count: 1, more: true }));
+    assert_eq!(open(&store), [1, 3, 4]);
+    assert_eq!(store.sweep(5, 1), Ok(Sweep { count: 1, more: false }));
+    assert_eq!(open(&store), [1, 3]);
+    assert_eq!(store.sweep(6, 0), Ok(Sweep { count: 0, more: true }));
+    assert_eq!(store.sweep(9, u32::MAX), Ok(Sweep { count: 1, more: false }));
+    assert_eq!(open(&store), [1]);
 }
 
 #[test]

@@ -229,7 +229,7 @@ struct Maker {
     random: Random,
     model: Model,
     pool: Vec<Vec<u8>>,
-    weights: [usize; 12],
+    weights: [usize; 13],
     arena: usize,
     steps: Vec<Step>,
 }
@@ -464,11 +464,15 @@ impl Maker {
         } else if verb == 11 && objects < self.random.below(6) && !self.random.one_in(4) {
             verb = 0;
         }
-        // Most calls that name an upload have one to name, and most uploads get some parts.
-        if (7..10).contains(&verb) && self.model.uploads.is_empty() && !self.random.one_in(4) {
+        // Most calls that name an upload have one to name, most uploads get some parts, and most
+        // sweeps have some uploads to choose from.
+        let uploads = self.model.uploads.len();
+        if (7..10).contains(&verb) && uploads == 0 && !self.random.one_in(4) {
             verb = 6;
         } else if (8..10).contains(&verb) && self.model.parts() < self.random.below(12) {
             verb = 7;
+        } else if verb == 12 && uploads < self.random.below(6) && !self.random.one_in(6) {
+            verb = if self.random.one_in(2) { 6 } else { 7 };
         }
         match verb {
             0 => {
@@ -494,7 +498,8 @@ impl Maker {
             8 => self.commit(),
             9 => Call::Abort { upload: self.upload() },
             10 => self.uploads(),
-            _ => self.delete_objects(),
+            11 => self.delete_objects(),
+            _ => self.sweep(),
         }
     }
 
@@ -681,6 +686,30 @@ impl Maker {
             list.pop();
         }
         Call::Commit { upload, list }
+    }
+
+    /// With a stamp about the start of an open upload, mostly, and about as many as are due.
+    fn sweep(&mut self) -> Call {
+        let starts: Vec<u64> = self.model.uploads.values().map(|upload| upload.started).collect();
+        let stamp = match self.random.below(16) {
+            0..=3 => self.stamp(),
+            _ if starts.is_empty() => self.stamp(),
+            4..=6 => self.random.pick(&starts) - 1,
+            7..=10 => *self.random.pick(&starts),
+            _ => self.random.pick(&starts).saturating_add(1),
+        };
+        let due = starts.iter().filter(|start| **start < stamp).count() as u32;
+        let most = match self.random.below(16) {
+            0 | 1 => 0,
+            2..=4 => 1,
+            5..=7 => due,
+            8 => due + 1,
+            9 => due.saturating_sub(1),
+            10 => u32::MAX,
+            11 => 1 << self.random.below(32),
+            _ => self.random.below(6) as u32,
+        };
+        Call::Sweep { stamp, most }
     }
 
     /// A few places, now and then hundreds or about as many as there can be.

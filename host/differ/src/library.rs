@@ -102,6 +102,17 @@ pub trait Library {
         slices::abort(tables, arena, upload)
     }
 
+    fn sweep(
+        &mut self,
+        tables: &mut [u8],
+        arena: &mut [u8],
+        stamp: u64,
+        most: u32,
+        reply: &mut [u8],
+    ) -> u32 {
+        slices::sweep(tables, arena, stamp, most, reply)
+    }
+
     fn uploads(
         &mut self,
         tables: &[u8],

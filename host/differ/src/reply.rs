@@ -23,6 +23,11 @@ pub fn bytes_of(answer: &Answer) -> [u8; REPLY_LEN] {
             set(20, &bytes.to_le_bytes());
             Etag::Absent
         }
+        Answer::Swept { count, more } => {
+            set(16, &count.to_le_bytes());
+            set(25, &[u8::from(*more)]);
+            Etag::Absent
+        }
         Answer::Nothing => Etag::Absent,
     };
     match etag {

@@ -7,7 +7,7 @@ use crate::list::{Lending, List, Step};
 use crate::random::Random;
 use crate::reply::{bytes_of, REPLY_LEN};
 use crate::tally::Tally;
-use model::{Call, Model, Reply, LARGEST_ARENA};
+use model::{Answer, Call, Model, Reply, LARGEST_ARENA};
 use rathnodi::TABLES_LEN;
 use std::sync::atomic::Ordering::Relaxed;
 
@@ -54,7 +54,7 @@ fn arguments(call: &Call) -> [&[u8]; 2] {
         Call::Delete { path } | Call::Initiate { path, .. } => [path, &[]],
         Call::Part { data, .. } => [data, &[]],
         Call::Commit { list, .. } => [list, &[]],
-        Call::Abort { .. } => [&[], &[]],
+        Call::Abort { .. } | Call::Sweep { .. } => [&[], &[]],
         Call::Uploads { prefix, .. } => [prefix, &[]],
     }
 }
@@ -64,7 +64,8 @@ fn has_reply(call: &Call) -> bool {
         Call::Put { .. } | Call::Delete { .. } | Call::DeleteObjects { .. } => false,
         Call::Copy { .. } | Call::Commit { .. } | Call::Abort { .. } => false,
         Call::Get { .. } | Call::Head { .. } | Call::List { .. } => true,
-        Call::Initiate { .. } | Call::Part { .. } | Call::Uploads { .. } => true,
+        Call::Initiate { .. } | Call::Part { .. } => true,
+        Call::Sweep { .. } | Call::Uploads { .. } => true,
     }
 }
 
@@ -272,6 +273,9 @@ impl<L: Library> Rig<L> {
         if let (Call::DeleteObjects { places, .. }, 0) = (call, number) {
             self.tally.count_places(&expected.buffer[..places.len() / 8]);
         }
+        if let Answer::Swept { count, more } = expected.answer {
+            self.tally.count_sweep(count, more);
+        }
         let reply = if number == 0 && has_reply(call) {
             bytes_of(&expected.answer).to_vec()
         } else {
@@ -317,6 +321,7 @@ impl<L: Library> Rig<L> {
             }
             Call::Commit { upload, .. } => library.commit(tables, arena, *upload, first),
             Call::Abort { upload } => library.abort(tables, arena, *upload),
+            Call::Sweep { stamp, most } => library.sweep(tables, arena, *stamp, *most, reply),
             Call::Uploads { .. } => library.uploads(tables, arena, first, answer, reply),
         }
     }

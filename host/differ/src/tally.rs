@@ -4,7 +4,7 @@ use model::Call;
 use std::fmt;
 use std::sync::atomic::{AtomicU64, Ordering::Relaxed};
 
-const VERBS: [&str; 13] = [
+const VERBS: [&str; 14] = [
     "fresh",
     "put",
     "get",
@@ -16,12 +16,13 @@ const VERBS: [&str; 13] = [
     "part",
     "commit",
     "abort",
+    "sweep",
     "uploads",
     "delete_objects",
 ];
 
 /// The numbers that documents 01 and 02 allow each verb, in the order of VERBS.
-const ALLOWED: [&[usize]; 13] = [
+const ALLOWED: [&[usize]; 14] = [
     &[0, 1, 2],
     &[0, 1, 2, 4, 5],
     &[0, 1, 2, 3, 7],
@@ -32,6 +33,7 @@ const ALLOWED: [&[usize]; 13] = [
     &[0, 1, 2, 4, 6],
     &[0, 1, 2, 4, 5],
     &[0, 1, 2, 4],
+    &[0, 1, 2],
     &[0, 1, 2],
     &[0, 1, 7],
     &[0, 1, 2, 7, 8],
@@ -46,8 +48,10 @@ pub struct Tally {
     /// The step under way in the list under way.
     pub step: AtomicU64,
     pub calls: AtomicU64,
-    answers: [[AtomicU64; 9]; 13],
+    answers: [[AtomicU64; 9]; 14],
     places: [AtomicU64; 4],
+    /// Sweeps that aborted none and that aborted some, each without and with more due.
+    sweeps: [[AtomicU64; 2]; 2],
     /// Damaged memory that was no longer whole, and that still was.
     pub broken: AtomicU64,
     pub whole: AtomicU64,
@@ -66,8 +70,9 @@ fn verb(call: Option<&Call>) -> usize {
         Some(Call::Part { .. }) => 8,
         Some(Call::Commit { .. }) => 9,
         Some(Call::Abort { .. }) => 10,
-        Some(Call::Uploads { .. }) => 11,
-        Some(Call::DeleteObjects { .. }) => 12,
+        Some(Call::Sweep { .. }) => 11,
+        Some(Call::Uploads { .. }) => 12,
+        Some(Call::DeleteObjects { .. }) => 13,
     }
 }
 
@@ -85,7 +90,12 @@ impl Tally {
         }
     }
 
-    /// The numbers that a verb or a place may give and that did not occur.
+    /// A SWEEP aborted so many, and more are due or not.
+    pub fn count_sweep(&self, count: u32, more: bool) {
+        self.sweeps[usize::from(count > 0)][usize::from(more)].fetch_add(1, Relaxed);
+    }
+
+    /// The numbers that a verb or a place may give and the kinds of sweeps that did not occur.
     pub fn missing(&self) -> Vec<String> {
         let mut missing = Vec::new();
         for (verb, numbers) in ALLOWED.iter().enumerate() {
@@ -98,6 +108,13 @@ impl Tally {
         for number in ALLOWED_PLACE {
             if self.places[number].load(Relaxed) == 0 {
                 missing.push(format!("place {number}"));
+            }
+        }
+        for (aborted, counts) in ["none", "some"].iter().zip(&self.sweeps) {
+            for (more, count) in ["no more", "more"].iter().zip(counts) {
+                if count.load(Relaxed) == 0 {
+                    missing.push(format!("sweep of {aborted} with {more} due"));
+                }
             }
         }
         missing
@@ -118,6 +135,10 @@ impl fmt::Display for Tally {
             row(verb, counts)?;
         }
         row("its places", &self.places)?;
+        for (aborted, [no_more, more]) in ["none", "some"].iter().zip(&self.sweeps) {
+            let (no_more, more) = (no_more.load(Relaxed), more.load(Relaxed));
+            write!(f, "\nsweeps of {aborted}: {no_more} with no more due, {more} with more due")?;
+        }
         write!(
             f,
             "\ndamaged memory: {} times no longer whole, {} times whole",

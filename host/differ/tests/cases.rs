@@ -42,6 +42,7 @@ impl Memory {
             Call::Part { upload, part, data } => slices::part(t, a, *upload, *part, data, r),
             Call::Commit { upload, list } => slices::commit(t, a, *upload, list),
             Call::Abort { upload } => slices::abort(t, a, *upload),
+            Call::Sweep { stamp, most } => slices::sweep(t, a, *stamp, *most, r),
             Call::Uploads { prefix, .. } => slices::uploads(t, a, prefix, b, r),
         };
         let answer = match call {
@@ -57,6 +58,9 @@ impl Memory {
                 records: number(&reply, 16, 4) as u32,
                 bytes: number(&reply, 20, 4) as u32,
             },
+            Call::Sweep { .. } => {
+                Answer::Swept { count: number(&reply, 16, 4) as u32, more: reply[25] == 1 }
+            }
             _ => Answer::Nothing,
         };
         Reply { number: result, answer, buffer }

@@ -19,6 +19,7 @@ pub enum Call {
     Part { upload: u32, part: u16, data: Vec<u8> },
     Commit { upload: u32, list: Vec<u8> },
     Abort { upload: u32 },
+    Sweep { stamp: u64, most: u32 },
     Uploads { prefix: Vec<u8>, buffer: Vec<u8> },
 }
 
@@ -41,6 +42,7 @@ pub enum Answer {
     Etag(Etag),
     Upload(u32),
     Written { records: u32, bytes: u32 },
+    Swept { count: u32, more: bool },
 }
 
 /// The result number, what is answered, and the buffer afterwards.
@@ -124,6 +126,7 @@ impl fmt::Display for Call {
                 write!(f, "(commit {upload} ({}))", numbers.join(" "))
             }
             Call::Abort { upload } => write!(f, "(abort {upload})"),
+            Call::Sweep { stamp, most } => write!(f, "(sweep {stamp} {most})"),
             Call::Uploads { prefix, buffer } => {
                 write!(f, "(uploads {}) into {} bytes", Hex(prefix), buffer.len())
             }

@@ -97,6 +97,10 @@ fn abort(upload: u32) -> Call {
     Call::Abort { upload }
 }
 
+fn sweep(stamp: u64, most: u32) -> Call {
+    Call::Sweep { stamp, most }
+}
+
 fn uploads(room: usize) -> Call {
     Call::Uploads { prefix: Vec::new(), buffer: vec![UNTOUCHED; room] }
 }
@@ -143,13 +147,26 @@ fn opens(stamp: u64, path: &str, upload: u32) -> (Call, Reply) {
     answers(initiate(stamp, path), Answer::Upload(upload))
 }
 
-/// A record of UPLOADS, for one upload alone.
+/// So many are aborted, and more are due or not.
+fn sweeps(stamp: u64, most: u32, count: u32, more: bool) -> (Call, Reply) {
+    answers(sweep(stamp, most), Answer::Swept { count, more })
+}
+
+/// UPLOADS has these records: number, path, started, count of parts.
+fn are_open(open: &[(u8, &str, u8, u8)]) -> (Call, Reply) {
+    let mut bytes = Vec::new();
+    for (number, path, started, parts) in open {
+        bytes.extend([*number, 0, 0, 0, path.len() as u8]);
+        bytes.extend(path.as_bytes());
+        bytes.extend([*started, 0, 0, 0, 0, 0, 0, 0, *parts, 0]);
+    }
+    let counts = Answer::Written { records: open.len() as u32, bytes: bytes.len() as u32 };
+    writes(uploads(bytes.len() + 3), counts, &bytes)
+}
+
+/// UPLOADS has one record.
 fn one_upload(number: u8, path: &str, started: u8, parts: u8) -> (Call, Reply) {
-    let mut record = vec![number, 0, 0, 0, path.len() as u8];
-    record.extend(path.as_bytes());
-    record.extend([started, 0, 0, 0, 0, 0, 0, 0, parts, 0]);
-    let counts = Answer::Written { records: 1, bytes: record.len() as u32 };
-    writes(uploads(record.len() + 3), counts, &record)
+    are_open(&[(number, path, started, parts)])
 }
 
 fn no_records(call: Call) -> (Call, Reply) {
@@ -171,6 +188,7 @@ pub fn all() -> Vec<Case> {
     cases.extend(slips());
     cases.extend(ceilings());
     cases.extend(many_deleted());
+    cases.extend(swept());
     cases
 }
 
@@ -609,4 +627,188 @@ pub fn many_deleted() -> Vec<Case> {
             ],
         },
     ]
+}
+
+/// Document 02's E3.
+pub fn swept() -> Vec<Case> {
+    let last = u32::MAX;
+    // Three uploads: the second is the youngest, the third is younger than the first.
+    let (first, second, third) = ((1, "r", 5, 0), (2, "s", 9, 0), (3, "t", 7, 0));
+    let three = || vec![opens(5, "r", 1), opens(9, "s", 2), opens(7, "t", 3)];
+    let mut cases = Vec::new();
+    for (name, stamp, count, left) in [
+        ("one below the first start", 4, 0, vec![first, second, third]),
+        ("at the first start", 5, 0, vec![first, second, third]),
+        ("one above the first start", 6, 1, vec![second, third]),
+        ("at the third start", 7, 1, vec![second, third]),
+        ("one above the third start", 8, 2, vec![second]),
+        ("at the second start", 9, 2, vec![second]),
+        ("one above the second start", 10, 3, vec![]),
+        ("stamp 1 has nothing before it", 1, 0, vec![first, second, third]),
+        ("the last stamp", u64::MAX, 3, vec![]),
+    ] {
+        let sweep = vec![sweeps(stamp, 16, count, false), are_open(&left)];
+        cases.push(day(name, [three(), sweep].concat()));
+    }
+    // The first and the third are due.
+    for (name, most, count, more, left) in [
+        ("at most 0", 0, 0, true, vec![first, second, third]),
+        ("at most 1", 1, 1, true, vec![second, third]),
+        ("at most as many as are due", 2, 2, false, vec![second]),
+        ("at most one more than are due", 3, 2, false, vec![second]),
+        ("at most 256", 256, 2, false, vec![second]),
+        ("at most 65,536", 65_536, 2, false, vec![second]),
+        ("at most 2^32 - 1", last, 2, false, vec![second]),
+    ] {
+        let sweep = vec![sweeps(8, most, count, more), are_open(&left)];
+        cases.push(day(name, [three(), sweep].concat()));
+    }
+    let none_due = [0, 1, last].map(|most| sweeps(5, most, 0, false));
+    let at_zero = || [0, 1, last].map(|most| refused(sweep(0, most), 2));
+    cases.extend([
+        day(
+            "none is due",
+            [three(), none_due.into(), vec![are_open(&[first, second, third])]].concat(),
+        ),
+        day("none is open", [0, 1, last].map(|most| sweeps(u64::MAX, most, 0, false)).into()),
+        day("stamp 0", {
+            let steps: Vec<_> = at_zero().into_iter().chain(three()).chain(at_zero()).collect();
+            [steps, vec![are_open(&[first, second, third])]].concat()
+        }),
+        day("a younger upload with a lower number stays", {
+            vec![
+                opens(9, "r", 1),
+                opens(3, "s", 2),
+                opens(5, "t", 3),
+                sweeps(6, 1, 1, true),
+                are_open(&[(1, "r", 9, 0), (3, "t", 5, 0)]),
+                sweeps(6, 1, 1, false),
+                one_upload(1, "r", 9, 0),
+            ]
+        }),
+        day("the lower number goes first, though its upload is younger", {
+            let opened = vec![opens(5, "r", 1), opens(3, "s", 2)];
+            [opened, vec![sweeps(6, 1, 1, true), one_upload(2, "s", 3, 0)]].concat()
+        }),
+        day("two at a time until no more are due", {
+            let opened = (1..=5).map(|number| opens(number.into(), "r", number));
+            let sweeps = [(2, true), (2, true), (1, false), (0, false)]
+                .map(|(count, more)| sweeps(6, 2, count, more));
+            opened.chain(sweeps).chain([no_records(uploads(0))]).collect()
+        }),
+        day("starts far apart", {
+            let opened =
+                vec![opens(u64::MAX, "r", 1), opens(1 << 63, "s", 2), opens(1 << 32, "t", 3)];
+            let swept = vec![
+                sweeps(1 << 32, 16, 0, false),
+                sweeps((1 << 32) + 1, 0, 0, true),
+                sweeps((1 << 32) + 1, 16, 1, false),
+                sweeps(1 << 63, 16, 0, false),
+                sweeps(u64::MAX, 16, 1, false),
+                sweeps(u64::MAX, 16, 0, false),
+                refused(commit(2, &[]), 2),
+                done(commit(1, &[])),
+            ];
+            [opened, swept].concat()
+        }),
+        day("a swept upload is not open", {
+            vec![
+                opens(7, "r", 1),
+                stores(1, 1, "A", OF_A),
+                sweeps(8, 1, 1, false),
+                refused(part(1, 1, "A"), 2),
+                refused(part(1, 2, "B"), 2),
+                refused(commit(1, &[1]), 2),
+                refused(commit(1, &[]), 2),
+                refused(abort(1), 2),
+                refused(get("r"), 3),
+                no_records(uploads(0)),
+            ]
+        }),
+        day("its number is not given again", {
+            vec![
+                opens(7, "r", 1),
+                opens(7, "r", 2),
+                sweeps(8, 2, 2, false),
+                opens(7, "r", 3),
+                refused(part(1, 1, "A"), 2),
+                refused(part(2, 1, "A"), 2),
+                done(commit(3, &[])),
+            ]
+        }),
+        day("what is left can be committed", {
+            vec![
+                opens(7, "r", 1),
+                opens(9, "s", 2),
+                stores(1, 1, "xyz", OF_XYZ),
+                stores(2, 2, "B", OF_B),
+                stores(2, 1, "A", OF_A),
+                sweeps(9, 16, 1, false),
+                one_upload(2, "s", 9, 2),
+                done(commit(2, &[2, 1])),
+                gets("s", "BA", 9, joined(OF_THE_DIGESTS_OF_B_AND_A, 2)),
+            ]
+        }),
+        day("no object changes", {
+            let mut listing = vec![1, 97, 3, 0, 0, 0, 5, 0, 0, 0, 0, 0, 0, 0, 32];
+            listing.extend(OF_XYZ.as_bytes());
+            listing.extend([1, 114, 2, 0, 0, 0, 7, 0, 0, 0, 0, 0, 0, 0, 34]);
+            listing.extend(OF_THE_DIGESTS_OF_B_AND_A.as_bytes());
+            listing.extend(b"-2");
+            let etag = joined(OF_THE_DIGESTS_OF_B_AND_A, 2);
+            let read = || {
+                vec![
+                    gets("a", "xyz", 5, plain(OF_XYZ)),
+                    gets("r", "BA", 7, etag),
+                    answers(head("a"), metadata(3, 5, plain(OF_XYZ))),
+                    answers(head("r"), metadata(2, 7, etag)),
+                    refused(head("s"), 3),
+                    writes(list("", "", 96), Answer::Written { records: 2, bytes: 96 }, &listing),
+                ]
+            };
+            let objects = vec![done(put(5, "a", "xyz")), opens(7, "r", 1)];
+            let parts = vec![stores(1, 2, "B", OF_B), stores(1, 1, "A", OF_A)];
+            let left = vec![done(commit(1, &[2, 1])), opens(1, "r", 2), opens(1, "s", 3)];
+            let dead = vec![stores(2, 1, "AB", OF_AB), stores(3, 1, "BA", OF_BA)];
+            let sweep = vec![sweeps(u64::MAX, last, 2, false)];
+            [objects, parts, left, dead, read(), sweep, read()].concat()
+        }),
+        Case {
+            name: "a swept upload's bytes serve again",
+            arena: 4,
+            steps: vec![
+                opens(7, "r", 1),
+                opens(7, "s", 2),
+                stores(1, 1, "AB", OF_AB),
+                stores(2, 1, "BA", OF_BA),
+                refused(put(5, "a", "A"), 5),
+                sweeps(8, 1, 1, true),
+                refused(put(5, "a", "xyz"), 5),
+                done(put(5, "a", "xy")),
+                sweeps(8, 1, 1, false),
+                done(put(5, "a", "xyzx")),
+            ],
+        },
+        Case {
+            name: "16 uploads with 256 parts",
+            arena: 0,
+            steps: {
+                let opened = (1..=16).map(|number| opens(number.into(), "r", number));
+                let parts = (0..256).map(|i| stores(i / 16 + 1, i as u16 % 16 + 1, "", OF_NOTHING));
+                let mut steps: Vec<(Call, Reply)> = opened.chain(parts).collect();
+                steps.extend([
+                    refused(initiate(1, "r"), 4),
+                    refused(part(1, 17, ""), 4),
+                    sweeps(17, 15, 15, true),
+                    one_upload(16, "r", 16, 16),
+                    opens(1, "r", 17),
+                    stores(17, 1, "", OF_NOTHING),
+                    sweeps(17, 16, 2, false),
+                    no_records(uploads(0)),
+                ]);
+                steps
+            },
+        },
+    ]);
+    cases
 }

@@ -139,6 +139,7 @@ impl Model {
                 self.commit(*upload, list).map(|()| silent(Answer::Nothing))
             }
             Call::Abort { upload } => self.abort(*upload).map(|()| silent(Answer::Nothing)),
+            Call::Sweep { stamp, most } => self.sweep(*stamp, *most).map(silent),
             Call::Uploads { prefix, buffer } => written(self.list_uploads(prefix), buffer.len()),
         }
     }
@@ -321,6 +322,21 @@ impl Model {
 
     fn abort(&mut self, upload: u32) -> Result<(), Refusal> {
         self.uploads.remove(&upload).map(|_| ()).ok_or(BadRequest)
+    }
+
+    /// ABORT of the first so many of the open uploads that were started before the stamp, by
+    /// ascending number.
+    fn sweep(&mut self, stamp: u64, most: u32) -> Result<Answer, Refusal> {
+        if !stamp_ok(stamp) {
+            return Err(BadRequest);
+        }
+        let started_before = |number: &u32| self.uploads[number].started < stamp;
+        let due: Vec<u32> = self.uploads.keys().copied().filter(started_before).collect();
+        let count = due.len().min(most as usize);
+        for number in &due[..count] {
+            self.abort(*number)?;
+        }
+        Ok(Answer::Swept { count: count as u32, more: due.len() > count })
     }
 
     fn list_uploads(&self, prefix: &[u8]) -> Vec<Vec<u8>> {

@@ -1,6 +1,6 @@
 //! The documents' cases over the model.
 
-use model::cases::{all, ceilings, many_deleted, marked, slips, unmarked, Case};
+use model::cases::{all, ceilings, many_deleted, marked, slips, swept, unmarked, Case};
 use model::{Answer, Call, Model, Refusal, NUMBERS_END};
 
 fn check(cases: Vec<Case>) {
@@ -41,6 +41,11 @@ fn ceilings_hold() {
 #[test]
 fn many_are_deleted() {
     check(many_deleted());
+}
+
+#[test]
+fn uploads_are_swept() {
+    check(swept());
 }
 
 /// Each refusal of a list of calls but 6 occurs in the table.

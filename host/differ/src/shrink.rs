@@ -18,6 +18,7 @@ pub fn shrink(list: &List, fails: impl FnMut(&List) -> Option<usize>) -> List {
         search.fewer_steps();
         search.fewer_uploads();
         search.fewer_parts();
+        search.closer_stamps();
         search.plainer_steps();
         search.shorter_paths();
         if search.best == before {
@@ -123,6 +124,22 @@ impl<F: FnMut(&List) -> Option<usize>> Search<F> {
         }
     }
 
+    /// With the starts of uploads and the stamps of sweeps, all at once, as small as they can be in
+    /// their order, and still equal or one apart where they are.
+    fn closer_stamps(&mut self) {
+        let mut steps = self.best.steps.clone();
+        let stamps: BTreeSet<u64> = steps.iter_mut().filter_map(compared).map(|at| *at).collect();
+        let (mut closer, mut before, mut last) = (BTreeMap::new(), 0, 0);
+        for stamp in stamps {
+            last += (stamp - before).min(2);
+            before = stamp;
+            closer.insert(stamp, last);
+        }
+        self.accepts_with(|list| {
+            list.steps.iter_mut().filter_map(compared).for_each(|stamp| *stamp = closer[stamp]);
+        });
+    }
+
     fn plainer_steps(&mut self) {
         let mut i = 0;
         while i < self.best.steps.len() {
@@ -175,6 +192,16 @@ fn upload(step: &Step) -> Option<u32> {
         Step::Call(Call::Part { upload, .. }, _)
         | Step::Call(Call::Commit { upload, .. }, _)
         | Step::Call(Call::Abort { upload }, _) => Some(*upload),
+        _ => None,
+    }
+}
+
+/// The stamp of a step where sweeps compare it.
+fn compared(step: &mut Step) -> Option<&mut u64> {
+    match step {
+        Step::Call(Call::Initiate { stamp, .. }, _) | Step::Call(Call::Sweep { stamp, .. }, _) => {
+            Some(stamp)
+        }
         _ => None,
     }
 }
@@ -259,10 +286,14 @@ fn plainer(step: &Step, arena: usize) -> Vec<Step> {
     }
 }
 
-/// The call with shorter or zeroed data, answer buffer, prefix, suffix or names, fewer places, or a
-/// small stamp.
+/// The call with shorter or zeroed data, answer buffer, prefix, suffix or names, fewer places, fewer
+/// uploads to sweep, or a small stamp.
 fn plainer_calls(call: &Call) -> Vec<Call> {
     let mut calls = plainer_deletes(call);
+    if let Call::Sweep { stamp, most } = *call {
+        let fewer = [0, 1, most.clamp(1, 17) - 1].into_iter().filter(|fewer| *fewer < most);
+        calls.extend(fewer.map(|most| Call::Sweep { stamp, most }));
+    }
     for i in 0..3 {
         let mut probe = call.clone();
         let Some(bytes) = loose_bytes(&mut probe).into_iter().nth(i) else { break };

@@ -1,6 +1,7 @@
 //! The driver finds faults: each store here is the proved one with one thing wrong.
 
 use differ::guard::shared;
+use differ::layout::state_of;
 use differ::library::{Library, Proved};
 use differ::search::search;
 use differ::tally::Tally;
@@ -43,6 +44,52 @@ macro_rules! faulty_deletes {
             ) -> u32 $body
         });
     };
+}
+
+/// A store with another SWEEP, of tables, arena, stamp, most and reply.
+macro_rules! faulty_sweeps {
+    ($name:ident, |$t:ident, $a:ident, $s:ident, $m:ident, $r:ident| $body:block) => {
+        faulty!($name {
+            fn sweep(
+                &mut self,
+                $t: &mut [u8],
+                $a: &mut [u8],
+                $s: u64,
+                $m: u32,
+                $r: &mut [u8],
+            ) -> u32 $body
+        });
+    };
+}
+
+/// The open uploads: number and start.
+fn open(t: &[u8], a: &[u8]) -> Vec<(u32, u64)> {
+    let uploads = state_of(t, a).map(|state| state.uploads).unwrap_or_default();
+    uploads.iter().map(|(number, upload)| (*number, upload.started)).collect()
+}
+
+/// How many uploads a sweep aborted, by its reply.
+fn swept(r: &[u8]) -> u32 {
+    u32::from_le_bytes(r[16..20].try_into().unwrap())
+}
+
+/// A sweep that aborts as many uploads as it should, but the first of all by this key.
+fn sweep_by(
+    key: impl Fn(&(u32, u64)) -> u64,
+    (t, a): (&mut [u8], &mut [u8]),
+    s: u64,
+    m: u32,
+    r: &mut [u8],
+) -> u32 {
+    let number = slices::sweep(&mut t.to_vec(), &mut a.to_vec(), s, m, r);
+    if number == 0 {
+        let mut uploads = open(t, a);
+        uploads.sort_by_key(key);
+        for (upload, _) in &uploads[..swept(r) as usize] {
+            assert_eq!(slices::abort(t, a, *upload), 0);
+        }
+    }
+    number
 }
 
 /// Places with another start and length each; bytes left over stay.
@@ -371,3 +418,104 @@ faulty_deletes!(bytes_left_over_are_seen_before_too_many_places, |t, a, n, p, r|
         number => number,
     }
 });
+
+faulty_sweeps!(sweeps_what_started_at_the_stamp, |t, a, s, m, r| {
+    slices::sweep(t, a, s.saturating_add(s.min(1)), m, r)
+});
+
+faulty_sweeps!(says_more_where_just_as_many_were_due, |t, a, s, m, r| {
+    let number = slices::sweep(t, a, s, m, r);
+    if number == 0 && m > 0 && swept(r) == m {
+        r[25] = 1;
+    }
+    number
+});
+
+faulty_sweeps!(says_more_where_younger_uploads_are_open, |t, a, s, m, r| {
+    let number = slices::sweep(t, a, s, m, r);
+    if number == 0 && !open(t, a).is_empty() {
+        r[25] = 1;
+    }
+    number
+});
+
+faulty_sweeps!(sweeps_a_younger_upload_with_a_lower_number_first, |t, a, s, m, r| {
+    sweep_by(|(number, _)| u64::from(*number), (t, a), s, m, r)
+});
+
+faulty_sweeps!(sweeps_the_oldest_first, |t, a, s, m, r| {
+    sweep_by(|(_, started)| *started, (t, a), s, m, r)
+});
+
+faulty_sweeps!(counts_as_many_as_it_might_have_swept, |t, a, s, m, r| {
+    let number = slices::sweep(t, a, s, m, r);
+    if number == 0 {
+        r[16..20].copy_from_slice(&m.to_le_bytes());
+    }
+    number
+});
+
+faulty_sweeps!(sweeps_all_where_at_most_0_are_asked, |t, a, s, m, r| {
+    slices::sweep(t, a, s, if m == 0 { u32::MAX } else { m }, r)
+});
+
+faulty_sweeps!(sweep_overlooks_all_but_8_bits_of_most, |t, a, s, m, r| {
+    slices::sweep(t, a, s, m & 255, r)
+});
+
+faulty_sweeps!(sweep_compares_stamps_as_if_signed, |t, a, s, m, r| {
+    slices::sweep(t, a, if s > i64::MAX as u64 { 1 } else { s }, m, r)
+});
+
+faulty_sweeps!(sweep_takes_stamp_0, |t, a, s, m, r| { slices::sweep(t, a, s.max(1), m, r) });
+
+faulty_sweeps!(sweep_writes_its_reply_when_refused, |t, a, s, m, r| {
+    let number = slices::sweep(t, a, s, m, r);
+    if number == 2 {
+        r.fill(0);
+    }
+    number
+});
+
+faulty_sweeps!(sweep_leaves_the_rest_of_its_reply, |t, a, s, m, r| {
+    let before = r.to_vec();
+    let number = slices::sweep(t, a, s, m, r);
+    if number == 0 {
+        r[28..].copy_from_slice(&before[28..]);
+    }
+    number
+});
+
+/// Until the next FRESH there is that much less room for PUT.
+#[test]
+fn holds_the_parts_of_swept_uploads() {
+    #[derive(Default)]
+    struct Faulty {
+        kept: usize,
+    }
+    fn held(t: &[u8], a: &[u8]) -> usize {
+        state_of(t, a).map_or(0, |state| state.held())
+    }
+    impl Library for Faulty {
+        fn fresh(&mut self, t: &mut [u8], a: &mut [u8]) -> u32 {
+            self.kept = 0;
+            slices::fresh(t, a)
+        }
+
+        fn sweep(&mut self, t: &mut [u8], a: &mut [u8], s: u64, m: u32, r: &mut [u8]) -> u32 {
+            let before = held(t, a);
+            let number = slices::sweep(t, a, s, m, r);
+            self.kept += before - held(t, a);
+            number
+        }
+
+        fn put(&mut self, t: &mut [u8], a: &mut [u8], stamp: u64, path: &[u8], data: &[u8]) -> u32 {
+            let with_kept = [data, &vec![0; self.kept]].concat();
+            match slices::put(&mut t.to_vec(), &mut a.to_vec(), stamp, path, &with_kept) {
+                5 => 5,
+                _ => slices::put(t, a, stamp, path, data),
+            }
+        }
+    }
+    finds("holds_the_parts_of_swept_uploads", Faulty::default);
+}

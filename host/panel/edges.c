@@ -1,6 +1,7 @@
 /*
  * Bad input from C, answered as documents 01 and 02 say: wrong lengths, memory that is no store, bad arguments, places
- * outside the names, short answers. After each refusal every lent byte is compared. The last line counts.
+ * outside the names, short answers, sweeps at the edge of what is due. After each refusal every lent byte is compared.
+ * The last line counts.
  */
 #include <inttypes.h>
 #include <string.h>
@@ -65,10 +66,12 @@ static void accepted(const char *what, uint32_t number)
     mark();
 }
 
-enum { FRESH, PUT, GET, HEAD, DELETE, DELETE_OBJECTS, COPY, LIST, INITIATE, PART, COMMIT, ABORT, UPLOADS, CALLS };
+enum {
+    FRESH, PUT, GET, HEAD, DELETE, DELETE_OBJECTS, COPY, LIST, INITIATE, PART, COMMIT, ABORT, SWEEP, UPLOADS, CALLS
+};
 
 static const char *const CALL_NAMES[CALLS] = {"fresh", "put",      "get",  "head",   "delete", "delete_objects", "copy",
-                                              "list",  "initiate", "part", "commit", "abort",  "uploads"};
+                                              "list",  "initiate", "part", "commit", "abort",  "sweep", "uploads"};
 
 /* A call with good arguments, over what is lent now. */
 static uint32_t good(int call)
@@ -86,13 +89,15 @@ static uint32_t good(int call)
     case PART: return rathnodi_part(STORE, 1, 1, BYTES("A"), REPLY);
     case COMMIT: return rathnodi_commit(STORE, 1, BYTES("\1\0"));
     case ABORT: return rathnodi_abort(STORE, 1);
+    case SWEEP: return rathnodi_sweep(STORE, 8, 1, REPLY);
     default: return rathnodi_uploads(STORE, BYTES(""), ANSWER, REPLY);
     }
 }
 
 static int has_reply(int call)
 {
-    return call == GET || call == HEAD || call == LIST || call == INITIATE || call == PART || call == UPLOADS;
+    return call == GET || call == HEAD || call == LIST || call == INITIATE || call == PART || call == SWEEP ||
+           call == UPLOADS;
 }
 
 /* Lends names, and no place yet. */
@@ -225,12 +230,17 @@ static void bad_arguments(void)
     refused("commit, a part twice", rathnodi_commit(STORE, 1, BYTES("\1\0\1\0")), RATHNODI_BAD_REQUEST);
     refused("commit, high byte first", rathnodi_commit(STORE, 1, BYTES("\0\1")), RATHNODI_BAD_REQUEST);
     refused("abort of upload 2", rathnodi_abort(STORE, 2), RATHNODI_BAD_REQUEST);
+    refused("sweep at 0", rathnodi_sweep(STORE, 0, 1, REPLY), RATHNODI_BAD_REQUEST);
+    refused("sweep at 0, at most 0", rathnodi_sweep(STORE, 0, 0, REPLY), RATHNODI_BAD_REQUEST);
+    refused("sweep at 0, any number", rathnodi_sweep(STORE, 0, UINT32_MAX, REPLY), RATHNODI_BAD_REQUEST);
     refused("get, not there", rathnodi_get(STORE, BYTES("b"), ANSWER, REPLY), RATHNODI_NOT_FOUND);
     refused("head, not there", rathnodi_head(STORE, BYTES("b"), REPLY), RATHNODI_NOT_FOUND);
     refused("delete, not there", rathnodi_delete(STORE, BYTES("b")), RATHNODI_NOT_FOUND);
     refused("copy, not there", rathnodi_copy(STORE, 5, BYTES("b"), BYTES("c")), RATHNODI_NOT_FOUND);
     reply_len = RATHNODI_REPLY_LEN - 1;
     refused("a reply of another length is seen before a bad path", rathnodi_head(STORE, BYTES("//"), REPLY),
+            RATHNODI_NOT_A_STORE);
+    refused("a reply of another length is seen before stamp 0", rathnodi_sweep(STORE, 0, 1, REPLY),
             RATHNODI_NOT_A_STORE);
 }
 
@@ -390,6 +400,67 @@ static void refused_places(void)
     check("one name 1,000 times", as_expected);
 }
 
+/* The sweep aborts so many, says whether more are due, and leaves 0 in the rest of its reply. */
+static void swept(const char *what, uint64_t stamp, uint32_t most, uint8_t count, uint8_t more)
+{
+    uint8_t expected[RATHNODI_REPLY_LEN] = {0};
+    expected[RATHNODI_REPLY_RECORDS] = count;
+    expected[RATHNODI_REPLY_MORE] = more;
+    memset(now.reply, 0xa5, sizeof now.reply);
+    mark();
+    accepted(what, rathnodi_sweep(STORE, stamp, most, REPLY));
+    check(what, memcmp(now.reply + 1, expected, sizeof expected) == 0);
+}
+
+/* The same, and it leaves the store as it was. */
+static void swept_none(const char *what, uint64_t stamp, uint32_t most, uint8_t more)
+{
+    static uint8_t tables[sizeof now.tables], arena[sizeof now.arena];
+    memcpy(tables, now.tables, sizeof tables);
+    memcpy(arena, now.arena, sizeof arena);
+    swept(what, stamp, most, 0, more);
+    check(what, memcmp(tables, now.tables, sizeof tables) == 0 && memcmp(arena, now.arena, sizeof arena) == 0);
+}
+
+static void sweeps(void)
+{
+    struct rathnodi_reply reply;
+    start();
+    swept_none("none before stamp 1", 1, UINT32_MAX, 0);
+    swept_none("one below the start", 6, 1, 0);
+    swept_none("at the start", 7, 1, 0);
+    swept_none("one above the start, at most 0", 8, 0, 1);
+    accepted("initiate, younger", rathnodi_initiate(STORE, UINT64_MAX, BYTES("s"), REPLY));
+    accepted("initiate, older", rathnodi_initiate(STORE, 3, BYTES("t"), REPLY));
+    accepted("initiate, older", rathnodi_initiate(STORE, 5, BYTES("u"), REPLY));
+    swept("the lowest number, not the oldest", 8, 1, 1, 1);
+    refused("part, swept", good(PART), RATHNODI_BAD_REQUEST);
+    refused("commit, swept", good(COMMIT), RATHNODI_BAD_REQUEST);
+    refused("abort, swept", good(ABORT), RATHNODI_BAD_REQUEST);
+    swept_none("none older", 3, 2, 0);
+    swept_none("some older, at most 0", UINT64_MAX, 0, 1);
+    swept("as many as are due", UINT64_MAX, 2, 2, 0);
+    refused("abort, swept", rathnodi_abort(STORE, 3), RATHNODI_BAD_REQUEST);
+    refused("abort, swept", rathnodi_abort(STORE, 4), RATHNODI_BAD_REQUEST);
+    swept_none("none before the last stamp", UINT64_MAX, UINT32_MAX, 0);
+    accepted("initiate", rathnodi_initiate(STORE, 9, BYTES("r"), REPLY));
+    check("no number again", FIELD(uint32_t, RATHNODI_REPLY_UPLOAD) == 5);
+    accepted("commit of a younger one", rathnodi_commit(STORE, 2, BYTES("")));
+    swept("as many as there are", 10, UINT32_MAX, 1, 0);
+    memcpy(&reply, now.reply + 1, sizeof reply);
+    check("the struct", reply.records == 1 && reply.more == 0);
+    accepted("get of an object", good(GET));
+    check("its data", memcmp(now.answer + 1, "xyz", 3) == 0);
+    for (uint32_t i = 0; i < RATHNODI_UPLOADS_MAX; i++) {
+        accepted("initiate", good(INITIATE));
+    }
+    refused("initiate, table full", good(INITIATE), RATHNODI_TABLE_FULL);
+    swept("all but one", 8, RATHNODI_UPLOADS_MAX - 1, RATHNODI_UPLOADS_MAX - 1, 1);
+    memcpy(&reply, now.reply + 1, sizeof reply);
+    check("the struct", reply.records == RATHNODI_UPLOADS_MAX - 1 && reply.more == 1);
+    accepted("abort of the last", rathnodi_abort(STORE, 5 + RATHNODI_UPLOADS_MAX));
+}
+
 /* The reply's bytes, by offset and through the struct. */
 static void replies(void)
 {
@@ -467,6 +538,7 @@ int main(void)
     short_answers();
     places();
     refused_places();
+    sweeps();
     replies();
     shared_arguments();
     return counted("edges");

@@ -1,7 +1,8 @@
 /*
  * A short shift at a bakery terminal, as the panel's program would make it: recipes and a label picture are put, a
  * scale sends its weighings as parts while the panel lists, the upload is committed; another scale is given up and its
- * upload aborted; a shelf of old recipes is cleared in one call. Each call is printed with its answer.
+ * upload aborted; a shelf of old recipes is cleared in one call; uploads that a scale left open are swept. Each call is
+ * printed with its answer.
  */
 #include <inttypes.h>
 #include <stdio.h>
@@ -191,6 +192,17 @@ static void abort_upload(uint32_t upload, uint32_t expected)
     printf("\n");
 }
 
+/* Aborts uploads that were started before the stamp; count and more are expected of a sweep that is accepted. */
+static void sweep(uint64_t stamp, uint32_t most, uint32_t expected, uint32_t expected_count, uint8_t expected_more)
+{
+    printf("  sweep     before %" PRIu64 ", at most %" PRIu32 " ", stamp, most);
+    if (answered(rathnodi_sweep(STORE, stamp, most, REPLY), expected)) {
+        printf(", aborted %" PRIu32 ", %s", reply.records, reply.more ? "more are due" : "no more are due");
+        surprises += reply.records != expected_count || reply.more != expected_more;
+    }
+    printf("\n");
+}
+
 static void uploads(const char *prefix, uint32_t expected)
 {
     printf("  uploads   prefix \"%s\", into %zu bytes ", prefix, sizeof answer);
@@ -274,7 +286,7 @@ int main(void)
     say("Scale 2 is swapped out: its upload is aborted, and a late part finds no upload.");
     abort_upload(scale_2, RATHNODI_OK);
     part(scale_2, 2, "0.01 kg\n", RATHNODI_BAD_REQUEST);
-    initiate(SHIFT + 900, "weighing/scale-2", RATHNODI_OK);
+    scale_2 = initiate(SHIFT + 900, "weighing/scale-2", RATHNODI_OK);
 
     say("What does not fit is refused, and changes nothing.");
     uint8_t *large = calloc(1, ARENA_LEN);
@@ -292,6 +304,16 @@ int main(void)
     list("recipe/old/", "", sizeof answer, RATHNODI_OK);
     delete_listed(RATHNODI_OK, RATHNODI_OK);
     delete_listed(RATHNODI_OK, RATHNODI_NOT_FOUND);
+
+    say("Scale 2 is swapped out again and leaves uploads open: those from before the swap are swept, one at a time.");
+    part(scale_2, 1, "03:16 wheat flour 49.97 kg\n", RATHNODI_OK);
+    initiate(SHIFT + 970, "weighing/scale-2-late", RATHNODI_OK);
+    initiate(SHIFT + 1000, "weighing/scale-2", RATHNODI_OK);
+    uploads("", RATHNODI_OK);
+    sweep(SHIFT + 1000, 1, RATHNODI_OK, 1, 1);
+    sweep(SHIFT + 1000, 1, RATHNODI_OK, 1, 0);
+    sweep(0, 1, RATHNODI_BAD_REQUEST, 0, 0);
+    part(scale_2, 2, "03:17 water 29.01 kg\n", RATHNODI_BAD_REQUEST);
 
     say("The end of the shift.");
     delete("recipe/roll-sunday", RATHNODI_OK);

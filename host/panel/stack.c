@@ -54,8 +54,13 @@ static void calls(void)
     refusals += rathnodi_get(STORE, BYTES("joined"), answer, sizeof answer, reply, sizeof reply);
     refusals += rathnodi_head(STORE, BYTES("copy"), reply, sizeof reply);
     refusals += rathnodi_list(STORE, BYTES("object/"), BYTES("7"), answer, sizeof answer, reply, sizeof reply);
+    for (uint32_t upload = 3; upload < 3 + RATHNODI_UPLOADS_MAX; upload++) {
+        refusals += rathnodi_initiate(STORE, 3, BYTES("joined"), reply, sizeof reply);
+        refusals += rathnodi_part(STORE, upload, 1, data, 11, reply, sizeof reply);
+    }
+    refusals += rathnodi_sweep(STORE, 4, RATHNODI_UPLOADS_MAX, reply, sizeof reply);
     refusals += rathnodi_initiate(STORE, 3, BYTES("joined"), reply, sizeof reply);
-    refusals += rathnodi_abort(STORE, 3);
+    refusals += rathnodi_abort(STORE, 3 + RATHNODI_UPLOADS_MAX);
     refusals += rathnodi_put(STORE, 9, BYTES("large"), data, sizeof data);
     refusals += rathnodi_delete(STORE, BYTES("joined"));
 }

@@ -35,6 +35,24 @@ impl Proved {
         done(slices::delete_objects(&mut self.tables, &mut self.arena, names, places, results));
         results.iter().for_each(|result| done(u32::from(*result)));
     }
+
+    pub fn abort(&mut self, upload: u32) {
+        done(slices::abort(&mut self.tables, &mut self.arena, upload));
+    }
+
+    /// How many uploads were aborted.
+    pub fn sweep(&mut self, stamp: u64, most: u32) -> usize {
+        let mut reply = [0; REPLY_LEN];
+        done(slices::sweep(&mut self.tables, &mut self.arena, stamp, most, &mut reply));
+        number(&reply, 16) as usize
+    }
+
+    /// How many uploads are open.
+    pub fn uploads(&self) -> usize {
+        let (mut answer, mut reply) = ([0; 4096], [0; REPLY_LEN]);
+        done(slices::uploads(&self.tables, &self.arena, b"", &mut answer, &mut reply));
+        number(&reply, 16) as usize
+    }
 }
 
 fn done(number: u32) {

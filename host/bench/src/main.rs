@@ -7,6 +7,7 @@ mod chart;
 mod contestant;
 mod shelf;
 mod sqlite;
+mod sweep;
 mod whole;
 
 use chart::{svg, Curve};
@@ -212,6 +213,7 @@ fn main() {
     table("A full store: 255 objects of 3,840 bytes", &state(255), rounds);
 
     shelf::table(rounds / 4 + 1);
+    sweep::table(rounds / 4 + 1);
     whole::table();
 
     let calls = ["PUT, new", "GET", "HEAD", "LIST, all", "DELETE", "COMMIT, ascending"];

@@ -10,7 +10,7 @@ use Rattle.order.proofs.OrderLaws.{bytes}
 use Rattle.machine.specs.Map.{lookup, isSome}
 use Rattle.machine.specs.Names.{Bytes, requestPathOk, newPathOk, stampOk}
 use Rattle.machine.specs.State.{Object, State, withO}
-use Rattle.machine.specs.Calls.{Call, PUT, GET, HEAD, DELETE, COPY, LIST, INITIATE, PART, COMMIT, ABORT, UPLOADS, DELETE-OBJECTS, nothing, Refusal, badRequest, notFound, tableFull, arenaFull, Outcome, refuse, accept, _else_then_, given, lent}
+use Rattle.machine.specs.Calls.{Call, PUT, GET, HEAD, DELETE, COPY, LIST, INITIATE, PART, COMMIT, ABORT, UPLOADS, DELETE-OBJECTS, SWEEP, nothing, Refusal, badRequest, notFound, tableFull, arenaFull, Outcome, refuse, accept, _else_then_, given, lent}
 use Rattle.machine.specs.Steps.{plainObject, putAt, deleteAt, act, replyOf, after, reply, next}
 use Rattle.machine.specs.Valid.{Valid}
 use Rattle.machine.specs.Swaps.{writes, reads, Apart, Roomy, EitherOrder, Commute}
@@ -124,6 +124,7 @@ write (COMMIT u ns) h = absurd (false≢true h)
 write (ABORT u) h = absurd (false≢true h)
 write (UPLOADS prefix b) h = absurd (false≢true h)
 write (DELETE-OBJECTS names ps over b) h = absurd (false≢true h)
+write (SWEEP t n) h = absurd (false≢true h)
 
 module _ (A : ℕ) (s : State) (v : Valid A s) where
   left-other : (p q : Bytes) (a : Plan) → (q ≡ p → ⊥) → lookup byBytes q (left s p a .O) ≡ lookup byBytes q (s .O)

@@ -8,7 +8,7 @@ use Rattle.order.specs.Order.{same as isSame}
 use Rattle.machine.specs.Map.{isSome}
 use Rattle.machine.specs.Names.{Bytes}
 use Rattle.machine.specs.State.{State}
-use Rattle.machine.specs.Calls.{Call, PUT, GET, HEAD, DELETE, COPY, LIST, INITIATE, PART, COMMIT, ABORT, UPLOADS, DELETE-OBJECTS, Reply}
+use Rattle.machine.specs.Calls.{Call, PUT, GET, HEAD, DELETE, COPY, LIST, INITIATE, PART, COMMIT, ABORT, UPLOADS, DELETE-OBJECTS, SWEEP, Reply}
 use Rattle.machine.specs.Steps.{reply, next}
 use Rattle.machine.specs.Lists.{Trace, trace, final}
 
@@ -26,6 +26,7 @@ writes (COMMIT u ns) = none
 writes (ABORT u) = none
 writes (UPLOADS prefix b) = none
 writes (DELETE-OBJECTS names ps over b) = none
+writes (SWEEP t n) = none
 
 -- the path that such a call reads beside: COPY its source
 abbrev pub reads : Call → Option Bytes
@@ -41,6 +42,7 @@ reads (COMMIT u ns) = none
 reads (ABORT u) = none
 reads (UPLOADS prefix b) = none
 reads (DELETE-OBJECTS names ps over b) = none
+reads (SWEEP t n) = none
 
 -- no path is both
 abbrev pub Differ : Option Bytes → Option Bytes → Type 0

@@ -10,7 +10,8 @@ ghost use Rattle.find.specs.Search.{stopsAt, sought, rowPlaceAt, leads, 
 ghost use Rattle.find.specs.Known.{rowsIn, WholeRow, WholePlace};
 
 // Where a search along the rows stops: after them all; at the upload with a number, or the first above it; at the next
-// upload; at the part with a number, the first above it, or the next upload; at the next upload that started before a stamp.
+// upload; at the part with a number, the first above it, or the next upload; at the next upload that started before a
+// stamp.
 pub(crate) enum Goal {
     End,
     Upload(u32),

@@ -20,7 +20,6 @@ pub same-as-deletes : (A : ℕ) (t : Trace) (m : Memory) → FromFresh A t m →
     (before later : Trace) (names : Bytes) (ps : List NamePlace) (over : ℕ) (b : Bytes) (r : Reply) →
     t ≡ before ++ (DELETE-OBJECTS names ps over b, r) ∷ later → accepted r ≡ true →
     calls t₂ ≡ calls before ++ (singleDeletes names ps ++ calls later) → SameAsDeletes before names ps b r later m t₂ m₂
-unfolding same-runs
 same-as-deletes A t m f t₂ m₂ f₂ before later names ps over b r e ok e₂ =
     let c : Call = DELETE-OBJECTS names ps over b in
     let s : State = final A fresh (calls before) in

@@ -24,7 +24,7 @@ module _ (A : ℕ) (t : Trace) (m : Memory) (f : FromFresh A t m) (before later 
   pub replied : reply A there c ≡ r
   replied = cut A fresh (calls t) before later c r (sym (from-fresh A t m f .0) ∙ e) .replied
 
-  unfoldable pub same-runs : (ds : List Call) (t₂ : Trace) (m₂ : Memory) → FromFresh A t₂ m₂ → calls t₂ ≡ calls before ++ (ds ++ calls later) →
+  pub same-runs : (ds : List Call) (t₂ : Trace) (m₂ : Memory) → FromFresh A t₂ m₂ → calls t₂ ≡ calls before ++ (ds ++ calls later) →
       next A there c ≡ final A there ds → SameRuns before later m ds t₂ m₂
   same-runs ds t₂ m₂ f₂ e₂ is =
       let k = cut A fresh (calls t) before later c r (sym (from-fresh A t m f .0) ∙ e) in

@@ -79,3 +79,7 @@ run-alike (call {c} {r} {t} {m} {m₁} {m₂} made rest) h k l = run-alike rest 
 pub unread : {t : Trace} {m m′ : Memory} → Run t m m′ → ChangesNone t → SameReads m m′
 unfolding SameReads Alike
 unread run h c r r′ n n′ l made made′ = made′ .answers ∙ run-alike run h c l ∙ sym (made .answers)
+
+-- E3: "a reader sees no object change"
+pub sweep-unread : {stamp most : ℕ} {m m′ : Memory} {r : Reply} → Made (SWEEP stamp most) m r m′ → SameReads m m′
+sweep-unread made = unread (call made stop) (refl, tt)

@@ -4,7 +4,7 @@ use Prim.Native.Nat.{ℕ, suc, _<_, Ordering, Ordering·eq}
 use mathlib.Core.Path.{_≡_, refl, sym, ap, _∙_}
 use mathlib.Core.List.{List, [], _∷_, _++_, append-assoc}
 use mathlib.Core.Bool.{Bool, true, false, cond}
-use mathlib.Core.Option.{none, some}
+use mathlib.Core.Option.{some}
 use native.Mathlib.Omega.{arith}
 use lib.ListN.{take, length, getD}
 use lib.Seq.{take-suc}

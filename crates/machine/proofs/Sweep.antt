@@ -8,7 +8,7 @@ use lib.ListN.{take, length-take, length-map}
 use Rattle.order.proofs.OrderLaws.{numbers}
 use Rattle.machine.specs.Map.{Map, byNumber, Ascending}
 use Rattle.machine.specs.State.{Upload, State, fresh, withoutUpload}
-use Rattle.machine.specs.Calls.{Call, ABORT, SWEEP, nothing, badRequest, Answer, accept, Outcome, _else_then_}
+use Rattle.machine.specs.Calls.{Call, SWEEP, nothing, badRequest, Answer, accept, Outcome, _else_then_}
 use Rattle.machine.specs.Steps.{abortAt, due, toSweep, afterAborts, act, replyOf, after}
 use Rattle.machine.specs.Lists.{trace, final}
 use Rattle.machine.specs.Demand3.{accepted}

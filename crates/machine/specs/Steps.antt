@@ -126,6 +126,7 @@ abortAt s u =
 abbrev pub isDue : (stamp : ℕ) → Upload → Bool
 isDue t x = ltb (x .started) t
 
+-- E3: those that are due, by ascending number
 unfoldable pub due : (stamp : ℕ) → Map ℕ Upload → Map ℕ Upload
 due t m = keep (λ u x. isDue t x) m
 

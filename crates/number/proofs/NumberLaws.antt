@@ -93,3 +93,12 @@ le-mod (suc k) n =
     ∙ ap (λ (q : ℕ). q ∷ le k (((n / 256 % 256 ^ k) * 256 + n % 256) / 256)) (digits-mod (n / 256 % 256 ^ k) c)
     ∙ ap (λ (q : ℕ). n % 256 ∷ le k q) (digits-div (n / 256 % 256 ^ k) c)
     ∙ ap (λ (l : List ℕ). n % 256 ∷ l) (le-mod k (n / 256))
+
+-- two bytes as one number
+pub pair-bytes : (k p : ℕ) → k < 256 → p < 256 → le 2 (k + 256 * p) ≡ le 1 k ++ le 1 p
+unfolding le
+pair-bytes k p h g =
+    let low : (k + 256 * p) % 256 ≡ k = omega arith in
+    let same : k % 256 ≡ k = omega arith in
+    let high : (k + 256 * p) / 256 ≡ p = omega arith in
+    rw (low, high, same)

@@ -93,8 +93,8 @@ pub extern "C" fn rathnodi_abort(tables: &mut [u8], arena: &mut [u8], upload: u3
     reply::done(aborted)
 }
 
-// SWEEP: the open uploads that started before the stamp leave the store with their parts, by ascending number, at most so many; to
-// the reply how many, and whether more are due.
+// SWEEP: the open uploads that started before the stamp leave the store with their parts, by ascending number, at most
+// so many; to the reply how many, and whether more are due.
 #[no_mangle]
 pub extern "C" fn rathnodi_sweep(
     tables: &mut [u8],

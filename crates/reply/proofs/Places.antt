@@ -1,24 +1,14 @@
 -- The reply, written field by field. Assumes nothing.
-use Prim.Native.Nat.{ℕ, _+_, _*_, _<_, _/_, _%_}
+use Prim.Native.Nat.{ℕ, _+_, _*_, _<_}
 use mathlib.Core.Path.{_≡_, refl, sym, ap, _∙_}
 use mathlib.Core.List.{List, [], _++_, append-assoc, append-nil}
 use native.Mathlib.Omega.{arith}
 use lib.ListN.{length, length-append, drop-of-length-le}
 use Rattle.number.specs.Number.{le}
-use Rattle.number.proofs.NumberLaws.{length-le}
+use Rattle.number.proofs.NumberLaws.{length-le, pair-bytes}
 use Rattle.number.proofs.Fields.{over, front-next}
 use Rattle.md5.specs.Md5.{bytesOf}
 use Rattle.reply.specs.Reply.{fieldBytes}
-
--- two bytes, as one number
-pair-bytes : (k p : ℕ) → k < 256 → p < 256 → le 2 (k + 256 * p) ≡ le 1 k ++ le 1 p
-unfolding le
-pair-bytes k p hk hp =
-    let low : (k + 256 * p) % 256 ≡ k = omega arith in
-    let high : (k + 256 * p) / 256 ≡ p = omega arith in
-    let k-is : k % 256 ≡ k = omega arith in
-    let p-is : p % 256 ≡ p = omega arith in
-    rw (low, high, k-is, p-is)
 
 module _ (b : List ℕ) (room : length b ≡ 48) (created size upload records bytes kind more count : ℕ) (digest : List ℕ) where
   -- the nine calls of `write_fields`

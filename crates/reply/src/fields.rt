@@ -29,7 +29,8 @@ fn write_fields(
     digest: Digest,
 )
     requires { ⌜ length (now reply) ≡ 48 ⌝ }
-    ensures { λ _. ⌜ now (reply .exit) ≡ fieldBytes created size upload records bytes kind more count (bytesOf digest) ⌝ }
+    ensures { λ _. ⌜ now (reply .exit)
+        ≡ fieldBytes created size upload records bytes kind more count (bytesOf digest) ⌝ }
 {
     number::put_u64(reply, 0, created);
     number::put_u32(reply, 8, size);

@@ -85,7 +85,8 @@ pub fn written(a: ListAnswer, reply: &mut [u8]) -> u32
 // SWEEP: how many uploads it aborted, and whether more are due.
 pub fn swept(a: SweepAnswer, reply: &mut [u8]) -> u32
     requires { ⌜ length (now reply) ≡ 48 ⌝ }
-    ensures { λ r. ⌜ (r ≡ sweepReply a .result) × (now (reply .exit) ≡ replyOver (sweepReply a .answer) (now (reply .entry))) ⌝ }
+    ensures { λ r. ⌜ (r ≡ sweepReply a .result)
+        × (now (reply .exit) ≡ replyOver (sweepReply a .answer) (now (reply .entry))) ⌝ }
 {
     match a {
         SweepAnswer::Refused(n) => n as u32,

@@ -1,25 +1,16 @@
 -- A row, written field by field. Assumes nothing.
-use Prim.Native.Nat.{ℕ, _+_, _*_, _<_, _/_, _%_}
+use Prim.Native.Nat.{ℕ, _+_, _*_, _<_}
 use mathlib.Core.Path.{_≡_, refl, ap, ap₂, _∙_}
 use mathlib.Core.List.{List, [], _++_, append-assoc, append-nil}
 use native.Mathlib.Omega.{arith}
 use lib.ListN.{length, take, drop, length-append}
 use lib.Seq.{take-at}
 use Rattle.number.specs.Number.{le}
-use Rattle.number.proofs.NumberLaws.{length-le}
+use Rattle.number.proofs.NumberLaws.{length-le, pair-bytes}
 use Rattle.number.proofs.Fields.{over, front-next}
 use Rattle.row.specs.declared.Head.{Head}
 use Rattle.row.specs.Fields.{fields}
 use Rattle.row.specs.Row.{numbersLength, headLength, rowBytes}
-
--- two bytes as one number
-pair-bytes : (k p : ℕ) → k < 256 → p < 256 → le 2 (k + 256 * p) ≡ le 1 k ++ le 1 p
-unfolding le
-pair-bytes k p h g =
-    let low : (k + 256 * p) % 256 ≡ k = omega arith in
-    let same : k % 256 ≡ k = omega arith in
-    let high : (k + 256 * p) / 256 ≡ p = omega arith in
-    rw (low, high, same)
 
 pub number-fields : (b b₁ b₂ b₃ b₄ b₅ : List ℕ) (h : Head) (k p pair : ℕ) → k ≡ h .kind → k < 256 → p ≡ h .pathlen → p < 256 → pair ≡ k + 256 * p
     → b₁ ≡ over b 0 (le 4 (h .size)) 4 → b₂ ≡ over b₁ 4 (le 4 (h .number)) 4 → b₃ ≡ over b₂ 8 (le 8 (h .stamp)) 8

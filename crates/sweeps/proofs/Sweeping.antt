@@ -2,7 +2,7 @@
 use Prim.Native.Nat.{ℕ, suc, _+_, _-_, _<_, _≤_}
 use mathlib.Core.Path.{_≡_, refl, sym, ap, subst, _∙_}
 use mathlib.Core.Bool.{Bool, true, false, false≢true}
-use mathlib.Core.List.{List, [], _∷_, map}
+use mathlib.Core.List.{[], _∷_, map}
 use mathlib.Core.Option.{some}
 use native.Mathlib.Nat.{min-eq-left, min-eq-right}
 use native.Mathlib.Omega.{arith}
@@ -14,7 +14,7 @@ use Rattle.number.specs.Number.{AreBytes}
 use Rattle.machine.specs.Map.{Map, byNumber, lookup}
 use Rattle.machine.specs.State.{Upload, State, withoutUpload}
 use Rattle.machine.specs.Calls.{ABORT, Reply, Outcome, nothing, accept}
-use Rattle.machine.specs.Steps.{abortAt, due, toSweep, afterAborts, act, replyOf, after}
+use Rattle.machine.specs.Steps.{due, toSweep, afterAborts, act, replyOf, after}
 use Rattle.machine.proofs.Sweeping.{abort-leaves, abort-accepted, first-due, one-swept}
 use Rattle.layout.specs.Memory.{Stands}
 use Rattle.layout.proofs.StandsLaws.{stands-state, stands-whole}

@@ -14,7 +14,10 @@ ghost use Rattle.sweeps.specs.Swept.{Swept};
 // The sweep over whole memory.
 fn sweep_whole(tables: &mut [u8], arena: &mut [u8], stamp: u64, most: u32) -> Sweep
     requires { ⌜ whole (now tables) (now arena) ≡ true ⌝ }
-    ensures { λ r. ⌜ Swept stamp most (memory (now (tables .entry)) (now (arena .entry))) r (memory (now (tables .exit)) (now (arena .exit))) ⌝ }
+    ensures { λ r. ⌜ Swept stamp most
+        (memory (now (tables .entry)) (now (arena .entry)))
+        r
+        (memory (now (tables .exit)) (now (arena .exit))) ⌝ }
 {
     let mut count: u32 = 0;
     while count < most {
@@ -34,7 +37,10 @@ fn sweep_whole(tables: &mut [u8], arena: &mut [u8], stamp: u64, most: u32) -> Sw
 
 // SWEEP.
 pub fn sweep(tables: &mut [u8], arena: &mut [u8], stamp: Stamp, most: u32) -> SweepAnswer
-    ensures { λ r. ⌜ Made (SWEEP (stamp .0) most) (memory (now (tables .entry)) (now (arena .entry))) (sweepReply r) (memory (now (tables .exit)) (now (arena .exit))) ⌝ }
+    ensures { λ r. ⌜ Made (SWEEP (stamp .0) most)
+        (memory (now (tables .entry)) (now (arena .entry)))
+        (sweepReply r)
+        (memory (now (tables .exit)) (now (arena .exit))) ⌝ }
 {
     if !scan::whole(tables, arena) {
         return SweepAnswer::Refused(types::NOT_A_STORE);

@@ -12,7 +12,7 @@ use lib.ListN.{length, getD, take, drop, length-take, length-drop}
 use lib.Seq.{drop-cons}
 use borrow.Author.Tests.{eqb-true, eqb-false, ne-eqb, leb-true, le-leb, ltb-true, lt-ltb, le-ltb, not-true, not-false}
 use Rattle.machine.specs.Names.{Range, _to_, within, tail, forms, opens, behind, characters, apart}
-use Rattle.names.specs.Letters.{widthOf, leastOf, mostOf, due, Letter}
+use Rattle.names.specs.Letters.{widthOf, leastOf, mostOf, due, Pair, Run, Letter}
 
 and-left : (a b : Bool) → (a && b) ≡ true → a ≡ true
 and-left true b e = refl
@@ -290,3 +290,36 @@ module _ (p : List ℕ) (i : ℕ) (known : getD p i 0 < 256) where
       (over-two w (omega arith) (omega arith) s
       ∙ over-byte (getD p i 0) p (i + 2) (i + 3) (omega arith) (omega arith) far-first (tail-far (getD p (i + 2) 0) t)
       ∙ over-byte (getD p i 0) p (i + 3) (i + 4) (omega arith) h far-first (tail-far (getD p (i + 3) 0) u)))
+
+  -- such letters one after the other
+  pub is-run : (r : ℕ) → Run p i (i + r) → 0 < r → Letter p i r
+  is-run r run some = passed r some (run .inside) (run .rest) (run .over (omega arith))
+
+pub run-none : (p : List ℕ) (i : ℕ) → i < length p → Run p i i
+run-none p i h = record { forward = omega arith; inside = omega arith; rest = refl; first = λ l. absurd (omega arith); over = λ l. absurd (omega arith) }
+
+pub run-more : (p : List ℕ) (i k : ℕ) → getD p k 0 < 256 → k + 1 < length p → Run p i k → Pair (getD p k 0) (getD p (k + 1) 0) → Run p i (k + 2)
+run-more p i k known h run two =
+    let b-far : 47 < getD p k 0 = (let l = two .low in omega arith) in
+    let c-far : 47 < getD p (k + 1) 0 = tail-far (getD p (k + 1) 0) (two .second) in
+    record {
+      forward = (let f = run .forward in omega arith);
+      inside = omega arith;
+      rest = run .rest ∙ is-pair p k known (two .low) (two .high) h (two .second) .rest;
+      first = λ l. go-first (eqb i k) refl b-far;
+      over = λ l. go-over (eqb i k) refl b-far c-far;
+    }
+  where
+    before : eqb i k ≡ false → i < k
+    before q = let f = run .forward in let n : i ≡ k → ⊥ = eqb-false i k q in omega arith
+
+    go-first : (t : Bool) → eqb i k ≡ t → 47 < getD p k 0 → 47 < getD p i 0
+    go-first true q f = rw (eqb-true i k q) f
+    go-first false q f = run .first (before q)
+
+    go-over : (t : Bool) → eqb i k ≡ t → 47 < getD p k 0 → 47 < getD p (k + 1) 0 → apart (getD p i 0) (drop (i + 1) p) ≡ apart (getD p i 0) (drop (k + 2) p)
+    go-over true q f g = rw (eqb-true i k q) (over-byte (getD p k 0) p (k + 1) (k + 2) (omega arith) h f g)
+    go-over false q f g =
+        run .over (before q)
+        ∙ over-byte (getD p i 0) p k (k + 1) refl (omega arith) (run .first (before q)) f
+        ∙ over-byte (getD p i 0) p (k + 1) (k + 2) (omega arith) h (run .first (before q)) g

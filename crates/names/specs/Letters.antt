@@ -16,14 +16,21 @@ leastOf b = cond (eqb b 194) 160 (cond (eqb b 224) 160 (cond (eqb b 240) 144 128
 unfoldable pub mostOf : ℕ → ℕ
 mostOf b = cond (eqb b 237) 159 (cond (eqb b 244) 143 191)
 
--- b and the byte after i are C3 to DF and a tail
-pub record Pair (p : List ℕ) (i b : ℕ) : Type 0 where
+-- b and c are C3 to DF and a tail
+pub record Pair (b c : ℕ) : Type 0 where
   pub low : 194 < b
   pub high : b < 224
-  pub inside : i + 1 < length p
-  pub second : (leb 128 (getD p (i + 1) 0) && leb (getD p (i + 1) 0) 191) ≡ true
+  pub second : (leb 128 c && leb c 191) ≡ true
 
--- r bytes at i are a character, or r is 0 and none stands there; only its first byte can be a "/"
+-- from i to k stand characters, none of them a "/"
+pub record Run (p : List ℕ) (i k : ℕ) : Type 0 where
+  pub forward : i ≤ k
+  pub inside : k ≤ length p
+  pub rest : characters [] (drop i p) ≡ characters [] (drop k p)
+  pub first : i < k → 47 < getD p i 0
+  pub over : i < k → apart (getD p i 0) (drop (i + 1) p) ≡ apart (getD p i 0) (drop k p)
+
+-- r bytes at i are characters, or r is 0 and none stands there; only the first byte can be a "/"
 pub record Letter (p : List ℕ) (i r : ℕ) : Type 0 where
   pub inside : i + r ≤ length p
   pub rest : characters [] (drop i p) ≡ (ltb 0 r && characters [] (drop (i + r) p))

@@ -1,11 +1,11 @@
 // Characters of UTF-8, one after the other: the slow test, of paths that are not of visible ASCII alone.
 ghost use mathlib.Core.Path.{_≡_};
 ghost use mathlib.Core.Bool.{true, _&&_};
-ghost use Prim.Native.Nat.{_≤_, _<_};
+ghost use Prim.Native.Nat.{_+_, _≤_, _<_};
 ghost use lib.Dec.{leb, eqb};
 ghost use lib.ListN.{length};
 ghost use Rattle.machine.specs.Names.{pathOk};
-ghost use Rattle.names.specs.Letters.{widthOf, leastOf, mostOf, Pair, Letter};
+ghost use Rattle.names.specs.Letters.{widthOf, leastOf, mostOf, Pair, Run, Letter};
 
 // How many bytes the character that b begins has: 0 if it begins none.
 fn width(b: u8) -> usize
@@ -70,10 +70,9 @@ fn between(low: u8, b: u8, high: u8) -> bool
     b <= high
 }
 
-// Whether a letter of two bytes that begins with C3 to DF stands at i, as most letters outside ASCII do.
-fn pair(p: &[u8], i: usize, b: u8) -> bool
-    requires { ⌜ i < length (now p) ⌝ }
-    ensures { λ r. ⌜ (r ≡ true → Pair (now (p .entry)) i b) ⌝ }
+// Whether b and c are a letter of two bytes that begins with C3 to DF, as most letters outside ASCII do.
+fn pair(b: u8, c: u8) -> bool
+    ensures { λ r. ⌜ (r ≡ true → Pair b c) ⌝ }
 {
     if b <= 194 {
         return false;
@@ -81,20 +80,33 @@ fn pair(p: &[u8], i: usize, b: u8) -> bool
     if 224 <= b {
         return false;
     }
-    if p.len() - i < 2 {
-        return false;
-    }
-    between(128, p[i + 1], 191)
+    between(128, c, 191)
 }
 
-// How many bytes the character at i has: 0 if none stands there.
+// How many bytes such letters have that stand at i, one after the other.
+fn pairs(p: &[u8], i: usize) -> usize
+    requires { ⌜ i < length (now p) ⌝ }
+    ensures { λ r. ⌜ Run (now (p .entry)) i (i + r) ⌝ }
+{
+    let mut k = i;
+    while 2 <= p.len() - k {
+        if !pair(p[k], p[k + 1]) {
+            return k - i;
+        }
+        k += 2;
+    }
+    k - i
+}
+
+// How many bytes the character at i has, or several there: 0 if none stands there.
 fn letter(p: &[u8], i: usize) -> usize
     requires { ⌜ i < length (now p) ⌝ }
     ensures { λ r. ⌜ Letter (now (p .entry)) i r ⌝ }
 {
     let b = p[i];
-    if pair(p, i, b) {
-        return 2;
+    let run = pairs(p, i);
+    if 0 < run {
+        return run;
     }
     let w = width(b);
     if p.len() - i < w {

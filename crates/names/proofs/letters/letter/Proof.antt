@@ -6,23 +6,22 @@ use borrow.Author.Needs.{needs}
 use lib.ListN.{getD}
 use Rattle.names.specs.Letters.{widthOf}
 use Rattle.names.proofs.Tests.{said-no, said-yes}
-use Rattle.names.proofs.LetterLaws.{second-no, second-yes, is-cut-off, is-short, is-pair, is-no-second, is-two, is-no-third, is-three, is-no-fourth, is-four}
+use Rattle.names.proofs.LetterLaws.{second-no, second-yes, is-cut-off, is-short, is-run, is-no-second, is-two, is-no-third, is-three, is-no-fourth, is-four}
 use Rattle.names.proofs.letters.letter.Statement.{statement}
 use Rattle.names.proofs.letters.letter.Tie as tie
 
 shared-slice-read-b : tie.Need-shared-slice-read-b
 shared-slice-read-b c = search needs
 
-pair-requires : tie.Need-pair-requires
-pair-requires c κs = search needs
+pairs-requires : tie.Need-pairs-requires
+pairs-requires c κs = search needs
 
 returns : tie.Need-returns
 returns c =
     let p = c .before .before .before .before .args .p .now in
     let i = c .before .before .before .before .args .i in
     let known : getD p i 0 < 256 = omega (arith, c .before .before .before .shared-slice-known .given i) in
-    let two = c .before .pair .ensures (c .if1 .taken) in
-    is-pair p i known (two .low) (two .high) (two .inside) (two .second)
+    is-run p i known (c .before .pairs .result) (c .before .pairs .ensures) (c .if1 .taken)
 
 width-requires : tie.Need-width-requires
 width-requires c κs = search needs
@@ -140,7 +139,7 @@ letter-spec =
     tie.close
     (tie.spec
     shared-slice-read-b
-    pair-requires
+    pairs-requires
     returns
     width-requires
     sub-if2

@@ -12,33 +12,11 @@ returns c e = absurd (false≢true e)
 returns-2 : tie.Need-returns-2
 returns-2 c e = absurd (false≢true e)
 
-sub-if3 : tie.Need-sub-if3
-sub-if3 c = search needs
-
-returns-3 : tie.Need-returns-3
-returns-3 c e = absurd (false≢true e)
-
-add-between : tie.Need-add-between
-add-between c = search needs
-
-shared-slice-read-between : tie.Need-shared-slice-read-between
-shared-slice-read-between c = search needs
-
 between-requires : tie.Need-between-requires
 between-requires c κs = search needs
 
-returns-4 : tie.Need-returns-4
-returns-4 c e = record { low = omega arith; high = omega arith; inside = omega arith; second = sym (c .between .ensures) ∙ e }
+returns-3 : tie.Need-returns-3
+returns-3 c e = record { low = omega arith; high = omega arith; second = sym (c .between .ensures) ∙ e }
 
 pub pair-spec : {M : Type 1} → statement M
-pair-spec =
-    tie.close
-    (tie.spec
-    returns
-    returns-2
-    sub-if3
-    returns-3
-    add-between
-    shared-slice-read-between
-    between-requires
-    returns-4)
+pair-spec = tie.close (tie.spec returns returns-2 between-requires returns-3)

@@ -56,20 +56,20 @@ abbrev pub forms : List Form
 forms = utf8-1 ++ utf8-2 ++ utf8-3 ++ utf8-4
 
 -- whether a character of these forms can begin with b
-abbrev pub opens : List Form → ℕ → Bool
-opens [] b = false
-opens ((first, rest) ∷ fs) b = within first b || opens fs b
+abbrev pub canBegin : List Form → ℕ → Bool
+canBegin [] b = false
+canBegin ((first, rest) ∷ fs) b = within first b || canBegin fs b
 
 -- what must stand after b then
-abbrev pub behind : List Form → ℕ → List Range
-behind [] b = []
-behind ((first, rest) ∷ fs) b = cond (within first b) rest (behind fs b)
+abbrev pub following : List Form → ℕ → List Range
+following [] b = []
+following ((first, rest) ∷ fs) b = cond (within first b) rest (following fs b)
 
 -- "UTF8-octets = *( UTF8-char )", after the bytes that are still due
 abbrev pub characters : (due : List Range) → Bytes → Bool
 characters [] [] = true
 characters (r ∷ due) [] = false
-characters [] (b ∷ p) = opens forms b && characters (behind forms b) p
+characters [] (b ∷ p) = canBegin forms b && characters (following forms b) p
 characters (r ∷ due) (b ∷ p) = within r b && characters due p
 
 -- "no two adjacent "/"" (47), with `before` standing before the first byte

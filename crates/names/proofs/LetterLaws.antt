@@ -11,7 +11,7 @@ use lib.Dec.{leb, ltb, eqb, lit≤}
 use lib.ListN.{length, getD, take, drop, length-take, length-drop}
 use lib.Seq.{drop-cons}
 use borrow.Author.Tests.{eqb-true, eqb-false, ne-eqb, leb-true, le-leb, ltb-true, lt-ltb, le-ltb, not-true, not-false}
-use Rattle.machine.specs.Names.{Range, _to_, within, tail, forms, opens, behind, characters, apart}
+use Rattle.machine.specs.Names.{Range, _to_, within, tail, forms, canBegin, following, characters, apart}
 use Rattle.names.specs.Letters.{widthOf, leastOf, mostOf, due, Pair, Run, Letter}
 
 and-left : (a b : Bool) → (a && b) ≡ true → a ≡ true
@@ -66,7 +66,7 @@ agree-is false true e = absurd (false≢true e)
 agree-is false false e = refl
 
 right : ℕ → Bool
-right b = agree (opens forms b) (ltb 0 (widthOf b)) && same (behind forms b) (due (widthOf b) (leastOf b) (mostOf b))
+right b = agree (canBegin forms b) (ltb 0 (widthOf b)) && same (following forms b) (due (widthOf b) (leastOf b) (mostOf b))
 
 all-right : below right 256 ≡ true
 unfolding below right same agree widthOf leastOf mostOf
@@ -105,8 +105,8 @@ module _ (b : ℕ) (h : b < 256) where
   unfolding right
   by-first q =
       rw (
-        agree-is (opens forms b) (ltb 0 (widthOf b)) (and-left _ _ at-b),
-        same-is (behind forms b) (due (widthOf b) (leastOf b) (mostOf b)) (and-right (agree (opens forms b) (ltb 0 (widthOf b))) _ at-b),
+        agree-is (canBegin forms b) (ltb 0 (widthOf b)) (and-left _ _ at-b),
+        same-is (following forms b) (due (widthOf b) (leastOf b) (mostOf b)) (and-right (agree (canBegin forms b) (ltb 0 (widthOf b))) _ at-b),
       )
 
   pub cut-off : (q : List ℕ) → widthOf b ≤ 4 → 1 + length q < widthOf b → characters [] (b ∷ q) ≡ false

@@ -36,7 +36,7 @@ pub record Letter (p : List ℕ) (i r : ℕ) : Type 0 where
   pub rest : characters [] (drop i p) ≡ (ltb 0 r && characters [] (drop (i + r) p))
   pub parted : (before : ℕ) → 1 ≤ r → apart before (drop i p) ≡ (not (eqb before 47 && eqb (getD p i 0) 47) && apart (getD p i 0) (drop (i + r) p))
 
--- what is due behind the first of w bytes
+-- what is due after the first of w bytes
 abbrev pub due : (w low high : ℕ) → List Range
 due zero low high = []
 due (suc w) low high = take w (low to high ∷ tail ∷ tail ∷ [])

@@ -32,7 +32,7 @@ fn width(b: u8) -> usize
     0
 }
 
-// The least second byte behind b.
+// The least second byte after b.
 fn least(b: u8) -> u8
     ensures { λ r. ⌜ r ≡ leastOf b ⌝ }
 {
@@ -48,7 +48,7 @@ fn least(b: u8) -> u8
     128
 }
 
-// The last second byte behind b.
+// The last second byte after b.
 fn most(b: u8) -> u8
     ensures { λ r. ⌜ r ≡ mostOf b ⌝ }
 {

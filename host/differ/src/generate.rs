@@ -124,8 +124,22 @@ fn good_path(random: &mut Random, length: usize) -> Vec<u8> {
 
 /// Letters of one to four bytes, at the edges of RFC 3629's rows.
 const LETTERS: [&str; 16] = [
-    "a", "b", "/", "\u{a0}", "ä", "é", "\u{7ff}", "\u{800}", "€", "\u{d7ff}", "\u{e000}", "\u{ffff}",
-    "\u{10000}", "🥐", "\u{fffff}", "\u{10ffff}",
+    "a",
+    "b",
+    "/",
+    "\u{a0}",
+    "ä",
+    "é",
+    "\u{7ff}",
+    "\u{800}",
+    "€",
+    "\u{d7ff}",
+    "\u{e000}",
+    "\u{ffff}",
+    "\u{10000}",
+    "🥐",
+    "\u{fffff}",
+    "\u{10ffff}",
 ];
 
 /// A path of this length with letters of all lengths.
@@ -143,9 +157,26 @@ fn letters_path(random: &mut Random, length: usize) -> Vec<u8> {
 
 /// No letters: lone bytes, overlong forms, surrogates, code points below 160 and past 10FFFF, and letters that are cut off.
 const NO_LETTERS: [&[u8]; 20] = [
-    b"\x80", b"\xbf", b"\xc0\xaf", b"\xc1\xbf", b"\xe0\x80\xaf", b"\xe0\x9f\xbf", b"\xf0\x80\x80\xaf", b"\xf0\x8f\xbf\xbf",
-    b"\xed\xa0\x80", b"\xed\xa0\xbd\xed\xb8\x80", b"\xed\xbf\xbf", b"\xc2\x80", b"\xc2\x9f", b"\xf4\x90\x80\x80",
-    b"\xf5\x80\x80\x80", b"\xff", b"\xc3", b"\xe2\x82", b"\xf0\x9f\xa5", b"\xf0\x9f",
+    b"\x80",
+    b"\xbf",
+    b"\xc0\xaf",
+    b"\xc1\xbf",
+    b"\xe0\x80\xaf",
+    b"\xe0\x9f\xbf",
+    b"\xf0\x80\x80\xaf",
+    b"\xf0\x8f\xbf\xbf",
+    b"\xed\xa0\x80",
+    b"\xed\xa0\xbd\xed\xb8\x80",
+    b"\xed\xbf\xbf",
+    b"\xc2\x80",
+    b"\xc2\x9f",
+    b"\xf4\x90\x80\x80",
+    b"\xf5\x80\x80\x80",
+    b"\xff",
+    b"\xc3",
+    b"\xe2\x82",
+    b"\xf0\x9f\xa5",
+    b"\xf0\x9f",
 ];
 
 /// A good path with a fault in it, or one of 128 bytes that ends amid a letter.

@@ -26,7 +26,7 @@ use Rattle.machine.proofs.KeepsValid.{next-valid, fresh-valid, final-valid}
 use Rattle.machine.proofs.Traces.{cut}
 use Rattle.contract.specs.Made.{Memory}
 use Rattle.history.specs.Runs.{FromFresh}
-use Rattle.history.specs.Questions.{names, Shut, EndedBy, StaysOut}
+use Rattle.history.specs.Questions.{names, Shut, Ends, StaysOut}
 use Rattle.history.proofs.Running.{from-fresh}
 use Rattle.history.proofs.Demand3.{demand3}
 use Rattle.history.proofs.InPlace.{replied}
@@ -84,22 +84,18 @@ all-shut : (A u : ℕ) (s : State) (cs : List Call) → Valid A s → Gone u s �
 all-shut A u s [] v g = tt
 all-shut A u s (c ∷ cs) v g = (refused-here A u s v g c, all-shut A u (next A s c) cs (next-valid A s c v) (still-gone A u s v g c))
 
--- the upload is open before a call, and not after it
-abbrev Ends : (A u : ℕ) → State → Call → Type 0
-Ends A u s c = (x : Upload) × (lookup byNumber u (s .U) ≡ some x) × (lookup byNumber u (next A s c .U) ≡ none)
-
-gone-after : (A u : ℕ) (s : State) (c : Call) → Valid A s → Ends A u s c → Gone u (next A s c)
+gone-after : (A u : ℕ) (s : State) (c : Call) → Valid A s → Ends A s c u → Gone u (next A s c)
 gone-after A u s c v h =
     let below = every-lookup numbers (UploadOk (s .N)) u (h .0) (s .U) (v .upload) (h .1) .high in
     let kept = number-kept A s c in
     (omega arith, h .2)
 
 -- an accepted ABORT
-aborted : (A u : ℕ) (s : State) → Valid A s → accepted (reply A s (ABORT u)) ≡ true → Ends A u s (ABORT u)
+aborted : (A u : ℕ) (s : State) → Valid A s → accepted (reply A s (ABORT u)) ≡ true → Ends A s (ABORT u) u
 unfolding act abortAt given
 aborted A u s v = go (lookup byNumber u (s .U)) refl
   where
-    go : (o : Option Upload) → lookup byNumber u (s .U) ≡ o → accepted (reply A s (ABORT u)) ≡ true → Ends A u s (ABORT u)
+    go : (o : Option Upload) → lookup byNumber u (s .U) ≡ o → accepted (reply A s (ABORT u)) ≡ true → Ends A s (ABORT u) u
     go none e ok = absurd (false≢true (rw e at ok))
     go (some x) e ok = rw e (x, refl, lookup-remove numbers u (s .U) (v .uploads))
 
@@ -112,7 +108,7 @@ not-accepted r e ok = omega (arith, e, eqb-true (r .result) 0 ok)
 
 -- After the call at which it ends an upload takes no part and no commit, and no later record is made of its parts.
 pub stays-out-after : (A : ℕ) (t : Trace) (m : Memory) → FromFresh A t m → (before later : Trace) (c : Call) (u : ℕ) (r : Reply) → t ≡ before ++ (c, r) ∷ later
-    → EndedBy A before c u → StaysOut A before c u r later m
+    → Ends A (final A fresh (calls before)) c u → StaysOut A before c u r later m
 stays-out-after A t m f before later c u r e ended =
     let k = cut A fresh (calls t) before later c r (sym (from-fresh A t m f .0) ∙ e) in
     let s = final A fresh (calls before) in

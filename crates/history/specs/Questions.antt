@@ -6,11 +6,11 @@ use mathlib.Core.List.{List, [], _∷_, _++_}
 use mathlib.Core.Option.{none, some}
 use lib.Dec.{eqb}
 use Rattle.machine.specs.Map.{isSome, byNumber, lookup}
-use Rattle.machine.specs.State.{Upload, State, fresh}
+use Rattle.machine.specs.State.{Upload, State}
 use Rattle.machine.specs.Calls.{Call, PUT, GET, HEAD, DELETE, COPY, LIST, INITIATE, PART, COMMIT, ABORT, UPLOADS, DELETE-OBJECTS, SWEEP, Reply}
 use Rattle.machine.specs.Steps.{next}
-use Rattle.machine.specs.Lists.{Trace, final}
-use Rattle.machine.specs.Demand3.{kind, isLook, accepted, calls}
+use Rattle.machine.specs.Lists.{Trace}
+use Rattle.machine.specs.Demand3.{kind, isLook, accepted}
 use Rattle.consistency.specs.LastWrites.{change}
 use Rattle.contract.specs.Made.{Memory, Made}
 use Rattle.history.specs.Demand3.{Committed}
@@ -53,11 +53,9 @@ abbrev pub Shut : (upload : ℕ) → Trace → Type 0
 Shut u [] = Unit {0}
 Shut u (e ∷ t) = (names u (e .0) ≡ true → e .1 .result ≡ 2) × Shut u t
 
--- upload u is open after the calls `before`, and not after the call c, which is made next: c is its ABORT, its COMMIT, or a SWEEP that aborts it
-abbrev pub EndedBy : (A : ℕ) (before : Trace) → Call → (upload : ℕ) → Type 0
-EndedBy A before c u =
-    let s : State = final A fresh (calls before) in
-    (x : Upload) × (lookup byNumber u (s .U) ≡ some x) × (lookup byNumber u (next A s c .U) ≡ none)
+-- the call c ends upload u: it is open in the state s, and not after c, which is its ABORT, its COMMIT, or a SWEEP that aborts it
+abbrev pub Ends : (A : ℕ) → State → Call → (upload : ℕ) → Type 0
+Ends A s c u = (x : Upload) × (lookup byNumber u (s .U) ≡ some x) × (lookup byNumber u (next A s c .U) ≡ none)
 
 -- What the call c with reply r, after which upload u is gone, means for the rest of the run, which leaves memory m: the upload is shut, and every
 -- COMMIT that is accepted later names another upload and joins the parts that were sent to that one.

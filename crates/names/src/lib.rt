@@ -46,7 +46,7 @@ pub fn stored_path_ok(p: &[u8]) -> bool
 }
 
 // The same of the bytes of t from `from` to `to`, which stand after 33 others or more. It is for the scan of objects alone: the compiler
-// puts a function with one caller in that caller's place, and there that is a fifth of the time.
+// puts a function with one caller in that caller's place, which saves up to a fifth of the time.
 pub fn stored_path_ok_at(t: &[u8], from: usize, to: usize) -> bool
     requires { ⌜ (33 ≤ from) × (from ≤ to) × (to ≤ length (now t)) ⌝ }
     ensures { λ r. ⌜ r ≡ storedPathOk (take (to - from) (drop from (now (t .entry)))) ⌝ }

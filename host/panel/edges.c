@@ -197,7 +197,8 @@ static void bad_arguments(void)
         const uint8_t *bytes;
         size_t len;
     } bad_paths[] = {{BYTES("/a")}, {BYTES("a//b")}, {BYTES("/")},      {BYTES("a b")},
-                     {BYTES("a\0")}, {BYTES("\x7f")}, {BYTES("\xc3\xa4")}, {over, sizeof over}};
+                     {BYTES("a\0")}, {BYTES("\x7f")}, {BYTES("\xc2\x9f")}, {BYTES("a\xc3")}, {BYTES("\xed\xa0\x80")},
+                     {BYTES("\xc0\xaf")}, {BYTES("\xf4\x90\x80\x80")}, {over, sizeof over}};
     memset(over, 'p', sizeof over);
     start();
     for (size_t i = 0; i < sizeof bad_paths / sizeof *bad_paths; i++) {

@@ -1,14 +1,14 @@
 -- `characters`, which finds a row by a character's first byte, accepts just what the grammar of RFC 3629 has. Assumes nothing.
-use Prim.Native.Nat.{ℕ, zero, suc, _<_}
+use Prim.Native.Nat.{ℕ, _<_}
 use mathlib.Core.Path.{_≡_, refl, ap, subst}
 use mathlib.Core.Bool.{Bool, true, false, not, _&&_, _||_, or-true, false≢true}
 use mathlib.Core.List.{List, [], _∷_, _++_}
-use native.Mathlib.Nat.{not-suc-le-zero}
 use native.Mathlib.Omega.{arith}
-use lib.Dec.{leb, eqb}
-use borrow.Author.Tests.{eqb-true, eqb-false, leb-true}
+use lib.Dec.{leb}
+use borrow.Author.Tests.{leb-true}
 use Rattle.row.proofs.RowLaws.{and-left, and-right, and-both}
 use Rattle.machine.specs.Names.{Bytes, Range, Form, _to_, within, forms, canBegin, following, characters}
+use Rattle.machine.proofs.Ranges.{below, passes, sameRanges, same-ranges}
 use Rattle.former.specs.Abnf.{Row, this, other, Each, none, byte, Octets, end, char}
 
 -- what is due, then characters
@@ -55,48 +55,18 @@ characters-octets p e = go (sound [] p e)
         first [] none q = subst Octets q (g .octets)
 
 -- no two rows share a first byte: for each row and each byte
-below : (f : ℕ → Bool) (n : ℕ) → Bool
-below f zero = true
-below f (suc n) = f n && below f n
-
-passes : (f : ℕ → Bool) (n : ℕ) → below f n ≡ true → (k : ℕ) → k < n → f k ≡ true
-unfolding below
-passes f zero e k h = absurd (not-suc-le-zero h)
-passes f (suc n) e k h = go (eqb k n) refl (passes f n (and-right (f n) (below f n) e) k)
-  where
-    go : (t : Bool) → eqb k n ≡ t → (k < n → f k ≡ true) → f k ≡ true
-    go true q less = rw (eqb-true k n q) (and-left (f n) (below f n) e)
-    go false q less =
-        let apart : k ≡ n → ⊥ = eqb-false k n q in
-        less (omega arith)
-
-same : List Range → List Range → Bool
-same [] [] = true
-same [] (r ∷ rs) = false
-same (r ∷ rs) [] = false
-same ((a to b) ∷ rs) ((c to d) ∷ ss) = eqb a c && eqb b d && same rs ss
-
-same-is : (rs ss : List Range) → same rs ss ≡ true → rs ≡ ss
-unfolding same
-same-is [] [] e = refl
-same-is [] (r ∷ ss) e = absurd (false≢true e)
-same-is (r ∷ rs) [] e = absurd (false≢true e)
-same-is ((a to b) ∷ rs) ((c to d) ∷ ss) e =
-    let ends = and-left (eqb a c && eqb b d) (same rs ss) e in
-    rw (eqb-true a c (and-left (eqb a c) (eqb b d) ends), eqb-true b d (and-right (eqb a c) (eqb b d) ends), same-is rs ss (and-right (eqb a c && eqb b d) (same rs ss) e))
-
 bytes : Range → Bool
 bytes (low to high) = leb high 255
 
 alone : Range → List Range → ℕ → Bool
-alone first rest b = not (within first b) || same (following forms b) rest
+alone first rest b = not (within first b) || sameRanges (following forms b) rest
 
 apart : List Form → Bool
 apart [] = true
 apart ((first, rest) ∷ fs) = bytes first && below (alone first rest) 256 && apart fs
 
 all-apart : apart forms ≡ true
-unfolding apart alone below same bytes
+unfolding apart alone below sameRanges bytes
 all-apart = refl
 
 is-byte : (r : Range) (b : ℕ) → bytes r ≡ true → within r b ≡ true → b < 256
@@ -109,7 +79,7 @@ row-of b (this {first} {rest} {fs}) e w =
     let here = and-left (bytes first && below (alone first rest) 256) (apart fs) e in
     let h : b < 256 = is-byte first b (and-left (bytes first) _ here) w in
     let t : alone first rest b ≡ true = passes (alone first rest) 256 (and-right (bytes first) _ here) b h in
-    same-is (following forms b) rest (rw w at t)
+    same-ranges (following forms b) rest (rw w at t)
 row-of b (other {f} {fs = fs} r) e w = row-of b r (and-right (bytes (f .0) && below (alone (f .0) (f .1)) 256) (apart fs) e) w
 
 row-opens : {fs : List Form} {first : Range} {rest : List Range} (b : ℕ) → Row fs first rest → within first b ≡ true → canBegin fs b ≡ true

@@ -9,6 +9,7 @@ pub mod MapEach
 pub mod Fit
 pub mod Records
 pub mod Rules
+pub mod Ranges
 pub mod Outcome
 pub mod Places
 pub mod Sweeping

@@ -1,17 +1,18 @@
 -- RFC 3629's table and the three tests by which the code goes, one beside the other for all 256 bytes; then a character by its bytes.
 -- Assumes nothing.
 use Prim.Native.Nat.{ℕ, zero, suc, _+_, _≤_, _<_}
-use mathlib.Core.Path.{_≡_, refl, sym, ap, _∙_}
+use mathlib.Core.Path.{_≡_, refl, sym, _∙_}
 use mathlib.Core.Bool.{Bool, true, false, not, _&&_, _||_, cond, and-false, false≢true}
 use mathlib.Core.List.{List, [], _∷_}
 use native.Mathlib.Nat.{not-suc-le-zero, le-of-suc-le-suc}
 use native.Mathlib.Numerals.{add-one}
 use native.Mathlib.Omega.{arith}
 use lib.Dec.{leb, ltb, eqb, lit≤}
-use lib.ListN.{length, getD, take, drop, length-take, length-drop}
+use lib.ListN.{length, getD, drop, length-take, length-drop}
 use lib.Seq.{drop-cons}
 use borrow.Author.Tests.{eqb-true, eqb-false, ne-eqb, leb-true, le-leb, ltb-true, lt-ltb, le-ltb, not-true, not-false}
 use Rattle.machine.specs.Names.{Range, _to_, within, tail, forms, canBegin, following, characters, apart}
+use Rattle.machine.proofs.Ranges.{below, passes, sameRanges, same-ranges}
 use Rattle.names.specs.Letters.{widthOf, leastOf, mostOf, due, Pair, Run, Letter}
 
 and-left : (a b : Bool) → (a && b) ≡ true → a ≡ true
@@ -21,38 +22,6 @@ and-left false b e = e
 and-right : (a b : Bool) → (a && b) ≡ true → b ≡ true
 and-right true b e = e
 and-right false b e = absurd (false≢true e)
-
--- a test that passes at each number below n
-below : (f : ℕ → Bool) (n : ℕ) → Bool
-below f zero = true
-below f (suc n) = f n && below f n
-
-passes : (f : ℕ → Bool) (n : ℕ) → below f n ≡ true → (k : ℕ) → k < n → f k ≡ true
-unfolding below
-passes f zero e k h = absurd (not-suc-le-zero h)
-passes f (suc n) e k h = go (eqb k n) refl (passes f n (and-right (f n) (below f n) e) k)
-  where
-    go : (t : Bool) → eqb k n ≡ t → (k < n → f k ≡ true) → f k ≡ true
-    go true q less = rw (eqb-true k n q) (and-left (f n) (below f n) e)
-    go false q less =
-        let other : k ≡ n → ⊥ = eqb-false k n q in
-        less (omega arith)
-
--- whether ranges are the same
-same : List Range → List Range → Bool
-same [] [] = true
-same [] (r ∷ rs) = false
-same (r ∷ rs) [] = false
-same ((a to b) ∷ rs) ((c to d) ∷ ss) = eqb a c && eqb b d && same rs ss
-
-same-is : (rs ss : List Range) → same rs ss ≡ true → rs ≡ ss
-unfolding same
-same-is [] [] e = refl
-same-is [] (r ∷ ss) e = absurd (false≢true e)
-same-is (r ∷ rs) [] e = absurd (false≢true e)
-same-is ((a to b) ∷ rs) ((c to d) ∷ ss) e =
-    let ends = and-left (eqb a c && eqb b d) (same rs ss) e in
-    rw (eqb-true a c (and-left (eqb a c) (eqb b d) ends), eqb-true b d (and-right (eqb a c) (eqb b d) ends), same-is rs ss (and-right (eqb a c && eqb b d) (same rs ss) e))
 
 agree : Bool → Bool → Bool
 agree true b = b
@@ -66,10 +35,10 @@ agree-is false true e = absurd (false≢true e)
 agree-is false false e = refl
 
 right : ℕ → Bool
-right b = agree (canBegin forms b) (ltb 0 (widthOf b)) && same (following forms b) (due (widthOf b) (leastOf b) (mostOf b))
+right b = agree (canBegin forms b) (ltb 0 (widthOf b)) && sameRanges (following forms b) (due (widthOf b) (leastOf b) (mostOf b))
 
 all-right : below right 256 ≡ true
-unfolding below right same agree widthOf leastOf mostOf
+unfolding below right sameRanges agree widthOf leastOf mostOf
 all-right = refl
 
 abbrev pub secondOk : (b c : ℕ) → Bool
@@ -106,7 +75,7 @@ module _ (b : ℕ) (h : b < 256) where
   by-first q =
       rw (
         agree-is (canBegin forms b) (ltb 0 (widthOf b)) (and-left _ _ at-b),
-        same-is (following forms b) (due (widthOf b) (leastOf b) (mostOf b)) (and-right (agree (canBegin forms b) (ltb 0 (widthOf b))) _ at-b),
+        same-ranges (following forms b) (due (widthOf b) (leastOf b) (mostOf b)) (and-right (agree (canBegin forms b) (ltb 0 (widthOf b))) _ at-b),
       )
 
   pub cut-off : (q : List ℕ) → widthOf b ≤ 4 → 1 + length q < widthOf b → characters [] (b ∷ q) ≡ false

@@ -21,5 +21,6 @@ pub record Judged (count leftOver results : ℕ) (m : Memory) (n : ℕ) : Type 0
 unfoldable pub turnsOf : (refusal count : ℕ) → ℕ
 turnsOf n count = cond (eqb n 0) count 0
 
+-- a call that is not refused answers that it is done
 unfoldable pub answerOf : (refusal : ℕ) → DoneAnswer
 answerOf n = cond (eqb n 0) Done (Refused n)

@@ -17,7 +17,9 @@ pub fn delete_packed(
     places: &[u8],
     results: &mut [u8],
 ) -> DoneAnswer
-    ensures { λ r. ⌜ Made (DELETE-OBJECTS (now (names .entry)) (placesIn (now (places .entry))) (leftOver (now (places .entry))) (now (results .entry)))
+    ensures { λ r. ⌜ Made
+        (DELETE-OBJECTS (now (names .entry)) (placesIn (now (places .entry))) (leftOver (now (places .entry)))
+        (now (results .entry)))
         (memory (now (tables .entry)) (now (arena .entry)))
         (resultsReply r (now (results .exit)))
         (memory (now (tables .exit)) (now (arena .exit))) × WellNumbered r ⌝ }

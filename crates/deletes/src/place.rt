@@ -22,7 +22,10 @@ fn number_of(answer: DoneAnswer) -> u8
 // DELETE of the path that stands at a place of `names`, over whole memory; its result.
 fn delete_place(tables: &mut [u8], arena: &mut [u8], names: &[u8], start: u32, len: u32) -> u8
     requires { ⌜ whole (now tables) (now arena) ≡ true ⌝ }
-    ensures { λ r. ⌜ PlaceDone (now (names .entry)) (placeOf start len) (memory (now (tables .entry)) (now (arena .entry))) r (memory (now (tables .exit)) (now (arena .exit))) ⌝ }
+    ensures { λ r. ⌜ PlaceDone (now (names .entry)) (placeOf start len)
+        (memory (now (tables .entry)) (now (arena .entry)))
+        r
+        (memory (now (tables .exit)) (now (arena .exit))) ⌝ }
 {
     let from = start as usize;
     let to = from + len as usize;
@@ -44,7 +47,11 @@ pub(crate) fn delete_at(
     i: usize,
 )
     requires { ⌜ (whole (now tables) (now arena) ≡ true) × (i < length (now results)) ⌝ }
-    ensures { λ _. ⌜ PlaceDoneAt (now (names .entry)) (placeOf start len) i (memory (now (tables .entry)) (now (arena .entry))) (now (results .entry)) (memory (now (tables .exit)) (now (arena .exit))) (now (results .exit)) ⌝ }
+    ensures { λ _. ⌜ PlaceDoneAt (now (names .entry)) (placeOf start len) i
+        (memory (now (tables .entry)) (now (arena .entry)))
+        (now (results .entry))
+        (memory (now (tables .exit)) (now (arena .exit)))
+        (now (results .exit)) ⌝ }
 {
     results[i] = delete_place(tables, arena, names, start, len);
 }

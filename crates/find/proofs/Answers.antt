@@ -125,11 +125,11 @@ pub parts-row-place : (s : State) (u : ℕ) (p : RowPlace) → p ≡ partsRowOf 
 parts-row-place s u p e o = is-row-place (rowsOf s) p (length (beforeUpload s u) + 1) e (let l = open-within s u o in omega arith)
 
 -- the first that started before a stamp
-pub due-answer : (t : ℕ) (s : State) (p : RowPlace) (r : Numbered) → p ≡ sought (goal.Due t) (rowsOf s) 0 → r ≡ leader (drop (p .row) (rowsOf s)) → r ≡ firstDue t s
+pub due-answer : (t : ℕ) (s : State) (p : RowPlace) (r : Numbered) → p ≡ sought (goal.Due t) (rowsOf s) 0 → r ≡ leader uploadKind (drop (p .row) (rowsOf s)) → r ≡ firstDue t s
 unfolding sought
 due-answer t s p r e f =
     let n : p .row ≡ reach (stopsOf (goal.Due t)) (rowsOf s) = omega (arith, place-row (rowsOf s) p _ e) in
-    f ∙ ap (λ (i : ℕ). leader (drop i (rowsOf s))) n ∙ due-leads t s
+    f ∙ ap (λ (i : ℕ). leader uploadKind (drop i (rowsOf s))) n ∙ due-leads t s
 
 -- Parts ------------------------------------------------------------------------------------------------------------------
 

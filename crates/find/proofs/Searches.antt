@@ -109,26 +109,26 @@ module _ (t : ℕ) where
   abbrev onward : List Row → List Row
   onward rs = drop (reach (stopsOf (goal.Due t)) rs) rs
 
-  due-objects : (m : Map Bytes Object) (rs : List Row) → leader (onward (objectRows m ++ rs)) ≡ leader (onward rs)
+  due-objects : (m : Map Bytes Object) (rs : List Row) → leader uploadKind (onward (objectRows m ++ rs)) ≡ leader uploadKind (onward rs)
   unfolding reach objectRows stopsAt
   due-objects [] rs = refl
   due-objects (e ∷ m) rs = rw (object-kind (e .1 .etag)) (due-objects m rs)
 
-  due-parts : (ps : Map ℕ Part) (rs : List Row) → leader (onward (partRows ps ++ rs)) ≡ leader (onward rs)
+  due-parts : (ps : Map ℕ Part) (rs : List Row) → leader uploadKind (onward (partRows ps ++ rs)) ≡ leader uploadKind (onward rs)
   unfolding reach partRows stopsAt
   due-parts [] rs = refl
   due-parts (e ∷ ps) rs = due-parts ps rs
 
-  due-uploads : (m : Map ℕ Upload) → leader (onward (uploadRows m)) ≡ firstOf (due t m)
+  due-uploads : (m : Map ℕ Upload) → leader uploadKind (onward (uploadRows m)) ≡ firstOf (due t m)
   unfolding reach leader uploadRows stopsAt firstOf due
   due-uploads [] = refl
   due-uploads (e ∷ m) = go (isDue t (e .1)) refl (due-parts (e .1 .parts) (uploadRows m) ∙ due-uploads m)
     where
-      go : (b : Bool) → isDue t (e .1) ≡ b → leader (onward (partRows (e .1 .parts) ++ uploadRows m)) ≡ firstOf (due t m)
-          → leader (onward (uploadRows (e ∷ m))) ≡ firstOf (due t (e ∷ m))
+      go : (b : Bool) → isDue t (e .1) ≡ b → leader uploadKind (onward (partRows (e .1 .parts) ++ uploadRows m)) ≡ firstOf (due t m)
+          → leader uploadKind (onward (uploadRows (e ∷ m))) ≡ firstOf (due t (e ∷ m))
       go true q h = rw q
       go false q h = rw q h
 
-  pub due-leads : (s : State) → leader (onward (rowsOf s)) ≡ firstDue t s
+  pub due-leads : (s : State) → leader uploadKind (onward (rowsOf s)) ≡ firstDue t s
   unfolding rowsOf
   due-leads s = due-objects (s .O) (uploadRows (s .U)) ∙ due-uploads (s .U)

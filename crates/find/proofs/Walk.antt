@@ -1,6 +1,6 @@
 -- A search along the rows, row by row. Assumes nothing.
 use Prim.Native.Nat.{ℕ, suc, _+_, _≤_, _<_}
-use mathlib.Core.Path.{_≡_, sym, ap, _∙_}
+use mathlib.Core.Path.{_≡_, refl, sym, ap, _∙_}
 use mathlib.Core.Bool.{true, false, _&&_}
 use mathlib.Core.List.{List, [], _∷_, _++_}
 use native.Mathlib.Nat.{add-zero}
@@ -106,18 +106,15 @@ module _ (g : Goal) (rs : List Row) (i : ℕ) where
       let m : i + suc n ≡ i + 1 + n = omega arith in
       rw (e, q) (ap (rowPlaceAt rs) m)
 
-pub leads-none : (kind number : ℕ) (rs : List Row) (i : ℕ) → length rs ≤ i → leads kind number (drop i rs) ≡ false
-unfolding leads
-leads-none kind number rs i l = rw (drop-of-length-le rs l)
-
-pub leads-row : (kind number : ℕ) (rs : List Row) (i : ℕ) (r : Row) → drop i rs ≡ r ∷ drop (i + 1) rs → leads kind number (drop i rs) ≡ (eqb (r .kind) kind && eqb (r .number) number)
-unfolding leads
-leads-row kind number rs i r e = rw e
-
-pub leader-none : (rs : List Row) (i : ℕ) → length rs ≤ i → leader (drop i rs) ≡ record { found = false; number = 0 }
+pub leader-none : (kind : ℕ) (rs : List Row) (i : ℕ) → length rs ≤ i → leader kind (drop i rs) ≡ record { found = false; number = 0 }
 unfolding leader
-leader-none rs i l = rw (drop-of-length-le rs l)
+leader-none kind rs i l = rw (drop-of-length-le rs l)
 
-pub leader-row : (rs : List Row) (i : ℕ) (r : Row) → drop i rs ≡ r ∷ drop (i + 1) rs → leader (drop i rs) ≡ record { found = true; number = r .number }
+pub leader-row : (kind : ℕ) (rs : List Row) (i : ℕ) (r : Row) → drop i rs ≡ r ∷ drop (i + 1) rs → leader kind (drop i rs) ≡ record { found = eqb (r .kind) kind; number = r .number }
 unfolding leader
-leader-row rs i r e = rw e
+leader-row kind rs i r e = rw e
+
+pub leads-leader : (kind number : ℕ) (rs : List Row) → leads kind number rs ≡ (leader kind rs .found && eqb (leader kind rs .number) number)
+unfolding leads leader
+leads-leader kind number [] = refl
+leads-leader kind number (r ∷ rs) = refl

@@ -51,7 +51,7 @@ unfoldable pub leads : (kind number : ℕ) → List Row → Bool
 leads kind number [] = false
 leads kind number (r ∷ rs) = eqb (r .kind) kind && eqb (r .number) number
 
--- the number of the first row
-unfoldable pub leader : List Row → Numbered
-leader [] = record { found = false; number = 0 }
-leader (r ∷ rs) = record { found = true; number = r .number }
+-- the number of the first row, if that is of this kind
+unfoldable pub leader : (kind : ℕ) → List Row → Numbered
+leader kind [] = record { found = false; number = 0 }
+leader kind (r ∷ rs) = record { found = eqb (r .kind) kind; number = r .number }

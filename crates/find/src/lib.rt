@@ -33,7 +33,7 @@ pub struct RowPlace {
     pub base: usize,
 }
 
-// The number of a row; 0 where there is none.
+// Whether there is such a row, and the number in it; where there is none, the number says nothing.
 pub struct Numbered {
     pub found: bool,
     pub number: u32,

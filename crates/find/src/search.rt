@@ -4,8 +4,10 @@ use crate::RowPlace;
 use crate::counts::read_counts;
 use row::Head;
 ghost use mathlib.Core.Path.{_≡_};
+ghost use mathlib.Core.Bool.{true};
 ghost use Prim.Native.Nat.{_+_};
 ghost use lib.ListN.{drop};
+ghost use Rattle.layout.specs.Memory.{whole};
 ghost use Rattle.find.specs.Search.{stopsAt, sought, rowPlaceAt, leads, leader};
 ghost use Rattle.find.specs.Known.{rowsIn, WholeRow, WholePlace};
 
@@ -69,24 +71,23 @@ pub(crate) fn seek(tables: &[u8], arena: &[u8], from: RowPlace, goal: Goal) -> R
     RowPlace { row, at, base }
 }
 
-// Whether a row of this kind with this number stands there.
-pub(crate) fn stands(tables: &[u8], arena: &[u8], here: RowPlace, kind: u8, number: u32) -> bool
-    requires { ⌜ WholePlace (now tables) (now arena) here ⌝ }
-    ensures { λ r. ⌜ r ≡ leads kind number (drop (here .row) (rowsIn (now (tables .entry)) (now (arena .entry)))) ⌝ }
+// The same from the first row on.
+pub(crate) fn seek_first(tables: &[u8], arena: &[u8], goal: Goal) -> RowPlace
+    requires { ⌜ whole (now tables) (now arena) ≡ true ⌝ }
+    ensures { λ r. ⌜ r ≡ sought goal (rowsIn (now (tables .entry)) (now (arena .entry))) 0 ⌝ }
 {
-    let counts = read_counts(tables, arena);
-    let rows = counts.rows;
-    if rows <= here.row {
-        return false;
-    }
-    let h = row::read_head(tables, here.at);
-    h.kind == kind && h.number == number
+    let first = RowPlace {
+        row: 0,
+        at: layout::HEADER_LENGTH,
+        base: 0,
+    };
+    seek(tables, arena, first, goal)
 }
 
-// The number of the row there; none after the rows.
-pub(crate) fn number_of(tables: &[u8], arena: &[u8], here: RowPlace) -> Numbered
+// The number of the row there; none where the rows end or the row is of another kind.
+pub(crate) fn number_of(tables: &[u8], arena: &[u8], here: RowPlace, kind: u8) -> Numbered
     requires { ⌜ WholePlace (now tables) (now arena) here ⌝ }
-    ensures { λ r. ⌜ r ≡ leader (drop (here .row) (rowsIn (now (tables .entry)) (now (arena .entry)))) ⌝ }
+    ensures { λ r. ⌜ r ≡ leader kind (drop (here .row) (rowsIn (now (tables .entry)) (now (arena .entry)))) ⌝ }
 {
     let counts = read_counts(tables, arena);
     let rows = counts.rows;
@@ -98,7 +99,16 @@ pub(crate) fn number_of(tables: &[u8], arena: &[u8], here: RowPlace) -> Numbered
     }
     let h = row::read_head(tables, here.at);
     Numbered {
-        found: true,
+        found: h.kind == kind,
         number: h.number,
     }
+}
+
+// Whether a row of this kind with this number stands there.
+pub(crate) fn stands(tables: &[u8], arena: &[u8], here: RowPlace, kind: u8, number: u32) -> bool
+    requires { ⌜ WholePlace (now tables) (now arena) here ⌝ }
+    ensures { λ r. ⌜ r ≡ leads kind number (drop (here .row) (rowsIn (now (tables .entry)) (now (arena .entry)))) ⌝ }
+{
+    let there = number_of(tables, arena, here, kind);
+    there.found && there.number == number
 }

@@ -7,6 +7,7 @@ use crate::search::Goal;
 use crate::search::next_row;
 use crate::search::number_of;
 use crate::search::seek;
+use crate::search::seek_first;
 use crate::search::stands;
 ghost use mathlib.Core.Path.{_≡_};
 ghost use mathlib.Core.Bool.{true};
@@ -20,12 +21,7 @@ pub fn upload_row(tables: &[u8], arena: &[u8], upload: u32) -> RowPlace
     requires { ⌜ whole (now tables) (now arena) ≡ true ⌝ }
     ensures { λ r. ⌜ r ≡ uploadRowOf (stateOf (now (tables .entry)) (now (arena .entry))) upload ⌝ }
 {
-    let first = RowPlace {
-        row: 0,
-        at: layout::HEADER_LENGTH,
-        base: 0,
-    };
-    seek(tables, arena, first, Goal::Upload(upload))
+    seek_first(tables, arena, Goal::Upload(upload))
 }
 
 // The row after that of an open upload: its first part's, where it has one.
@@ -42,12 +38,7 @@ pub fn rows_end(tables: &[u8], arena: &[u8]) -> RowPlace
     requires { ⌜ whole (now tables) (now arena) ≡ true ⌝ }
     ensures { λ r. ⌜ r ≡ placeAfter (rowsIn (now (tables .entry)) (now (arena .entry))) ⌝ }
 {
-    let first = RowPlace {
-        row: 0,
-        at: layout::HEADER_LENGTH,
-        base: 0,
-    };
-    seek(tables, arena, first, Goal::End)
+    seek_first(tables, arena, Goal::End)
 }
 
 // The sum of the lengths of all data.
@@ -125,11 +116,6 @@ pub fn first_due(tables: &[u8], arena: &[u8], stamp: u64) -> Numbered
     requires { ⌜ whole (now tables) (now arena) ≡ true ⌝ }
     ensures { λ r. ⌜ r ≡ firstDue stamp (stateOf (now (tables .entry)) (now (arena .entry))) ⌝ }
 {
-    let first = RowPlace {
-        row: 0,
-        at: layout::HEADER_LENGTH,
-        base: 0,
-    };
-    let here = seek(tables, arena, first, Goal::Due(stamp));
-    number_of(tables, arena, here)
+    let here = seek_first(tables, arena, Goal::Due(stamp));
+    number_of(tables, arena, here, layout::UPLOAD_KIND)
 }

@@ -10,11 +10,12 @@ use lib.ListN.{length}
 abbrev pub Bytes : Type 0
 Bytes = List ℕ
 
--- a byte from the first number to the last
+-- the bytes from the first number to the last
 infix 70 _to_
 pub data Range : Type 0 where
   _to_ : ℕ → ℕ → Range
 
+-- the byte b is one of them
 abbrev pub within : Range → ℕ → Bool
 within (low to high) b = leb low b && leb b high
 
@@ -82,11 +83,12 @@ apart before (b ∷ p) = not (eqb before 47 && eqb b 47) && apart b p
 unfoldable pub pathOk : Bytes → Bool
 pathOk p = leb 1 (length p) && leb (length p) 128 && characters [] p && apart 47 p
 
--- document 01's rule, before E2: "each from 33 to 126 (decimal, as all numbers here)"
+-- before E2: "each from 33 to 126 (decimal, as all numbers here)"
 abbrev pub visible : Bytes → Bool
 visible [] = true
 visible (b ∷ p) = leb 33 b && leb b 126 && visible p
 
+-- a path by document 01 alone, before E2
 unfoldable pub formerPathOk : Bytes → Bool
 formerPathOk p = leb 1 (length p) && leb (length p) 128 && visible p && apart 47 p
 

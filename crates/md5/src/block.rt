@@ -199,7 +199,8 @@ fn words(m: &[u8]) -> [u32; 16]
 // The four rounds on the words x.
 fn rounds(v: Digest, x: [u32; 16], t: [u32; 64]) -> Digest
     requires { ⌜ t ≡ rfc.sines ⌝ }
-    ensures { λ w. ⌜ ((m : List ℕ) → x ≡ wordsOf m → w ≡ round Round.Fourth m (round Round.Third m (round Round.Second m (round Round.First m v)))) ⌝ }
+    ensures { λ w. ⌜ ((m : List ℕ) → x ≡ wordsOf m
+        → w ≡ round Round.Fourth m (round Round.Third m (round Round.Second m (round Round.First m v)))) ⌝ }
 {
     let v = row(Round::First, v, x, 0, 1, 2, 3, 7, 12, 17, 22, t, 0);
     let v = row(Round::First, v, x, 4, 5, 6, 7, 7, 12, 17, 22, t, 4);

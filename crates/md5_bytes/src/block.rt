@@ -1,5 +1,5 @@
-// The compression of blocks of 64 bytes (RFC 1321, 3.4), where each step reads its word from the bytes. Proved to be safe and to end;
-// that it is the same digest is tested where it is timed. A round is written in halves, so that no proof has to be written.
+// The compression of blocks of 64 bytes (RFC 1321, 3.4), where each step reads its word from the bytes. Proved to be safe and to end.
+// A round is written in halves, so that no proof has to be written.
 ghost use mathlib.Core.Path.{_≡_};
 ghost use Prim.Native.Nat.{_+_, _*_, _≤_, _<_};
 ghost use lib.ListN.{length};
@@ -194,7 +194,7 @@ fn block(v: Digest, x: &[u8]) -> Digest
 }
 
 // The words after the first n blocks of m.
-pub fn blocks(v0: Digest, m: &[u8], n: usize) -> Digest
+pub(crate) fn blocks(v0: Digest, m: &[u8], n: usize) -> Digest
     requires { ⌜ 64 * n ≤ length (now m) ⌝ }
 {
     let mut v = v0;

@@ -1,5 +1,6 @@
-// The digest as it was before a block's words were formed once: each step reads its word from the bytes. For bench/ alone.
-pub mod block;
+// The digest as it was before a block's words were formed once: each step reads its word from the bytes. For bench/ alone; that it is
+// RFC 1321's is tested by crate `vectors`.
+mod block;
 
 use block::blocks;
 use md5::words::Digest;

@@ -7,12 +7,15 @@ use lib.Dec.{leb, ltb, eqb}
 use lib.ListN.{length, getD, take, drop}
 use Rattle.machine.specs.Names.{Range, _to_, tail, characters, apart}
 
+-- how many bytes a character that begins with b has, or 0 where none does
 unfoldable pub widthOf : ℕ → ℕ
 widthOf b = cond (ltb b 33) 0 (cond (ltb b 127) 1 (cond (ltb b 194) 0 (cond (ltb b 224) 2 (cond (ltb b 240) 3 (cond (ltb b 245) 4 0)))))
 
+-- the least that its second byte may be
 unfoldable pub leastOf : ℕ → ℕ
 leastOf b = cond (eqb b 194) 160 (cond (eqb b 224) 160 (cond (eqb b 240) 144 128))
 
+-- the most that its second byte may be
 unfoldable pub mostOf : ℕ → ℕ
 mostOf b = cond (eqb b 237) 159 (cond (eqb b 244) 143 191)
 

@@ -10,7 +10,7 @@ ghost use Rattle.md5.specs.Md5.{bytesOf};
 ghost use Rattle.md5.specs.DigestBytes.{digestBytes};
 ghost use Rattle.order.specs.Order.{byBytes};
 ghost use Rattle.order.specs.Compared.{orderOf};
-ghost use Rattle.probe.specs.Probe.{answer, changed, place};
+ghost use Rattle.probe.specs.Probe.{answer, changed, PutsADigest, place};
 use md5::words::Digest;
 
 // Whether n bytes at `at` stand within len.
@@ -76,7 +76,8 @@ pub extern "C" fn probe_rotate(b: &mut [u8], at: usize, left: usize, right: usiz
 
 // The sixteen bytes of v over out.
 fn put_digest(v: Digest, out: &mut [u8]) -> u32
-    ensures { λ r. ⌜ (r ≡ answer (eqb (length (now (out .entry))) 16)) × (now (out .exit) ≡ changed r (now (out .entry)) (bytesOf v)) ⌝ }
+    ensures { λ r. ⌜ (r ≡ answer (eqb (length (now (out .entry))) 16))
+        × (now (out .exit) ≡ changed r (now (out .entry)) (bytesOf v)) ⌝ }
 {
     if out.len() != 16 {
         return 1;
@@ -87,15 +88,17 @@ fn put_digest(v: Digest, out: &mut [u8]) -> u32
 
 #[no_mangle]
 pub extern "C" fn probe_digest(data: &[u8], out: &mut [u8]) -> u32
-    ensures { λ r. ⌜ (r ≡ answer (eqb (length (now (out .entry))) 16)) × (now (out .exit) ≡ changed r (now (out .entry)) (digestBytes (now («data» .entry)))) ⌝ }
+    ensures { λ r. ⌜ (r ≡ answer (eqb (length (now (out .entry))) 16))
+        × (now (out .exit) ≡ changed r (now (out .entry)) (digestBytes (now («data» .entry)))) ⌝ }
 {
     put_digest(md5::digest(data), out)
 }
 
-// The digest as it was before, whose steps read bytes: bench/foundation.c compares it with the other.
+// The digest as it was before, whose steps read bytes. Which digest it is, is not promised: crate `vectors` tests it.
 #[no_mangle]
 pub extern "C" fn probe_digest_bytes(data: &[u8], out: &mut [u8]) -> u32
-    ensures { λ r. ⌜ r ≡ answer (eqb (length (now (out .entry))) 16) ⌝ }
+    ensures { λ r. ⌜ (r ≡ answer (eqb (length (now (out .entry))) 16))
+        × PutsADigest r (now (out .entry)) (now (out .exit)) ⌝ }
 {
     put_digest(md5_bytes::digest(data), out)
 }

@@ -89,7 +89,9 @@ pub extern "C" fn rathnodi_delete_objects(
     places: &[u8],
     results: &mut [u8],
 ) -> u32
-    ensures { λ r. ⌜ Made (DELETE-OBJECTS (now (names .entry)) (placesIn (now (places .entry))) (leftOver (now (places .entry))) (now (results .entry)))
+    ensures { λ r. ⌜ Made
+        (DELETE-OBJECTS (now (names .entry)) (placesIn (now (places .entry))) (leftOver (now (places .entry)))
+        (now (results .entry)))
         (memory (now (tables .entry)) (now (arena .entry)))
         (numberedWith r (now (results .exit)))
         (memory (now (tables .exit)) (now (arena .exit))) ⌝ }

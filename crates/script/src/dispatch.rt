@@ -39,7 +39,7 @@ use types::UploadNumber;
 ghost use mathlib.Core.Path.{_≡_};
 ghost use lib.ListN.{length};
 
-// COMMIT of the list that the text says, at most 32 numbers.
+// COMMIT of the list that the text says, at most 32 numbers: `list_bytes` asks room for a place, eight bytes, at each entry.
 fn commit(tables: &mut [u8], arena: &mut [u8], upload: u32, text: &[u8]) -> DoneAnswer {
     let mut list = [0u8; 70];
     let n = list_bytes(text, false, &mut list);

@@ -3,13 +3,19 @@
 ghost use mathlib.Core.Path.{_≡_};
 ghost use lib.ListN.{length};
 use libc::STDOUT_FILENO;
+use md5::words::Digest;
 
-// The digest of data in hexadecimal, on a line.
-fn line(data: &[u8]) {
-    let v = md5::digest(data);
-    let mut text = [b'\n'; 33];
+// A digest in hexadecimal, and a byte after it.
+fn write(v: Digest, end: u8) {
+    let mut text = [end; 33];
     text::put_digest(&mut text, 0, v.a, v.b, v.c, v.d);
     io::write_all(STDOUT_FILENO, &text);
+}
+
+// The digest of data on a line, and the same by crate `md5_bytes`.
+fn line(data: &[u8]) {
+    write(md5::digest(data), b' ');
+    write(md5_bytes::digest(data), b'\n');
 }
 
 // RFC 1321's seven.

@@ -18,6 +18,14 @@ pub trait Contestant {
     fn commit(&mut self, upload: u32, list: &[u8]);
 }
 
+/// All records of LIST.
+pub fn listing(store: &mut dyn Contestant) -> Vec<u8> {
+    let mut answer = vec![0; 65_536];
+    let length = store.list(b"", &mut answer);
+    answer.truncate(length);
+    answer
+}
+
 pub struct Proved {
     tables: Vec<u8>,
     arena: Vec<u8>,

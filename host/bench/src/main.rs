@@ -11,7 +11,7 @@ mod sweep;
 mod whole;
 
 use chart::{svg, Curve};
-use contestant::{Contestant, Proved};
+use contestant::{listing, Contestant, Proved};
 use model::Model;
 use sqlite::Sqlite;
 use std::collections::BTreeMap;
@@ -132,10 +132,7 @@ fn measure(state: &State, rounds: usize) -> [Samples; 3] {
         store.part(upload, 2, b"B");
         store.part(upload, 1, b"A");
         store.commit(upload, &[2, 0, 1, 0]);
-        let mut answer = vec![0; 65_536];
-        let length = store.list(b"", &mut answer);
-        answer.truncate(length);
-        answer
+        listing(store.as_mut())
     });
     assert!(listings[0] == listings[1] && listings[1] == listings[2], "the stores differ");
     samples

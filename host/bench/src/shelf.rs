@@ -1,7 +1,7 @@
 //! Clearing a shelf: 200 of 256 objects of a full store, by one call, by as many DELETE calls, and
 //! by SQLite in one transaction.
 
-use crate::contestant::{Contestant, Proved};
+use crate::contestant::{listing, Contestant, Proved};
 use crate::sqlite::Sqlite;
 use crate::{data, name, time, Samples, ARENA};
 
@@ -16,11 +16,9 @@ fn put(store: &mut dyn Contestant, objects: &[usize]) {
 
 /// What is left of the store, to which the shelf is then put back.
 fn left(store: &mut dyn Contestant, shelf: &[usize]) -> Vec<u8> {
-    let mut answer = vec![0; 65_536];
-    let length = store.list(b"", &mut answer);
-    answer.truncate(length);
+    let records = listing(store);
     put(store, shelf);
-    answer
+    records
 }
 
 /// Medians of one call, of single calls and of SQLite, which take turns; the two ways of the proved

@@ -1,6 +1,6 @@
 //! What a scale left open: 16 uploads with 256 parts, ended by one sweep and by as many ABORT calls.
 
-use crate::contestant::{Contestant, Proved};
+use crate::contestant::{listing, Contestant, Proved};
 use crate::{data, name, time, Samples, ARENA};
 
 const UPLOADS: usize = 16;
@@ -21,10 +21,7 @@ fn open(store: &mut Proved) -> Vec<u32> {
 /// The store's listing, with no upload left.
 fn left(store: &mut Proved) -> Vec<u8> {
     assert_eq!(store.uploads(), 0, "uploads are left");
-    let mut answer = vec![0; 65_536];
-    let length = store.list(b"", &mut answer);
-    answer.truncate(length);
-    answer
+    listing(store)
 }
 
 /// Medians of a sweep and of single calls, which take turns over the same memory.

@@ -50,7 +50,8 @@ pub struct Model {
     pub next: u64,
 }
 
-/// 1 to 128 bytes of UTF-8, by the library's own decoder, for code points from 33 to 126 and from 160 on; no "/" first, no two adjacent "/".
+/// 1 to 128 bytes of UTF-8, by Rust's own decoder, for code points from 33 to 126 and from 160 on;
+/// no "/" first, no two adjacent "/".
 pub fn path_ok(path: &[u8]) -> bool {
     let Ok(text) = std::str::from_utf8(path) else { return false };
     (1..=LONGEST_PATH).contains(&path.len())

@@ -1,7 +1,7 @@
--- `find::search::number_of` meets its contract: the row's head has its number. Assumes nothing.
+-- `find::search::number_of` meets its contract: the row's head has its kind and its number. Assumes nothing.
 use Prim.Native.Nat.{ℕ, _+_, _≤_, _<_}
 use mathlib.Core.Path.{_≡_, sym, ap, _∙_}
-use mathlib.Core.Bool.{true}
+use lib.Dec.{eqb}
 use mathlib.Core.List.{List}
 use native.Mathlib.Omega.{arith}
 use borrow.Author.Needs.{needs}
@@ -25,7 +25,7 @@ returns c =
     let rs = rowsOf (stateOf (x .tables .now) (x .arena .now)) in
     let e : k .read-counts .result .rows ≡ length rs = k .read-counts .ensures .rows in
     let l : length rs ≤ x .here .row = let l = c .if1 .taken in omega arith in
-    sym (leader-none rs (x .here .row) l)
+    sym (leader-none (x .kind) rs (x .here .row) l)
 
 module _ (c : tie.Else1) where
   abbrev start : tie.Start
@@ -57,10 +57,11 @@ read-head-requires c κs =
 
 returns-2 : tie.Need-returns-2
 returns-2 c =
-    let k = c .before in
+    let r = c .before .read-head in
+    let k = c .before .before in
     let x = start k .args in
-    let u = row-turn (t k) (a k) (s k) (stands k) (x .here .row) (x .here .at) (x .here .base) (reached k) (more k) (c .read-head .result) (c .read-head .ensures) in
-    ap (λ (h : Head). record { found = true; number = h .number }) (u .same) ∙ sym (leader-row (rowsOf (s k)) (x .here .row) (u .row) (u .here))
+    let u = row-turn (t k) (a k) (s k) (stands k) (x .here .row) (x .here .at) (x .here .base) (reached k) (more k) (r .result) (r .ensures) in
+    ap (λ (h : Head). record { found = eqb (h .kind) (x .kind); number = h .number }) (u .same) ∙ sym (leader-row (x .kind) (rowsOf (s k)) (x .here .row) (u .row) (u .here))
 
 pub number-of-spec : {M : Type 1} → statement M
 number-of-spec = tie.close (tie.spec read-counts-requires returns read-head-requires returns-2)

@@ -1,6 +1,8 @@
 pub mod Map
 pub mod Names
 pub mod Utf8Cases
+pub mod Pairs
+pub mod PairCases
 pub mod Digest
 pub mod Etags
 pub mod State

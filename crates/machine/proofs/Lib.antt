@@ -7,6 +7,8 @@ pub mod MapScan
 pub mod MapKeep
 pub mod MapEach
 pub mod Fit
+pub mod PairBytes
+pub mod PairLaws
 pub mod Records
 pub mod Rules
 pub mod Ranges

@@ -1,0 +1,4 @@
+pub mod RuleLaws
+pub mod FrontLaws
+pub mod Passing
+pub mod Keeping

@@ -1,0 +1,130 @@
+// Whether the pairs of a request are taken, and what is kept of them.
+ghost use mathlib.Core.Path.{_≡_};
+ghost use mathlib.Core.Bool.{true, not, _&&_};
+ghost use mathlib.Core.List.{[], _∷_};
+ghost use Prim.Native.Nat.{_<_, _≤_};
+ghost use lib.ListN.{length, drop};
+ghost use Rattle.machine.specs.Pairs.{every, pairOk, systemKey, kept, hasKey, distinctKeys, pairsOk, pairsHeld};
+ghost use Rattle.machine.specs.Pairs.{frontSize, frontKey, frontFits, frontPair, pairList};
+
+// Whether each pair keeps its rule.
+fn formed(pairs: &[u8]) -> bool
+    ensures { λ r. ⌜ r ≡ every pairOk (pairList (now (pairs .entry))) ⌝ }
+{
+    let mut at = 0;
+    while at < pairs.len() {
+        if !crate::front::pair_ok(&pairs[at..]) {
+            return false;
+        }
+        at = crate::front::end(pairs, at);
+    }
+    true
+}
+
+// 1 where the first pair is kept, 0 where it is dropped.
+fn kept_one(rest: &[u8]) -> usize
+    requires { ⌜ frontFits (now rest) ≡ true ⌝ }
+    ensures { λ r. ⌜ (r ≡ length (kept (frontPair (now (rest .entry)) ∷ []))) × (r ≤ 1) ⌝ }
+{
+    if crate::rules::system_key(crate::front::key(rest)) {
+        return 0;
+    }
+    1
+}
+
+// The first pair's bytes of key and value, 0 where it is dropped.
+fn held_one(rest: &[u8]) -> usize
+    requires { ⌜ frontFits (now rest) ≡ true ⌝ }
+    ensures { λ r. ⌜ (r ≡ pairsHeld (kept (frontPair (now (rest .entry)) ∷ []))) × (r ≤ frontSize (now (rest .entry))) ⌝ }
+{
+    if crate::rules::system_key(crate::front::key(rest)) {
+        return 0;
+    }
+    crate::front::size(rest) - 2
+}
+
+// How many pairs are kept.
+pub fn count(pairs: &[u8]) -> usize
+    requires { ⌜ every pairOk (pairList (now pairs)) ≡ true ⌝ }
+    ensures { λ r. ⌜ r ≡ length (kept (pairList (now (pairs .entry)))) ⌝ }
+{
+    let mut n: usize = 0;
+    let mut at = 0;
+    while at < pairs.len() {
+        n += kept_one(&pairs[at..]);
+        at = crate::front::end(pairs, at);
+    }
+    n
+}
+
+// How many bytes of keys and values are kept.
+pub fn held(pairs: &[u8]) -> usize
+    requires { ⌜ every pairOk (pairList (now pairs)) ≡ true ⌝ }
+    ensures { λ r. ⌜ r ≡ pairsHeld (kept (pairList (now (pairs .entry)))) ⌝ }
+{
+    let mut n: usize = 0;
+    let mut at = 0;
+    while at < pairs.len() {
+        n += held_one(&pairs[at..]);
+        at = crate::front::end(pairs, at);
+    }
+    n
+}
+
+// Whether one of the pairs has the key.
+fn has_key(pairs: &[u8], key: &[u8]) -> bool
+    requires { ⌜ every pairOk (pairList (now pairs)) ≡ true ⌝ }
+    ensures { λ r. ⌜ r ≡ hasKey (now (key .entry)) (pairList (now (pairs .entry))) ⌝ }
+{
+    let mut at = 0;
+    while at < pairs.len() {
+        if order::equal(key, crate::front::key(&pairs[at..])) {
+            return true;
+        }
+        at = crate::front::end(pairs, at);
+    }
+    false
+}
+
+// Whether the first pair is kept and its key comes again.
+fn comes_again(rest: &[u8]) -> bool
+    requires { ⌜ (0 < length (now rest)) × (every pairOk (pairList (now rest)) ≡ true) ⌝ }
+    ensures { λ r. ⌜ r ≡ (not (systemKey (frontKey (now (rest .entry))))
+        && hasKey (frontKey (now (rest .entry)))
+        (pairList (drop (frontSize (now (rest .entry))) (now (rest .entry))))) ⌝ }
+{
+    let key = crate::front::key(rest);
+    if crate::rules::system_key(key) {
+        return false;
+    }
+    let n = crate::front::size(rest);
+    has_key(&rest[n..], key)
+}
+
+// Whether no two kept pairs have equal keys.
+fn all_distinct(pairs: &[u8]) -> bool
+    requires { ⌜ every pairOk (pairList (now pairs)) ≡ true ⌝ }
+    ensures { λ r. ⌜ r ≡ distinctKeys (kept (pairList (now (pairs .entry)))) ⌝ }
+{
+    let mut at = 0;
+    while at < pairs.len() {
+        if comes_again(&pairs[at..]) {
+            return false;
+        }
+        at = crate::front::end(pairs, at);
+    }
+    true
+}
+
+// Whether they are taken: else the request is bad.
+pub fn judge(pairs: &[u8]) -> bool
+    ensures { λ r. ⌜ r ≡ pairsOk (pairList (now (pairs .entry))) ⌝ }
+{
+    if !formed(pairs) {
+        return false;
+    }
+    if crate::PAIRS_MOST < count(pairs) {
+        return false;
+    }
+    all_distinct(pairs)
+}

@@ -72,7 +72,8 @@ pub fn pair_ok(rest: &[u8]) -> bool
 // Where the pair at `at` ends.
 pub fn end(pairs: &[u8], at: usize) -> usize
     requires { ⌜ (at < length (now pairs)) × (frontFits (drop at (now pairs)) ≡ true) ⌝ }
-    ensures { λ r. ⌜ (r ≡ at + frontSize (drop at (now (pairs .entry)))) × (at + 2 ≤ r) × (r ≤ length (now (pairs .entry))) ⌝ }
+    ensures { λ r. ⌜ (r ≡ at + frontSize (drop at (now (pairs .entry))))
+        × (at + 2 ≤ r) × (r ≤ length (now (pairs .entry))) ⌝ }
 {
     at + size(&pairs[at..])
 }

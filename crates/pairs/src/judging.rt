@@ -35,7 +35,8 @@ fn kept_one(rest: &[u8]) -> usize
 // The first pair's bytes of key and value, 0 where it is dropped.
 fn held_one(rest: &[u8]) -> usize
     requires { ⌜ frontFits (now rest) ≡ true ⌝ }
-    ensures { λ r. ⌜ (r ≡ pairsHeld (kept (frontPair (now (rest .entry)) ∷ []))) × (r ≤ frontSize (now (rest .entry))) ⌝ }
+    ensures { λ r. ⌜ (r ≡ pairsHeld (kept (frontPair (now (rest .entry)) ∷ [])))
+        × (r ≤ frontSize (now (rest .entry))) ⌝ }
 {
     if crate::rules::system_key(crate::front::key(rest)) {
         return 0;

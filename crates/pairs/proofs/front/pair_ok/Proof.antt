@@ -23,7 +23,8 @@ returns-2 : tie.Need-returns-2
 returns-2 c =
     let k = c .before .before in
     let f = k .before .before in
-    ok-key (f .before .before .args .rest .now) (said-yes (f .fits2 .ensures) (k .before .if1 .left)) (said-no (c .before .key-ok .ensures ∙ ap keyOk (k .key .ensures)) (c .if2 .taken))
+    ok-key (f .before .before .args .rest .now) (said-yes (f .fits2 .ensures) (k .before .if1 .left))
+    (said-no (c .before .key-ok .ensures ∙ ap keyOk (k .key .ensures)) (c .if2 .taken))
 
 value-requires : tie.Need-value-requires
 value-requires c κs = said-yes (c .before .before .before .before .fits2 .ensures) (c .before .before .before .if1 .left)

@@ -1,0 +1,5 @@
+pub mod StoredLaws
+pub mod Storing
+pub mod Encoding
+pub mod Picking
+pub mod Arranging

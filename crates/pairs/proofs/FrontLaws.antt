@@ -20,34 +20,30 @@ module _ (bs : Bytes) where
   unfolding frontFits
   fits-short m e h = rw (le-ltb (frontMiddle bs) (length bs) (omega arith))
 
-  size-told : (m v : ℕ) → m ≡ frontMiddle bs → v ≡ getD bs m 0 → m + 1 + v ≡ frontSize bs
+  pub size-is : (m v : ℕ) → m ≡ frontMiddle bs → v ≡ getD bs m 0 → m + 1 + v ≡ frontSize bs
   unfolding frontSize
-  size-told m v e r = let w : v ≡ getD bs (frontMiddle bs) 0 = r ∙ ap (λ (k : ℕ). getD bs k 0) e in omega arith
+  size-is m v e r = let w : v ≡ getD bs (frontMiddle bs) 0 = r ∙ ap (λ (k : ℕ). getD bs k 0) e in omega arith
 
   pub fits-value : (m v : ℕ) → m ≡ frontMiddle bs → m < length bs → v ≡ getD bs m 0 → leb (m + 1 + v) (length bs) ≡ frontFits bs
   unfolding frontFits
-  fits-value m v e h r = rw (lt-ltb (frontMiddle bs) (length bs) (omega arith)) (ap (λ (k : ℕ). leb k (length bs)) (size-told m v e r))
+  fits-value m v e h r = rw (lt-ltb (frontMiddle bs) (length bs) (omega arith)) (ap (λ (k : ℕ). leb k (length bs)) (size-is m v e r))
 
-  module _ (fit : frontFits bs ≡ true) where
-    pub there : 0 < length bs
-    there = let m = middle-inside bs fit in omega arith
+  pub there : frontFits bs ≡ true → 0 < length bs
+  there fit = let m = middle-inside bs fit in omega arith
 
-    pub from-within : frontMiddle bs + 1 ≤ frontSize bs
-    unfolding frontSize
-    from-within = omega arith
+  pub key-is : (m : ℕ) → m ≡ frontMiddle bs → take (m - 1) (drop 1 bs) ≡ frontKey bs
+  unfolding frontKey
+  key-is m e = let q : m - 1 ≡ getD bs 0 0 = omega arith in ap (λ (n : ℕ). take n (drop 1 bs)) q
 
-    pub size-is : (m v : ℕ) → m ≡ frontMiddle bs → v ≡ getD bs m 0 → m + 1 + v ≡ frontSize bs
-    size-is = size-told
+  pub from-within : frontMiddle bs + 1 ≤ frontSize bs
+  unfolding frontSize
+  from-within = omega arith
 
-    pub key-is : (m : ℕ) → m ≡ frontMiddle bs → take (m - 1) (drop 1 bs) ≡ frontKey bs
-    unfolding frontKey
-    key-is m e = let q : m - 1 ≡ getD bs 0 0 = omega arith in ap (λ (n : ℕ). take n (drop 1 bs)) q
-
-    pub value-is : (m s : ℕ) → m ≡ frontMiddle bs → s ≡ frontSize bs → take (s - (m + 1)) (drop (m + 1) bs) ≡ frontValue bs
-    unfolding frontValue frontSize
-    value-is m s e r =
-        let q : s - (m + 1) ≡ getD bs (frontMiddle bs) 0 = omega arith in
-        ap (λ (n : ℕ). take n (drop (m + 1) bs)) q ∙ ap (λ (n : ℕ). take (getD bs (frontMiddle bs) 0) (drop (n + 1) bs)) e
+  pub value-is : (m s : ℕ) → m ≡ frontMiddle bs → s ≡ frontSize bs → take (s - (m + 1)) (drop (m + 1) bs) ≡ frontValue bs
+  unfolding frontValue frontSize
+  value-is m s e r =
+      let q : s - (m + 1) ≡ getD bs (frontMiddle bs) 0 = omega arith in
+      ap (λ (n : ℕ). take n (drop (m + 1) bs)) q ∙ ap (λ (n : ℕ). take (getD bs (frontMiddle bs) 0) (drop (n + 1) bs)) e
 
   -- it is there and keeps the rule
   pub ok-cut : frontFits bs ≡ false → false ≡ (frontFits bs && pairOk (frontPair bs))

@@ -134,19 +134,20 @@ module _ (bs last : Bytes) (pick : Pick) (at : ℕ) where
   abbrev pub test : Bool
   test = isBetter last (from bs at) (pickedFrom (pick .found) (from bs (pick .at)))
 
-  test-is : (b : Bool) → test ≡ b → isBetter last (drop at bs) (pickedAt bs pick) ≡ b
-  test-is b e = sym (ap₂ (λ (x y : Bytes). isBetter last x (pickedFrom (pick .found) y)) (from-is bs at) (from-is bs (pick .at))) ∙ e
+  module _ (b : Bool) (said : b ≡ test) where
+    test-is : isBetter last (drop at bs) (pickedAt bs pick) ≡ b
+    test-is = sym (said ∙ ap₂ (λ (x y : Bytes). isBetter last x (pickedFrom (pick .found) y)) (from-is bs at) (from-is bs (pick .at)))
 
-  pub better-yes : at < length bs → frontFits (drop at bs) ≡ true → test ≡ true → Better bs last pick at (record { found = true; at = at })
-  unfolding pickedFrom
-  better-yes h f e =
-      record {
-        picked = sym (ap (λ (b : Bool). cond b (some (frontPair (drop at bs))) (pickedAt bs pick)) (test-is true e));
-        is = record { within = omega arith; fits = λ _. f };
-      }
+    choice : (x : Bool) → b ≡ x
+        → cond x (some (frontPair (drop at bs))) (pickedAt bs pick) ≡ cond (isBetter last (drop at bs) (pickedAt bs pick)) (some (frontPair (drop at bs))) (pickedAt bs pick)
+    choice x e = sym (ap (λ (y : Bool). cond y (some (frontPair (drop at bs))) (pickedAt bs pick)) (test-is ∙ e))
 
-  pub better-no : IsPick bs pick → test ≡ false → Better bs last pick at pick
-  better-no p e = record { picked = sym (ap (λ (b : Bool). cond b (some (frontPair (drop at bs))) (pickedAt bs pick)) (test-is false e)); is = p }
+    pub better-yes : at < length bs → frontFits (drop at bs) ≡ true → b ≡ true → Better bs last pick at (record { found = true; at = at })
+    unfolding pickedFrom
+    better-yes h f e = record { picked = choice true e; is = record { within = omega arith; fits = λ _. f } }
+
+    pub better-no : IsPick bs pick → b ≡ false → Better bs last pick at pick
+    better-no p e = record { picked = choice false e; is = p }
 
 -- one pair passed
 pass : (last : Bytes) (best : Option Pair) (e : Pair) (l : List Pair)

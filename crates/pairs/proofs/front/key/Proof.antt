@@ -19,7 +19,7 @@ part-result-end : tie.Need-part-result-end
 part-result-end c = omega (arith, middle-inside (c .before .before .args .rest .now) (c .before .before .pre))
 
 returns : tie.Need-returns
-returns c = key-is (c .before .before .before .args .rest .now) (c .before .before .before .pre) (c .before .middle .result) (c .before .middle .ensures .0)
+returns c = key-is (c .before .before .before .args .rest .now) (c .before .middle .result) (c .before .middle .ensures .0)
 
 pub key-spec : {M : Type 1} → statement M
 key-spec =

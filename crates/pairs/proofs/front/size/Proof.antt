@@ -27,7 +27,7 @@ add-result-2 c = search needs
 returns : tie.Need-returns
 returns c =
     let k = c .before .before .before .before in
-    let e = size-is (k .args .rest .now) (k .pre) (c .before .before .middle .result) (c .wide .result) (c .before .before .middle .ensures .0) (c .wide .ensures .0) in
+    let e = size-is (k .args .rest .now) (c .before .before .middle .result) (c .wide .result) (c .before .before .middle .ensures .0) (c .wide .ensures .0) in
     (e, omega (arith, e, front-inside (k .args .rest .now) (k .pre)))
 
 pub size-spec : {M : Type 1} → statement M

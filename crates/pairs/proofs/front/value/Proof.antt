@@ -15,10 +15,10 @@ size-requires : tie.Need-size-requires
 size-requires c κs = c .before .before .pre
 
 sub-result : tie.Need-sub-result
-sub-result c = omega (arith, from-within (c .before .before .before .args .rest .now) (c .before .before .before .pre))
+sub-result c = omega (arith, from-within (c .before .before .before .args .rest .now))
 
 part-result-start : tie.Need-part-result-start
-part-result-start c = omega (arith, from-within (c .before .before .before .args .rest .now) (c .before .before .before .pre))
+part-result-start c = omega (arith, from-within (c .before .before .before .args .rest .now))
 
 part-result-end : tie.Need-part-result-end
 part-result-end c = search needs
@@ -28,7 +28,7 @@ returns c =
     let s = c .before .size in
     let m = c .before .before .middle in
     let k = c .before .before .before .before in
-    value-is (k .args .rest .now) (k .pre) (m .result) (s .result) (m .ensures .0) (s .ensures .0)
+    value-is (k .args .rest .now) (m .result) (s .result) (m .ensures .0) (s .ensures .0)
 
 pub value-spec : {M : Type 1} → statement M
 value-spec =

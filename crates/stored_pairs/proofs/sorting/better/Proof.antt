@@ -1,5 +1,5 @@
 -- `stored_pairs::sorting::better` meets its contract. Assumes nothing.
-use mathlib.Core.Path.{sym, ap, _∙_}
+use mathlib.Core.Path.{ap, _∙_}
 use native.Mathlib.Omega.{arith}
 use borrow.Author.Needs.{needs}
 use Rattle.machine.specs.Pairs.{frontFits}
@@ -36,13 +36,13 @@ returns : tie.Need-returns
 returns c =
     let k = c .before .before .before .before .before .before in
     let a = k .args in
-    better-yes (a .pairs .now) (a .last .now) (a .pick) (a .at) (k .pre .0) (k .pre .1) (sym (c .before .is-better .ensures) ∙ c .if1 .taken)
+    better-yes (a .pairs .now) (a .last .now) (a .pick) (a .at) (c .before .is-better .result) (c .before .is-better .ensures) (k .pre .0) (k .pre .1) (c .if1 .taken)
 
 returns-2 : tie.Need-returns-2
 returns-2 c =
     let k = c .before .before .before .before .before .before in
     let a = k .args in
-    better-no (a .pairs .now) (a .last .now) (a .pick) (a .at) (k .pre .2) (sym (c .before .is-better .ensures) ∙ c .if1 .left)
+    better-no (a .pairs .now) (a .last .now) (a .pick) (a .at) (c .before .is-better .result) (c .before .is-better .ensures) (k .pre .2) (c .if1 .left)
 
 pub better-spec : {M : Type 1} → statement M
 better-spec =

@@ -1,7 +1,9 @@
 /*
  * The test "whole" by the length of paths, with two archives side by side: HEAD of the empty path over a full store (256
- * objects and 16 uploads whose paths differ in their last two letters; 70 objects where a path is one byte). bench/paths
- * builds and runs it. Microseconds, the smallest of many rounds, the two archives in turn.
+ * objects and 16 uploads whose paths differ in their last two letters; 70 objects where a path is one byte). With "calls",
+ * that test, HEAD, GET and PUT of an object amid them instead, at some lengths. No object has pairs, so archives from before
+ * and after pairs take the same memory, the former the front of its tables. bench/paths builds and runs it. Microseconds,
+ * the smallest of many rounds, the two archives in turn.
  */
 #include <stdint.h>
 #include <stdio.h>
@@ -9,20 +11,70 @@
 #include <string.h>
 #include <time.h>
 
-#define DECLARE(side)                                                                                                  \
-    uint32_t side##_rathnodi_fresh(uint8_t *, size_t, uint8_t *, size_t);                                              \
-    uint32_t side##_rathnodi_put(uint8_t *, size_t, uint8_t *, size_t, uint64_t, const uint8_t *, size_t,              \
-                                 const uint8_t *, size_t);                                                             \
-    uint32_t side##_rathnodi_initiate(uint8_t *, size_t, uint8_t *, size_t, uint64_t, const uint8_t *, size_t,         \
-                                      uint8_t *, size_t);                                                              \
-    uint32_t side##_rathnodi_head(const uint8_t *, size_t, const uint8_t *, size_t, const uint8_t *, size_t, uint8_t *, \
-                                  size_t);
-DECLARE(before)
-DECLARE(after)
+/* The version of each archive's interface: 2 has pairs. bench/paths says which it is. */
+#ifndef BEFORE
+#define BEFORE 1
+#endif
+#ifndef AFTER
+#define AFTER 2
+#endif
 
-typedef uint32_t head(const uint8_t *, size_t, const uint8_t *, size_t, const uint8_t *, size_t, uint8_t *, size_t);
+static uint8_t tables[58194], arena[65536], answer[16], reply[48], none[1];
 
-static uint8_t tables[53842], arena[65536], reply[48];
+/* The calls of an archive over this memory. */
+struct calls {
+    uint32_t (*fresh)(void);
+    uint32_t (*put)(const uint8_t *path, size_t n);
+    uint32_t (*initiate)(const uint8_t *path, size_t n);
+    uint32_t (*get)(const uint8_t *path, size_t n);
+    uint32_t (*head)(const uint8_t *path, size_t n);
+};
+
+#define SLICES uint8_t *, size_t, uint8_t *, size_t
+#define READ_SLICES const uint8_t *, size_t, const uint8_t *, size_t
+#define STORE(len) tables, len, arena, sizeof arena
+#define REPLY reply, sizeof reply
+
+/* `in` is what version 2 adds to a call's slices to read, `out` to those to write; `len` is the length of the tables. */
+#define CALLS(side, len, in_type, in, out_type, out)                                                                   \
+    uint32_t side##_rathnodi_fresh(SLICES);                                                                            \
+    uint32_t side##_rathnodi_put(SLICES, uint64_t, READ_SLICES in_type);                                               \
+    uint32_t side##_rathnodi_initiate(SLICES, uint64_t, const uint8_t *, size_t in_type, uint8_t *, size_t);           \
+    uint32_t side##_rathnodi_get(READ_SLICES, const uint8_t *, size_t, uint8_t *, size_t out_type, uint8_t *, size_t); \
+    uint32_t side##_rathnodi_head(READ_SLICES, const uint8_t *, size_t out_type, uint8_t *, size_t);                   \
+    static uint32_t side##_fresh(void) { return side##_rathnodi_fresh(STORE(len)); }                                   \
+    static uint32_t side##_put(const uint8_t *path, size_t n)                                                          \
+    {                                                                                                                  \
+        return side##_rathnodi_put(STORE(len), 1, path, n, (const uint8_t *)"weighing", 8 in);                         \
+    }                                                                                                                  \
+    static uint32_t side##_initiate(const uint8_t *path, size_t n)                                                     \
+    {                                                                                                                  \
+        return side##_rathnodi_initiate(STORE(len), 1, path, n in, REPLY);                                             \
+    }                                                                                                                  \
+    static uint32_t side##_get(const uint8_t *path, size_t n)                                                          \
+    {                                                                                                                  \
+        return side##_rathnodi_get(STORE(len), path, n, answer, sizeof answer out, REPLY);                             \
+    }                                                                                                                  \
+    static uint32_t side##_head(const uint8_t *path, size_t n)                                                         \
+    {                                                                                                                  \
+        return side##_rathnodi_head(STORE(len), path, n out, REPLY);                                                   \
+    }                                                                                                                  \
+    static const struct calls side = {side##_fresh, side##_put, side##_initiate, side##_get, side##_head};
+
+#define COMMA ,
+#define CALLS_1(side) CALLS(side, 53842, , , , )
+#define CALLS_2(side) CALLS(side, 58194, COMMA const uint8_t * COMMA size_t, COMMA none COMMA 0,                        \
+                            COMMA uint8_t * COMMA size_t, COMMA none COMMA 0)
+#if BEFORE == 1
+CALLS_1(before)
+#else
+CALLS_2(before)
+#endif
+#if AFTER == 1
+CALLS_1(after)
+#else
+CALLS_2(after)
+#endif
 
 static double now(void)
 {
@@ -46,55 +98,90 @@ static void path(uint8_t *p, size_t n, int i, int wide)
     }
 }
 
-static void fill(size_t n, int wide)
+static int fill(size_t n, int wide)
 {
-    uint8_t p[128], data[1] = {7};
+    uint8_t p[128];
     int objects = n <= (wide ? 2u : 1u) ? (wide ? 60 : 70) : 256;
-    uint32_t result = after_rathnodi_fresh(tables, sizeof tables, arena, sizeof arena);
+    uint32_t result = after.fresh();
     for (int i = 0; i < objects; i++) {
         path(p, n, i, wide);
-        result |= after_rathnodi_put(tables, sizeof tables, arena, sizeof arena, 1, p, n, data, 1);
+        result |= after.put(p, n);
     }
     for (int i = 0; i < 16; i++) {
         path(p, n, i, wide);
-        result |= after_rathnodi_initiate(tables, sizeof tables, arena, sizeof arena, 1, p, n, reply, sizeof reply);
+        result |= after.initiate(p, n);
     }
     if (result) {
         fprintf(stderr, "a store with paths of %zu bytes is refused\n", n);
         exit(1);
     }
+    return objects;
 }
 
-static double once(head *call)
+static double once(uint32_t (*call)(const uint8_t *, size_t), const uint8_t *p, size_t n)
 {
     double start = now();
     uint32_t result = 0;
-    for (int i = 0; i < 40; i++) result |= call(tables, sizeof tables, arena, sizeof arena, tables, 0, reply, sizeof reply);
+    for (int i = 0; i < 40; i++) result |= call(p, n);
     if (result) exit(1);
     return (now() - start) / 40;
 }
 
 static double least(double a, double b) { return a < b ? a : b; }
 
-int main(int count, char **words)
+static void by_length(int rounds)
 {
-    int rounds = count > 1 ? atoi(words[1]) : 200;
     printf("bytes\tbefore\tafter\ttwo-byte letters\n");
     for (size_t n = 1; n <= 128; n++) {
         double x = 1e9, y = 1e9, z = 1e9;
         fill(n, 0);
         for (int i = 0; i < rounds; i++) {
-            x = least(x, once(before_rathnodi_head));
-            y = least(y, once(after_rathnodi_head));
+            x = least(x, once(before.head, none, 0));
+            y = least(y, once(after.head, none, 0));
         }
         printf("%zu\t%.2f\t%.2f\t", n, x, y);
         if (n % 2 == 0) {
             fill(n, 1);
-            for (int i = 0; i < rounds; i++) z = least(z, once(after_rathnodi_head));
+            for (int i = 0; i < rounds; i++) z = least(z, once(after.head, none, 0));
             printf("%.2f", z);
         }
         printf("\n");
         fflush(stdout);
     }
+}
+
+static void by_call(int rounds)
+{
+    static const size_t lengths[] = {4, 24, 64, 128};
+    printf("| bytes of each path | call | before | after | after / before |\n|---|---|---|---|---|\n");
+    for (size_t k = 0; k < sizeof lengths / sizeof *lengths; k++) {
+        uint8_t p[128];
+        size_t n = lengths[k];
+        path(p, n, fill(n, 0) / 2, 0);
+        const struct {
+            const char *name;
+            uint32_t (*before)(const uint8_t *, size_t), (*after)(const uint8_t *, size_t);
+            size_t n;
+        } calls[] = {{"whole", before.head, after.head, 0},
+                     {"HEAD", before.head, after.head, n},
+                     {"GET", before.get, after.get, n},
+                     {"PUT, again", before.put, after.put, n}};
+        for (size_t i = 0; i < sizeof calls / sizeof *calls; i++) {
+            double x = 1e9, y = 1e9;
+            for (int round = 0; round < rounds; round++) {
+                x = least(x, once(calls[i].before, p, calls[i].n));
+                y = least(y, once(calls[i].after, p, calls[i].n));
+            }
+            printf("| %zu | %s | %.2f | %.2f | %.2f |\n", n, calls[i].name, x, y, y / x);
+            fflush(stdout);
+        }
+    }
+}
+
+int main(int count, char **words)
+{
+    int rounds = count > 1 ? atoi(words[1]) : 200;
+    if (count > 2 && strcmp(words[2], "calls") == 0) by_call(rounds);
+    else by_length(rounds);
     return 0;
 }

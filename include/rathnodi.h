@@ -15,7 +15,8 @@
  *   only read the store (get, head, list, uploads) may run side by side over one store, each with its own answer and
  *   reply, while no call that writes the store runs. Calls over different stores never disturb each other.
  * - A call over a store needs the tables and the arena as the call before left them, both with the lengths that
- *   rathnodi_fresh was lent. They may move in memory.
+ *   rathnodi_fresh was lent. They may move in memory. A store from before version 2 has shorter tables:
+ *   rathnodi_carry_over makes new ones of them.
  * - Bad input is answered, never trusted: every argument and all of the lent memory is judged before a byte is written
  *   (delete_objects judges each name when its turn comes). Memory that is not a store is answered by
  *   RATHNODI_NOT_A_STORE.
@@ -23,8 +24,8 @@
  *   every lent byte as it was, in what the call would write too. So look at the result before you read any of that.
  * - Bytes of an answer past those written do not change, nor do such bytes of delete_objects' results.
  * - To ask "is this a store?", call head with the empty path. It answers 0 or 1, and does nothing but the test that
- *   every call except fresh begins with. To learn how long an answer get needs, call head first: its reply has the
- *   length.
+ *   every call except fresh and carry_over begins with. To learn how long an answer get needs, call head first: its
+ *   reply has the length. For the pairs, lend RATHNODI_PAIRS_BYTES_MAX bytes to both.
  * - A call uses about 10 kilobytes of stack (measured; the tests fail above 16), and always ends.
  *
  * Paths are 1 to 128 bytes, with no '/' first and no two adjacent: well-formed UTF-8 (RFC 3629) of the characters 33 to
@@ -33,6 +34,15 @@
  * character or as two, are two paths. Prefixes and suffixes are any bytes. The empty path is the root, which only get
  * and head take. Paths are not C strings: no zero byte ends them. A stamp is a count of seconds since the start of 1970,
  * at least 1. Stamps may go back: only sweep compares them. Part numbers are 1 to 11,000.
+ *
+ * Pairs of key and value may stand beside an object's data: a flour lot, a baker. A key is 1 to 32 bytes of 'a' to
+ * 'z', '0' to '9' and '-'; a value is 0 to 64 bytes from 32 to 126. put and initiate take up to 8 pairs, in any order
+ * and with no key twice. The keys size, created and etag are the store's own: pairs with these keys must be well
+ * formed too, but are dropped, and neither counted nor compared. get and head write an object's pairs, ascending by
+ * key (by bytes, a shorter key before its extensions), to the front of a second answer; copy carries the source's
+ * pairs, commit the upload's. Going in and out, each pair is: key length (1 byte), key, value length (1), value. The
+ * next follows at once, and nothing may follow the last. Where there are no pairs to pass, pass the address of any
+ * byte with length 0. The bytes of keys and values take room in the arena, their lengths do not.
  *
  * Saving: save all bytes of the tables and the arena together, while no call writes them. Write both to a new file,
  * fsync it, rename it to the name of the saves, and keep the last good save. After bringing both back, ask whether they
@@ -52,10 +62,10 @@ extern "C" {
 #endif
 
 /* The version. MAJOR grows where a caller or a saved store has to change, MINOR where something is added. */
-#define RATHNODI_VERSION_MAJOR 1
-#define RATHNODI_VERSION_MINOR 2
+#define RATHNODI_VERSION_MAJOR 2
+#define RATHNODI_VERSION_MINOR 0
 #define RATHNODI_VERSION_PATCH 0
-/* The same as a text, "1.2.0" for example. */
+/* The same as a text, "2.0.0" for example. */
 #define RATHNODI_VERSION RATHNODI_DOTTED(RATHNODI_VERSION_MAJOR, RATHNODI_VERSION_MINOR, RATHNODI_VERSION_PATCH)
 #define RATHNODI_DOTTED(major, minor, patch) \
     RATHNODI_QUOTED(major) "." RATHNODI_QUOTED(minor) "." RATHNODI_QUOTED(patch)
@@ -80,7 +90,9 @@ extern "C" {
 #endif
 
 /* The one right length of the tables. */
-#define RATHNODI_TABLES_LEN 53842
+#define RATHNODI_TABLES_LEN 58194
+/* That of the tables before version 2, which carry_over takes. */
+#define RATHNODI_FORMER_TABLES_LEN 53842
 /* The one right length of a reply. */
 #define RATHNODI_REPLY_LEN 48
 /* The greatest length of an arena; 0 is the least. */
@@ -92,6 +104,12 @@ extern "C" {
 #define RATHNODI_OBJECTS_MAX 256
 #define RATHNODI_UPLOADS_MAX 16
 #define RATHNODI_PARTS_MAX 256
+/* Pairs of an object or an upload, bytes of a key and of a value. */
+#define RATHNODI_PAIRS_MAX 8
+#define RATHNODI_KEY_MAX 32
+#define RATHNODI_VALUE_MAX 64
+/* Room for this many bytes suffices for the pairs of every object. */
+#define RATHNODI_PAIRS_BYTES_MAX 784
 /* The most places that delete_objects takes. */
 #define RATHNODI_PLACES_MAX 1000
 
@@ -105,13 +123,14 @@ extern "C" {
 enum {
     RATHNODI_OK = 0,
     RATHNODI_NOT_A_STORE = 1,     /* tables or reply of the wrong length; memory that is not a store */
-    RATHNODI_BAD_REQUEST = 2,     /* a bad path, stamp, part number or part list; an upload that is not open; bytes left
-                                   * over after the last place; fresh: an arena over RATHNODI_ARENA_MAX */
+    RATHNODI_BAD_REQUEST = 2,     /* a bad path, stamp, part number or part list; a pair that is malformed or cut off,
+                                   * two equal keys, more than RATHNODI_PAIRS_MAX pairs; an upload that is not open;
+                                   * bytes left over after the last place; fresh: an arena over RATHNODI_ARENA_MAX */
     RATHNODI_NOT_FOUND = 3,       /* no object at that path */
     RATHNODI_TABLE_FULL = 4,      /* a ceiling of paths, uploads or parts */
-    RATHNODI_ARENA_FULL = 5,      /* more data than the arena has bytes */
+    RATHNODI_ARENA_FULL = 5,      /* more data, keys and values than the arena has bytes: put, copy, initiate, part */
     RATHNODI_NUMBERS_USED_UP = 6, /* upload number 4,294,967,295 has been given out */
-    RATHNODI_BUFFER_SHORT = 7,    /* the bytes to write exceed the answer or the results */
+    RATHNODI_BUFFER_SHORT = 7,    /* the bytes to write exceed the answer, the second answer or the results */
     RATHNODI_TOO_MANY = 8         /* more than RATHNODI_PLACES_MAX places */
 };
 
@@ -152,7 +171,9 @@ enum {
     RATHNODI_REPLY_ETAG_KIND = 24,   /* 1 byte:  get, head, part */
     RATHNODI_REPLY_MORE = 25,        /* 1 byte:  sweep; 1 where more uploads are due, else 0 */
     RATHNODI_REPLY_ETAG_COUNT = 26,  /* 2 bytes: get, head; a joined etag's count */
-    RATHNODI_REPLY_ETAG_DIGEST = 28  /* 16 bytes: get, head, part */
+    RATHNODI_REPLY_ETAG_DIGEST = 28, /* 16 bytes: get, head, part */
+    RATHNODI_REPLY_PAIRS = 44,       /* 2 bytes: get, head; how many pairs were written */
+    RATHNODI_REPLY_PAIRS_BYTES = 46  /* 2 bytes: get, head; how many bytes they are */
 };
 
 /* The same as a struct, to be lent as (uint8_t *)&reply, sizeof reply. */
@@ -167,7 +188,8 @@ struct rathnodi_reply {
     uint8_t more;
     uint16_t etag_count;
     uint8_t etag_digest[16];
-    uint8_t zeros[4];
+    uint16_t pairs;
+    uint16_t pairs_bytes;
 };
 #define RATHNODI_REPLY_AT(field, offset) \
     RATHNODI_ASSERT(reply_##field, offsetof(struct rathnodi_reply, field) == (offset))
@@ -180,7 +202,8 @@ RATHNODI_REPLY_AT(etag_kind, RATHNODI_REPLY_ETAG_KIND);
 RATHNODI_REPLY_AT(more, RATHNODI_REPLY_MORE);
 RATHNODI_REPLY_AT(etag_count, RATHNODI_REPLY_ETAG_COUNT);
 RATHNODI_REPLY_AT(etag_digest, RATHNODI_REPLY_ETAG_DIGEST);
-RATHNODI_REPLY_AT(zeros, RATHNODI_REPLY_ETAG_DIGEST + 16);
+RATHNODI_REPLY_AT(pairs, RATHNODI_REPLY_PAIRS);
+RATHNODI_REPLY_AT(pairs_bytes, RATHNODI_REPLY_PAIRS_BYTES);
 RATHNODI_ASSERT(reply_len, sizeof(struct rathnodi_reply) == RATHNODI_REPLY_LEN);
 #endif
 
@@ -191,20 +214,32 @@ size_t rathnodi_tables_len(void);
 uint32_t rathnodi_fresh(uint8_t *tables, size_t tables_len, uint8_t *arena, size_t arena_len)
     RATHNODI_CALL;
 
-/* The object at path becomes the data, with this stamp. */
+/* A store from before version 2 gets tables of today: `former` are its tables, and the arena is its arena, which is not
+ * written. It returns RATHNODI_NOT_A_STORE where these two are no such store, or a length is wrong. Else it returns
+ * RATHNODI_OK, and the new tables and the arena are that store, without pairs: the former tables are their first bytes,
+ * and the bytes after these do not change. Every call from then on takes the new tables; the former ones are no longer
+ * of use, since calls change the arena. */
+uint32_t rathnodi_carry_over(const uint8_t *former, size_t former_len, const uint8_t *arena, size_t arena_len,
+                             uint8_t *tables, size_t tables_len)
+    RATHNODI_CALL;
+
+/* The object at path becomes the data, with this stamp and these pairs. */
 uint32_t rathnodi_put(uint8_t *tables, size_t tables_len, uint8_t *arena, size_t arena_len, uint64_t stamp,
-                      const uint8_t *path, size_t path_len, const uint8_t *data, size_t data_len)
+                      const uint8_t *path, size_t path_len, const uint8_t *data, size_t data_len, const uint8_t *pairs,
+                      size_t pairs_len)
     RATHNODI_CALL;
 
-/* The object's data, at the front of the answer, and its metadata. */
+/* The object's data, at the front of the answer, its pairs, at the front of the second answer, and its metadata. Where
+ * one of the two is short, neither is written. */
 uint32_t rathnodi_get(const uint8_t *tables, size_t tables_len, const uint8_t *arena, size_t arena_len,
-                      const uint8_t *path, size_t path_len, uint8_t *answer, size_t answer_len, uint8_t *reply,
-                      size_t reply_len)
+                      const uint8_t *path, size_t path_len, uint8_t *answer, size_t answer_len, uint8_t *pairs_answer,
+                      size_t pairs_answer_len, uint8_t *reply, size_t reply_len)
     RATHNODI_CALL;
 
-/* The object's metadata alone. */
+/* The object's pairs and its metadata. */
 uint32_t rathnodi_head(const uint8_t *tables, size_t tables_len, const uint8_t *arena, size_t arena_len,
-                       const uint8_t *path, size_t path_len, uint8_t *reply, size_t reply_len)
+                       const uint8_t *path, size_t path_len, uint8_t *pairs_answer, size_t pairs_answer_len,
+                       uint8_t *reply, size_t reply_len)
     RATHNODI_CALL;
 
 /* Removes the object. */
@@ -221,7 +256,7 @@ uint32_t rathnodi_delete_objects(uint8_t *tables, size_t tables_len, uint8_t *ar
                                  uint8_t *results, size_t results_len)
     RATHNODI_CALL;
 
-/* As a put of the source's data at the destination, which may be the source. */
+/* As a put of the source's data and pairs at the destination, which may be the source. */
 uint32_t rathnodi_copy(uint8_t *tables, size_t tables_len, uint8_t *arena, size_t arena_len, uint64_t stamp,
                        const uint8_t *source, size_t source_len, const uint8_t *destination, size_t destination_len)
     RATHNODI_CALL;
@@ -233,9 +268,10 @@ uint32_t rathnodi_list(const uint8_t *tables, size_t tables_len, const uint8_t *
                        uint8_t *answer, size_t answer_len, uint8_t *reply, size_t reply_len)
     RATHNODI_CALL;
 
-/* Opens an upload to the path; the reply has its number. */
+/* Opens an upload to the path, with the pairs that its object is to have; the reply has its number. */
 uint32_t rathnodi_initiate(uint8_t *tables, size_t tables_len, uint8_t *arena, size_t arena_len, uint64_t stamp,
-                           const uint8_t *path, size_t path_len, uint8_t *reply, size_t reply_len)
+                           const uint8_t *path, size_t path_len, const uint8_t *pairs, size_t pairs_len,
+                           uint8_t *reply, size_t reply_len)
     RATHNODI_CALL;
 
 /* Sets a part of an open upload; the reply has the part's etag. */
@@ -243,8 +279,9 @@ uint32_t rathnodi_part(uint8_t *tables, size_t tables_len, uint8_t *arena, size_
                        uint16_t part, const uint8_t *data, size_t data_len, uint8_t *reply, size_t reply_len)
     RATHNODI_CALL;
 
-/* The parts, joined in listed order, become the object at the upload's path, with the upload's stamp. The list has
- * 16-bit part numbers, low byte first, and names every part of the upload one time. part_list_len is in bytes. */
+/* The parts, joined in listed order, become the object at the upload's path, with the upload's stamp and pairs. The
+ * list has 16-bit part numbers, low byte first, and names every part of the upload one time. part_list_len is in
+ * bytes. */
 uint32_t rathnodi_commit(uint8_t *tables, size_t tables_len, uint8_t *arena, size_t arena_len, uint32_t upload,
                          const uint8_t *part_list, size_t part_list_len)
     RATHNODI_CALL;
@@ -339,6 +376,60 @@ RATHNODI_CALL static inline int rathnodi_uploads_next(const uint8_t *answer, siz
     record->started = rathnodi_number(rest, 8);
     record->parts = (uint16_t)rathnodi_number(rest + 8, 2);
     *at += 5 + path_len + 10;
+    return 1;
+}
+
+/* A pair. Key and value point into the answer; no zero byte ends them. */
+struct rathnodi_pair {
+    const uint8_t *key;
+    size_t key_len;
+    const uint8_t *value;
+    size_t value_len;
+};
+
+/* As rathnodi_list_next, of the pairs in the second answer of get and head: the reply has how many bytes they are in
+ * `pairs_bytes`. */
+RATHNODI_CALL static inline int rathnodi_pairs_next(const uint8_t *pairs_answer, size_t bytes, size_t *at,
+                                                    struct rathnodi_pair *pair)
+{
+    size_t left = *at < bytes ? bytes - *at : 0;
+    size_t key_len = left > 0 ? pairs_answer[*at] : 0;
+    if (left < 1 + key_len + 1) {
+        return 0;
+    }
+    const uint8_t *key = pairs_answer + *at + 1;
+    size_t value_len = key[key_len];
+    if (left < 1 + key_len + 1 + value_len) {
+        return 0;
+    }
+    pair->key = key;
+    pair->key_len = key_len;
+    pair->value = key + key_len + 1;
+    pair->value_len = value_len;
+    *at += 1 + key_len + 1 + value_len;
+    return 1;
+}
+
+/* Adds a pair for put or initiate at *at, which starts at 0, of `pairs`, which has so many bytes of room. It returns 1
+ * and moves *at, the length of all pairs so far, past the pair; or it returns 0 and changes nothing, where there is no
+ * room, or a length is over 255. All other judging is left to the call. */
+RATHNODI_CALL static inline int rathnodi_pairs_add(uint8_t *pairs, size_t room, size_t *at, const uint8_t *key,
+                                                   size_t key_len, const uint8_t *value, size_t value_len)
+{
+    size_t left = *at < room ? room - *at : 0;
+    if (key_len > 255 || value_len > 255 || left < 1 + key_len + 1 + value_len) {
+        return 0;
+    }
+    uint8_t *to = pairs + *at;
+    to[0] = (uint8_t)key_len;
+    for (size_t i = 0; i < key_len; i++) {
+        to[1 + i] = key[i];
+    }
+    to[1 + key_len] = (uint8_t)value_len;
+    for (size_t i = 0; i < value_len; i++) {
+        to[1 + key_len + 1 + i] = value[i];
+    }
+    *at += 1 + key_len + 1 + value_len;
     return 1;
 }
 

@@ -35,6 +35,24 @@ def path_ok(path):
     return 1 <= len(path) <= 128 and all(33 <= c <= 126 or 160 <= c for c in letters) and b"//" not in path and path[:1] != b"/"
 
 
+def kept(pairs):
+    """What is kept of a request's pairs, E6; they are bad where one breaks its rule, more than 8 are left, or two keys are equal."""
+    for key, value in pairs:
+        need(1 <= len(key) <= 32 and all(c in b"abcdefghijklmnopqrstuvwxyz0123456789-" for c in key), 2)
+        need(len(value) <= 64 and all(32 <= c <= 126 for c in value), 2)
+    left = [(key, value) for key, value in pairs if key not in (b"size", b"created", b"etag")]
+    need(len(left) <= 8 and len(dict(left)) == len(left), 2)
+    return tuple(sorted(left))
+
+
+def held(pairs):
+    return sum(len(key) + len(value) for key, value in pairs)
+
+
+def encoded(pairs):
+    return b"".join(bytes([len(key)]) + key + bytes([len(value)]) + value for key, value in pairs)
+
+
 def low_first(n, size):
     return n.to_bytes(size, "little")
 
@@ -47,12 +65,13 @@ class Store:
         """The ceilings, of the state after a call: counts first, then bytes."""
         parts = [data for upload in uploads.values() for data in upload[2].values()]
         need(len(objects) <= 256 and len(uploads) <= 16 and len(parts) <= 256, 4)
-        need(sum(len(o[0]) for o in objects.values()) + sum(map(len, parts)) <= self.length, 5)
+        of_pairs = sum(held(o[4]) for o in objects.values()) + sum(held(u[3]) for u in uploads.values())
+        need(sum(len(o[0]) for o in objects.values()) + sum(map(len, parts)) + of_pairs <= self.length, 5)
         self.objects, self.uploads = objects, uploads
 
-    def put(self, stamp, path, data):
+    def put(self, stamp, path, data, pairs):
         need(stamp >= 1 and path_ok(path), 2)
-        self.fit({**self.objects, path: (data, stamp, md5(data), None)}, self.uploads)
+        self.fit({**self.objects, path: (data, stamp, md5(data), None, kept(pairs))}, self.uploads)
 
     def find(self, path):
         need(path_ok(path), 2)
@@ -61,7 +80,8 @@ class Store:
 
     def copy(self, stamp, source, destination):
         need(stamp >= 1 and path_ok(destination), 2)
-        self.put(stamp, destination, self.find(source)[0])
+        data, _, _, _, pairs = self.find(source)
+        self.put(stamp, destination, data, pairs)
 
     def delete(self, path):
         self.find(path)
@@ -81,24 +101,24 @@ class Store:
         except Refused as refusal:
             return refusal.args[0]
 
-    def initiate(self, stamp, path):
+    def initiate(self, stamp, path, pairs):
         need(stamp >= 1 and path_ok(path), 2)
-        self.fit(self.objects, {**self.uploads, self.next: (path, stamp, {})})
+        self.fit(self.objects, {**self.uploads, self.next: (path, stamp, {}, kept(pairs))})
         self.next += 1
         return f", upload {self.next - 1}"
 
     def part(self, upload, number, data):
         need(1 <= number <= 11000 and upload in self.uploads, 2)
-        path, start, parts = self.uploads[upload]
-        self.fit(self.objects, {**self.uploads, upload: (path, start, {**parts, number: data})})
+        path, start, parts, pairs = self.uploads[upload]
+        self.fit(self.objects, {**self.uploads, upload: (path, start, {**parts, number: data}, pairs)})
         return ", etag " + md5(data).hex()
 
     def commit(self, upload, listed):
         need(upload in self.uploads, 2)
-        path, start, parts = self.uploads[upload]
+        path, start, parts, pairs = self.uploads[upload]
         need(sorted(listed) == sorted(parts), 2)
         data = b"".join(parts[n] for n in listed)
-        joined = (data, start, md5(b"".join(md5(parts[n]) for n in listed)), len(listed))
+        joined = (data, start, md5(b"".join(md5(parts[n]) for n in listed)), len(listed), pairs)
         self.fit({**self.objects, path: joined}, {n: u for n, u in self.uploads.items() if n != upload})
 
     def abort(self, upload):
@@ -113,14 +133,14 @@ class Store:
         return f", swept {len(due[:most])}, more {int(most < len(due))}"
 
     def listing(self, prefix, suffix):
-        for path, (data, created, digest, count) in sorted(self.objects.items()):
+        for path, (data, created, digest, count, _) in sorted(self.objects.items()):
             if path.startswith(prefix) and path[len(prefix):].endswith(suffix):
                 text = etag(digest, count).encode()
                 sizes = low_first(len(data), 4) + low_first(created, 8)
                 yield bytes([len(path)]) + path + sizes + bytes([len(text)]) + text
 
     def opened(self, prefix):
-        for number, (path, start, parts) in sorted(self.uploads.items()):
+        for number, (path, start, parts, _) in sorted(self.uploads.items()):
             if path.startswith(prefix):
                 yield low_first(number, 4) + bytes([len(path)]) + path + low_first(start, 8) + low_first(len(parts), 2)
 
@@ -131,15 +151,21 @@ class Store:
         tables += low_first(len(self.objects), 2) + low_first(len(self.uploads), 2) + low_first(parts, 2)
         arena = b""
 
-        def row(size, number, stamp, kind, count, digest, path):
+        def row(size, number, stamp, kind, count, digest, path, pairs=()):
             sizes = low_first(size, 4) + low_first(number, 4) + low_first(stamp, 8)
-            return sizes + bytes([kind, len(path)]) + low_first(count, 2) + digest + path
+            lengths = bytes(n for key, value in pairs for n in (len(key), len(value)))
+            return sizes + bytes([kind + 4 * len(pairs), len(path)]) + low_first(count, 2) + digest + path + lengths
 
-        for path, (data, created, digest, count) in sorted(self.objects.items()):
-            tables += row(len(data), 0, created, 0 if count is None else 1, count or 0, digest, path)
-            arena += data
-        for number, (path, start, parts) in sorted(self.uploads.items()):
-            tables += row(0, number, start, 2, 0, bytes(16), path)
+        def block(pairs):
+            return b"".join(key + value for key, value in pairs)
+
+        for path, (data, created, digest, count, pairs) in sorted(self.objects.items()):
+            size = held(pairs) + len(data)
+            tables += row(size, 0, created, 0 if count is None else 1, count or 0, digest, path, pairs)
+            arena += block(pairs) + data
+        for number, (path, start, parts, pairs) in sorted(self.uploads.items()):
+            tables += row(held(pairs), number, start, 2, 0, bytes(16), path, pairs)
+            arena += block(pairs)
             for part, data in sorted(parts.items()):
                 tables += row(len(data), part, 0, 3, 0, md5(data), b"")
                 arena += data
@@ -151,10 +177,27 @@ def etag(digest, count):
 
 
 def metadata(store, path):
+    """The data, what is said of them, and the pairs."""
     if path == b"":
-        return b"", ", length 0, created 0, etag absent"
-    data, created, digest, count = store.find(path)
-    return data, f", length {len(data)}, created {created}, etag {etag(digest, count)}"
+        return b"", ", length 0, created 0, etag absent", ()
+    data, created, digest, count, pairs = store.find(path)
+    return data, f", length {len(data)}, created {created}, etag {etag(digest, count)}", pairs
+
+
+def looked(store, path, room, second):
+    """GET and HEAD, with room for so many bytes of data, over a second buffer of so many: what is said, the data, the second buffer."""
+    data, said, pairs = metadata(store, path)
+    written = encoded(pairs)
+    need(room is None or len(data) <= room, 7)
+    need(len(written) <= second, 7)
+    counts = f", pairs {len(pairs)}, bytes {len(written)}" if second else ""
+    return ": 0" + said + counts, data, written + b"." * (second - len(written))
+
+
+def pairs_of(text):
+    """A list of pairs; a byte left over becomes one with an empty key, which breaks the rule."""
+    entries = text.split(b",") if text else []
+    return [(b"", b"") if entry == b"+" else tuple((entry.split(b"=", 1) + [b""])[:2]) for entry in entries]
 
 
 def parts_of(text):
@@ -171,41 +214,48 @@ def places_of(text):
 
 
 def answer(store, word, fields):
-    """What is printed after the line, and the answer buffer (None for none), which starts as dots."""
+    """What is printed after the line, and each answer buffer after it, which starts as dots."""
     texts = [b"" if f == "~" else f.encode(errors=ANY) for f in fields] + [b"", b"", b""]
     number = int(fields[0]) if fields and fields[0].isdigit() else 0
     if word in ("TABLES", "ARENA"):
-        return "", store.memory()[word == "ARENA"][:number]
-    if word in ("GET", "LIST", "UPLOADS", "DELETE_OBJECTS"):
+        return "", [store.memory()[word == "ARENA"][:number]]
+    if word in ("GET", "HEAD"):
+        place = 2 if word == "GET" else 1
+        second = int(fields[place]) if len(fields) > place else 0
+        buffers = ([b"." * number] if word == "GET" else []) + ([b"." * second] if second else [])
+        try:
+            said, data, pairs = looked(store, texts[place - 1], number if word == "GET" else None, second)
+            first = [data + buffers[0][len(data):]] if word == "GET" else []
+            return said, first + ([pairs] if second else [])
+        except Refused as refusal:
+            return f": {refusal}", buffers
+    if word in ("LIST", "UPLOADS", "DELETE_OBJECTS"):
         buffer = b"." * number
         try:
-            if word == "GET":
-                data, said = metadata(store, texts[1])
-            elif word == "DELETE_OBJECTS":
+            if word == "DELETE_OBJECTS":
                 data, said = store.delete_objects(texts[1], *places_of(texts[2].decode()), number), ""
             else:
                 records = list(store.listing(texts[1], texts[2]) if word == "LIST" else store.opened(texts[1]))
                 data = b"".join(records)
                 said = f", records {len(records)}, bytes {len(data)}"
             need(len(data) <= number, 7)
-            return ": 0" + said, data + buffer[len(data):]
+            return ": 0" + said, [data + buffer[len(data):]]
         except Refused as refusal:
-            return f": {refusal}", buffer
+            return f": {refusal}", [buffer]
     calls = {
-        "HEAD": lambda: metadata(store, texts[0])[1],
         "DELETE": lambda: store.delete(texts[0]),
-        "PUT": lambda: store.put(number, texts[1], texts[2]),
+        "PUT": lambda: store.put(number, texts[1], texts[2], pairs_of(texts[3])),
         "COPY": lambda: store.copy(number, texts[1], texts[2]),
-        "INITIATE": lambda: store.initiate(number, texts[1]),
+        "INITIATE": lambda: store.initiate(number, texts[1], pairs_of(texts[2])),
         "PART": lambda: store.part(number, int(fields[1]), texts[2]),
         "COMMIT": lambda: store.commit(number, parts_of(texts[1].decode())),
         "ABORT": lambda: store.abort(number),
         "SWEEP": lambda: store.sweep(number, int(fields[1])),
     }
     try:
-        return ": 0" + (calls[word]() or ""), None
+        return ": 0" + (calls[word]() or ""), []
     except Refused as refusal:
-        return f": {refusal}", None
+        return f": {refusal}", []
 
 
 WORDS = "TABLES ARENA HEAD GET LIST UPLOADS DELETE PUT COPY INITIATE PART COMMIT ABORT DELETE_OBJECTS SWEEP".split()
@@ -221,7 +271,7 @@ for line in sys.stdin.read().split("\n")[:-1]:
     if word not in WORDS:
         print(line)
         continue
-    said, buffer = answer(store, word, fields)
+    said, buffers = answer(store, word, fields)
     print(line + said)
-    if buffer is not None:
-        print("   " + (" " + buffer.decode() if word == "GET" else "".join(f" {byte}" for byte in buffer)))
+    for i, buffer in enumerate(buffers):
+        print("   " + (" " + buffer.decode() if word == "GET" and i == 0 else "".join(f" {byte}" for byte in buffer)))

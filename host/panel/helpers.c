@@ -1,7 +1,7 @@
 /*
- * The header's own functions: the text of a result, part lists, places, and the readers of records. These read answers
- * that are cut at every length and answers of any bytes, each right before a page that may not be touched. The last
- * line counts.
+ * The header's own functions: the text of a result, part lists, places, pairs, and the readers of records. These read
+ * answers that are cut at every length and answers of any bytes, each right before a page that may not be touched. The
+ * last line counts.
  */
 #define _DEFAULT_SOURCE
 #include <string.h>
@@ -66,7 +66,8 @@ static void places(void)
     check("the first places", memcmp(list, "\0\0\0\0\1\0\0\0\1\0\0\0\2\0\0\0", 16) == 0);
 }
 
-/* Objects "a", plain, and "joined", of parts 300 and 2; uploads 2 to "r" without a part and 3 to "scale/3" with one. */
+/* Objects "a", plain, with two pairs, and "joined", of parts 300 and 2; uploads 2 to "r" without a part and 3 to
+ * "scale/3" with one. */
 static void start(void)
 {
     uint8_t list[4];
@@ -74,13 +75,13 @@ static void start(void)
     rathnodi_part_list_set(list, 1, 2);
     check("a part list, low byte first", memcmp(list, "\x2c\1\2\0", 4) == 0);
     uint32_t refusals = rathnodi_fresh(STORE);
-    refusals += rathnodi_put(STORE, 0x0102030405060708, BYTES("a"), BYTES("xyz"));
-    refusals += rathnodi_initiate(STORE, 6, BYTES("joined"), REPLY);
+    refusals += rathnodi_put(STORE, 0x0102030405060708, BYTES("a"), BYTES("xyz"), BYTES("\4lot2\0\3lot\2R7"));
+    refusals += rathnodi_initiate(STORE, 6, BYTES("joined"), BYTES(""), REPLY);
     refusals += rathnodi_part(STORE, 1, 2, BYTES("A"), REPLY);
     refusals += rathnodi_part(STORE, 1, 300, BYTES("B"), REPLY);
     refusals += rathnodi_commit(STORE, 1, list, sizeof list);
-    refusals += rathnodi_initiate(STORE, 7, BYTES("r"), REPLY);
-    refusals += rathnodi_initiate(STORE, 8, BYTES("scale/3"), REPLY);
+    refusals += rathnodi_initiate(STORE, 7, BYTES("r"), BYTES(""), REPLY);
+    refusals += rathnodi_initiate(STORE, 8, BYTES("scale/3"), BYTES(""), REPLY);
     refusals += rathnodi_part(STORE, 3, 1, BYTES("C"), REPLY);
     check("the store to list", refusals == 0);
 }
@@ -141,6 +142,64 @@ static void uploads_records(void)
                               memcmp(&record, &kept, sizeof record) == 0);
 }
 
+static void pairs(void)
+{
+    struct rathnodi_pair pair, kept;
+    size_t at = 0;
+    check("head", rathnodi_head(STORE, BYTES("a"), answer, sizeof answer, REPLY) == RATHNODI_OK &&
+                      reply.pairs == 2 && reply.pairs_bytes == 13);
+    check("the first pair", rathnodi_pairs_next(answer, reply.pairs_bytes, &at, &pair) && at == 7 &&
+                                same(pair.key, pair.key_len, "lot") && same(pair.value, pair.value_len, "R7"));
+    check("the second pair", rathnodi_pairs_next(answer, reply.pairs_bytes, &at, &pair) && at == 13 &&
+                                 same(pair.key, pair.key_len, "lot2") && pair.value_len == 0);
+    for (size_t bytes = 0; bytes <= 13; bytes++) {
+        const uint8_t *cut = before_guard(answer, bytes);
+        int count = 0;
+        at = 0;
+        while (rathnodi_pairs_next(cut, bytes, &at, &pair)) {
+            count++;
+        }
+        check("pairs that are cut", count == (bytes >= 7) + (bytes == 13) &&
+                                        at == (bytes == 13 ? bytes : bytes >= 7 ? 7u : 0u));
+    }
+    memset(&pair, 0x5a, sizeof pair);
+    kept = pair;
+    check("past the end",
+          !rathnodi_pairs_next(answer, 13, &(size_t){14}, &pair) && memcmp(&pair, &kept, sizeof pair) == 0);
+}
+
+/* Pairs are added up to the last byte of room, each whole or not at all. */
+static void pairs_added(void)
+{
+    static uint8_t bytes[1024], before[sizeof bytes], long_text[256];
+    size_t at = 0;
+    memset(long_text, 'v', sizeof long_text);
+    memset(bytes, 0xa5, sizeof bytes);
+    memcpy(before, bytes, sizeof before);
+    check("a pair", rathnodi_pairs_add(bytes, 13, &at, BYTES("lot"), BYTES("R7")) && at == 7 &&
+                        memcmp(bytes, "\3lot\2R7", 7) == 0);
+    memcpy(before, bytes, 7);
+    check("a byte short", !rathnodi_pairs_add(bytes, 12, &at, BYTES("lot2"), BYTES("")) && at == 7 &&
+                              memcmp(bytes, before, sizeof bytes) == 0);
+    check("past the room", !rathnodi_pairs_add(bytes, 6, &at, BYTES(""), BYTES("")) && at == 7 &&
+                               memcmp(bytes, before, sizeof bytes) == 0);
+    check("just room", rathnodi_pairs_add(bytes, 13, &at, BYTES("lot2"), BYTES("")) && at == 13 &&
+                           memcmp(bytes, "\3lot\2R7\4lot2", 13) == 0 && bytes[13] == 0xa5);
+    check("no room", !rathnodi_pairs_add(bytes, 13, &at, BYTES(""), BYTES("")) && at == 13);
+    memcpy(before, bytes, sizeof before);
+    check("a key of 256 bytes", !rathnodi_pairs_add(bytes, sizeof bytes, &at, long_text, 256, BYTES("")) && at == 13 &&
+                                    memcmp(bytes, before, sizeof bytes) == 0);
+    check("a value of 256 bytes", !rathnodi_pairs_add(bytes, sizeof bytes, &at, BYTES("k"), long_text, 256) &&
+                                      at == 13 && memcmp(bytes, before, sizeof bytes) == 0);
+    check("the longest lengths", rathnodi_pairs_add(bytes, sizeof bytes, &at, long_text, 255, long_text, 255) &&
+                                     at == 13 + 512 && bytes[13] == 255 && bytes[13 + 256] == 255 &&
+                                     memcmp(bytes + 13 + 257, long_text, 255) == 0 && bytes[13 + 512] == 0xa5);
+    struct rathnodi_pair pair;
+    size_t from = 13;
+    check("read again", rathnodi_pairs_next(bytes, at, &from, &pair) && from == at && pair.key_len == 255 &&
+                            pair.value_len == 255 && pair.value == bytes + 13 + 257);
+}
+
 /* Over bytes that no call wrote the readers end, inside them. */
 static void any_bytes(void)
 {
@@ -163,6 +222,11 @@ static void any_bytes(void)
         while (rathnodi_uploads_next(any, bytes, &at, &upload)) {
             inside &= at <= bytes && upload.path + upload.path_len + 10 == any + at;
         }
+        at = 0;
+        struct rathnodi_pair pair;
+        while (rathnodi_pairs_next(any, bytes, &at, &pair)) {
+            inside &= at <= bytes && pair.value + pair.value_len == any + at;
+        }
         check("any bytes", inside);
     }
 }
@@ -174,6 +238,8 @@ int main(void)
     start();
     list_records();
     uploads_records();
+    pairs();
+    pairs_added();
     any_bytes();
     return counted("helpers");
 }

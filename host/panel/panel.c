@@ -1,8 +1,8 @@
 /*
- * A short shift at a bakery terminal, as the panel's program would make it: recipes and a label picture are put, a
- * scale sends its weighings as parts while the panel lists, the upload is committed; another scale is given up and its
- * upload aborted; a shelf of old recipes is cleared in one call; uploads that a scale left open are swept. Each call is
- * printed with its answer.
+ * A short shift at a bakery terminal, as the panel's program would make it: recipes and a label picture are put, and a
+ * batch record with its flour lot and baker beside it; a scale sends its weighings as parts while the panel lists, the
+ * upload is committed; another scale is given up and its upload aborted; a shelf of old recipes is cleared in one call;
+ * uploads that a scale left open are swept. Each call is printed with its answer.
  */
 #include <inttypes.h>
 #include <stdio.h>
@@ -17,9 +17,15 @@ enum { ARENA_LEN = 4096 };
 static uint8_t tables[RATHNODI_TABLES_LEN];
 static uint8_t arena[ARENA_LEN];
 static uint8_t answer[RATHNODI_OBJECTS_MAX * RATHNODI_LIST_RECORD_MAX];
+static uint8_t pairs_answer[RATHNODI_PAIRS_BYTES_MAX];
 static struct rathnodi_reply reply;
 
+/* The pairs for the next put or initiate. */
+static uint8_t pairs[RATHNODI_PAIRS_BYTES_MAX];
+static size_t pairs_len;
+
 #define STORE tables, sizeof tables, arena, sizeof arena
+#define PAIRS_ANSWER pairs_answer, sizeof pairs_answer
 #define REPLY (uint8_t *)&reply, sizeof reply
 #define TEXT(text) (const uint8_t *)(text), strlen(text)
 
@@ -63,11 +69,31 @@ static void say(const char *line)
     printf("\n%s\n", line);
 }
 
+/* Gives the next put or initiate one more pair. */
+static void with(const char *key, const char *value)
+{
+    printf("  pair      %s: %s\n", key, value);
+    surprises += !rathnodi_pairs_add(pairs, sizeof pairs, &pairs_len, TEXT(key), TEXT(value));
+}
+
+/* The pairs that head or get has written. */
+static void print_pairs(void)
+{
+    struct rathnodi_pair pair;
+    uint16_t count = 0;
+    for (size_t at = 0; rathnodi_pairs_next(pairs_answer, reply.pairs_bytes, &at, &pair); count++) {
+        printf("              %.*s: %.*s\n", (int)pair.key_len, (const char *)pair.key, (int)pair.value_len,
+               (const char *)pair.value);
+    }
+    surprises += count != reply.pairs;
+}
+
 static void put(uint64_t stamp, const char *path, const uint8_t *data, size_t data_len, uint32_t expected)
 {
     printf("  put       \"%s\", %zu bytes, at %" PRIu64 " ", path, data_len, stamp);
-    answered(rathnodi_put(STORE, stamp, TEXT(path), data, data_len), expected);
+    answered(rathnodi_put(STORE, stamp, TEXT(path), data, data_len, pairs, pairs_len), expected);
     printf("\n");
+    pairs_len = 0;
 }
 
 static void put_text(uint64_t stamp, const char *path, const char *text, uint32_t expected)
@@ -78,24 +104,27 @@ static void put_text(uint64_t stamp, const char *path, const char *text, uint32_
 static void head(const char *path, uint32_t expected)
 {
     printf("  head      \"%s\" ", path);
-    if (answered(rathnodi_head(STORE, TEXT(path), REPLY), expected)) {
-        printf(", %" PRIu32 " bytes, created %" PRIu64 ", ", reply.length, reply.created);
-        print_etag(reply.etag_kind, reply.etag_digest, reply.etag_count);
+    if (!answered(rathnodi_head(STORE, TEXT(path), PAIRS_ANSWER, REPLY), expected)) {
+        printf("\n");
+        return;
     }
+    printf(", %" PRIu32 " bytes, created %" PRIu64 ", ", reply.length, reply.created);
+    print_etag(reply.etag_kind, reply.etag_digest, reply.etag_count);
     printf("\n");
+    print_pairs();
 }
 
-/* The data of the object is left in answer. */
+/* The data of the object is left in answer, its pairs in pairs_answer. */
 static size_t get(const char *path, uint32_t expected)
 {
-    size_t length = 0;
     printf("  get       \"%s\" ", path);
-    if (answered(rathnodi_get(STORE, TEXT(path), answer, sizeof answer, REPLY), expected)) {
-        printf(", %" PRIu32 " bytes", reply.length);
-        length = reply.length;
+    if (!answered(rathnodi_get(STORE, TEXT(path), answer, sizeof answer, PAIRS_ANSWER, REPLY), expected)) {
+        printf("\n");
+        return 0;
     }
-    printf("\n");
-    return length;
+    printf(", %" PRIu32 " bytes\n", reply.length);
+    print_pairs();
+    return reply.length;
 }
 
 static void copy(uint64_t stamp, const char *source, const char *destination, uint32_t expected)
@@ -154,11 +183,12 @@ static uint32_t initiate(uint64_t stamp, const char *path, uint32_t expected)
 {
     uint32_t upload = 0;
     printf("  initiate  \"%s\", at %" PRIu64 " ", path, stamp);
-    if (answered(rathnodi_initiate(STORE, stamp, TEXT(path), REPLY), expected)) {
+    if (answered(rathnodi_initiate(STORE, stamp, TEXT(path), pairs, pairs_len, REPLY), expected)) {
         printf(", upload %" PRIu32, reply.upload);
         upload = reply.upload;
     }
     printf("\n");
+    pairs_len = 0;
     return upload;
 }
 
@@ -264,7 +294,25 @@ int main(void)
     printf("              %s\n", same ? "the same bytes" : "OTHER BYTES");
     surprises += !same;
 
+    say("A batch record is put with its flour lot and its baker; the store's own keys are dropped.");
+    with("flour-lot", "R-4711");
+    with("baker", "Ayla");
+    with("size", "48 loaves");
+    put_text(SHIFT + 30, "batch/rye", "rye, oven 2, 240 degrees\n", RATHNODI_OK);
+    length = get("batch/rye", RATHNODI_OK);
+    printf("%.*s", (int)length, (const char *)answer);
+    static const char record_pairs[] = "\5baker\4Ayla\11flour-lot\6R-4711";
+    surprises += reply.pairs_bytes != 28 || memcmp(pairs_answer, record_pairs, 28) != 0;
+    copy(SHIFT + 31, "batch/rye", "batch/sent/rye", RATHNODI_OK);
+    head("batch/sent/rye", RATHNODI_OK);
+    with("flour-lot", "R-4711");
+    with("flour-lot", "R-4712");
+    put_text(SHIFT + 32, "batch/rye", "two lots\n", RATHNODI_BAD_REQUEST);
+    with("baker", "J\303\266rg");
+    put_text(SHIFT + 32, "batch/rye", "a letter outside ASCII\n", RATHNODI_BAD_REQUEST);
+
     say("Scale 1 sends its weighings as parts; the panel lists meanwhile and sees none of them.");
+    with("scale", "1");
     uint32_t scale_1 = initiate(SHIFT + 60, "weighing/scale-1", RATHNODI_OK);
     part(scale_1, 1, "03:01 rye flour 59.98 kg\n03:03 water 43.02 kg\n", RATHNODI_OK);
     list("weighing/", "", sizeof answer, RATHNODI_OK);

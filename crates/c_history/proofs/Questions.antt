@@ -40,7 +40,7 @@ unfolding SameReads CReadsSame answerWith
 c-reads-same m m′ same k o n n′ b b′ r r′ x x′ look e e′ =
     let is = go (ℕ-discrete (length o) replyLength) in (
       e′ .number ∙ ap (λ (y : Reply). y .result) is ∙ sym (e .number),
-      e′ .buffer ∙ ap (λ (y : Reply). y .buffer) is ∙ sym (e .buffer),
+      e′ .buffer ∙ ap (λ (y : Reply). y .buffers) is ∙ sym (e .buffer),
       e′ .reply ∙ ap (λ (y : Reply). replyAfter y o) is ∙ sym (e .reply),
     )
   where

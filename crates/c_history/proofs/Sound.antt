@@ -20,13 +20,13 @@ Promised (replied k o n b o′) m m′ = Exported k m o n b o′ m′
 
 pub promised : {e : Event} {m m′ : Memory} → Step e m m′ → Promised e m m′
 unfolding Promised
-promised (put h) = h
+promised (put l h) = h
 promised (get h) = h
 promised (head h) = h
 promised (delete h) = h
 promised (copy h) = h
 promised (list h) = h
-promised (initiate h) = h
+promised (initiate l h) = h
 promised (part h) = h
 promised (commit l h) = h
 promised (abort h) = h

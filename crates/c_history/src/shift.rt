@@ -1,4 +1,5 @@
 // The exported functions, each called as C calls it.
+ghost use Rattle.machine.specs.Calls.{buffers};
 ghost use Rattle.contract.specs.Made.{memory};
 ghost use Rattle.c_history.specs.Lists.{CRun};
 ghost use Rattle.c_history.specs.Shift.{shelfEvents, clearEvents, sweepEvents, weighEvents, Concluded};
@@ -22,30 +23,35 @@ pub struct Weighed {
     pub aborted: u32,
 }
 
-// PUT, GET, HEAD, COPY, LIST, DELETE.
+// PUT, GET, HEAD, COPY, LIST, DELETE; the second answer buffers of GET and HEAD are for the pairs.
 pub fn shelve(
     tables: &mut [u8],
     arena: &mut [u8],
     stamp: u64,
     path: &[u8],
     content: &[u8],
+    pairs: &[u8],
     other: &[u8],
     answer: &mut [u8],
+    answer_pairs: &mut [u8],
     found: &mut [u8],
+    head_pairs: &mut [u8],
     about: &mut [u8],
     listing: &mut [u8],
     counts: &mut [u8],
 ) -> Shelf
     ensures { λ r. ⌜ CRun
-        (shelfEvents stamp (now (path .entry)) (now (content .entry)) (now (other .entry)) r
-        (now (answer .entry)) (now (found .entry)) (now (about .entry)) (now (listing .entry)) (now (counts .entry))
-        (now (answer .exit)) (now (found .exit)) (now (about .exit)) (now (listing .exit)) (now (counts .exit)))
+        (shelfEvents stamp (now (path .entry)) (now (content .entry)) (now (pairs .entry)) (now (other .entry)) r
+        (buffers (now (answer .entry)) (now («answer_pairs» .entry)))
+        (now (found .entry)) (now («head_pairs» .entry)) (now (about .entry)) (now (listing .entry)) (now (counts .entry))
+        (buffers (now (answer .exit)) (now («answer_pairs» .exit)))
+        (now (found .exit)) (now («head_pairs» .exit)) (now (about .exit)) (now (listing .exit)) (now (counts .exit)))
         (memory (now (tables .entry)) (now (arena .entry)))
         (memory (now (tables .exit)) (now (arena .exit))) ⌝ }
 {
-    let put = rathnodi::objects::rathnodi_put(tables, arena, stamp, path, content);
-    let got = rathnodi::objects::rathnodi_get(tables, arena, path, answer, found);
-    let head = rathnodi::objects::rathnodi_head(tables, arena, path, about);
+    let put = rathnodi::objects::rathnodi_put(tables, arena, stamp, path, content, pairs);
+    let got = rathnodi::objects::rathnodi_get(tables, arena, path, answer, answer_pairs, found);
+    let head = rathnodi::objects::rathnodi_head(tables, arena, path, head_pairs, about);
     let copied = rathnodi::objects::rathnodi_copy(tables, arena, stamp, path, other);
     let listed = rathnodi::objects::rathnodi_list(tables, arena, path, other, listing, counts);
     let deleted = rathnodi::objects::rathnodi_delete(tables, arena, path);
@@ -91,6 +97,7 @@ fn weigh(
     arena: &mut [u8],
     stamp: u64,
     path: &[u8],
+    pairs: &[u8],
     content: &[u8],
     list: &[u8],
     opened: &mut [u8],
@@ -99,13 +106,13 @@ fn weigh(
     counts: &mut [u8],
 ) -> Weighed
     ensures { λ r. ⌜ CRun
-        (weighEvents stamp (now (path .entry)) (now (content .entry)) (now (list .entry)) r
+        (weighEvents stamp (now (path .entry)) (now (pairs .entry)) (now (content .entry)) (now (list .entry)) r
         (now (opened .entry)) (now (sent .entry)) (now (answer .entry)) (now (counts .entry))
         (now (opened .exit)) (now (sent .exit)) (now (answer .exit)) (now (counts .exit)))
         (memory (now (tables .entry)) (now (arena .entry)))
         (memory (now (tables .exit)) (now (arena .exit))) ⌝ }
 {
-    let first = rathnodi::parts::rathnodi_initiate(tables, arena, stamp, path, opened);
+    let first = rathnodi::parts::rathnodi_initiate(tables, arena, stamp, path, pairs, opened);
     let second = rathnodi::parts::rathnodi_part(tables, arena, 1, 1, content, sent);
     let listed = rathnodi::parts::rathnodi_uploads(tables, arena, path, answer, counts);
     let committed = rathnodi::parts::rathnodi_commit(tables, arena, 1, list);
@@ -131,6 +138,7 @@ pub fn fresh_shift(
     arena: &mut [u8],
     stamp: u64,
     path: &[u8],
+    pairs: &[u8],
     content: &[u8],
     list: &[u8],
     opened: &mut [u8],
@@ -140,7 +148,7 @@ pub fn fresh_shift(
 ) -> ShiftAnswer
     ensures { λ r. ⌜ Concluded
         (memory (now (tables .entry)) (now (arena .entry)))
-        stamp (now (path .entry)) (now (content .entry)) (now (list .entry)) r
+        stamp (now (path .entry)) (now (pairs .entry)) (now (content .entry)) (now (list .entry)) r
         (now (opened .entry)) (now (sent .entry)) (now (answer .entry)) (now (counts .entry))
         (now (opened .exit)) (now (sent .exit)) (now (answer .exit)) (now (counts .exit))
         (memory (now (tables .exit)) (now (arena .exit))) ⌝ }
@@ -154,6 +162,7 @@ pub fn fresh_shift(
         arena,
         stamp,
         path,
+        pairs,
         content,
         list,
         opened,

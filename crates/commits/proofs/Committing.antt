@@ -10,7 +10,7 @@ use Rattle.machine.specs.Map.{isSome, byNumber, lookup}
 use Rattle.machine.specs.Names.{Bytes}
 use Rattle.machine.specs.State.{Object, Part, Upload, State, counted, withObject, withoutUpload}
 use Rattle.machine.specs.Valid.{Valid}
-use Rattle.machine.specs.Calls.{COMMIT, nothing, accept, badRequest, tableFull, Outcome, _else_then_, given}
+use Rattle.machine.specs.Calls.{COMMIT, nothing, noBuffers, accept, badRequest, tableFull, Outcome, _else_then_, given}
 use Rattle.machine.specs.Steps.{fit, joinedObject, act, after}
 use Rattle.machine.specs.Fits.{fits, listedParts}
 use Rattle.machine.proofs.Fit.{given-fit}
@@ -34,7 +34,7 @@ joinedAt s u x xs = withoutUpload (withObject s (x .path) (joinedObject x xs)) u
 
 -- what is left of COMMIT for an open upload, and for parts that fit
 joinIn : State → ℕ → Upload → List Part → Outcome
-joinIn s u x xs = counted (joinedAt s u x xs) else tableFull then accept nothing [] (joinedAt s u x xs)
+joinIn s u x xs = counted (joinedAt s u x xs) else tableFull then accept nothing noBuffers (joinedAt s u x xs)
 
 commitIn : State → ℕ → List ℕ → Upload → Outcome
 commitIn s u ns x = given (fit ns (x .parts)) badRequest (joinIn s u x)
@@ -63,7 +63,7 @@ module _ (m : Memory) (u : ℕ) (ns : List ℕ) where
     fit-judged e r is =
         let xs = listedParts (x .parts) ns in
         is (joinedObject x xs)
-        ∙ sym (open-is ∙ result-pass (fits ns (x .parts)) badRequest (joinIn (stateIn m) u x xs) e ∙ result-last (counted (joinedAt (stateIn m) u x xs)) tableFull nothing [] (joinedAt (stateIn m) u x xs))
+        ∙ sym (open-is ∙ result-pass (fits ns (x .parts)) badRequest (joinIn (stateIn m) u x xs) e ∙ result-last (counted (joinedAt (stateIn m) u x xs)) tableFull nothing noBuffers (joinedAt (stateIn m) u x xs))
 
   -- result 0: all checks were passed
   module _ (zero-result : resultOf (outcome (COMMIT u ns) m) ≡ 0) where
@@ -77,12 +77,12 @@ module _ (m : Memory) (u : ℕ) (ns : List ℕ) where
     commit-listed : Listed (stateIn m) u ns
     commit-listed = record { upload = first .0; found = first .1; listed = second .0; fits = second .1 }
 
-    commit-accepted : outcome (COMMIT u ns) m ≡ accept nothing [] (joinedState (stateIn m) u ns commit-listed)
+    commit-accepted : outcome (COMMIT u ns) m ≡ accept nothing noBuffers (joinedState (stateIn m) u ns commit-listed)
     unfolding joinIn commit-listed
     commit-accepted =
         let s′ = joinedAt (stateIn m) u (first .0) (second .0) in
         let z : resultOf (joinIn (stateIn m) u (first .0) (second .0)) ≡ 0 = sym (ap resultOf (act-is ∙ first .2 ∙ second .2)) ∙ zero-result in
-        act-is ∙ first .2 ∙ second .2 ∙ passed (counted s′) tableFull (accept nothing [] s′) z .1
+        act-is ∙ first .2 ∙ second .2 ∙ passed (counted s′) tableFull (accept nothing noBuffers s′) z .1
 
     commit-valid : Valid (length (m .arena)) (stateIn m) → Valid (length (m .arena)) (joinedState (stateIn m) u ns commit-listed)
     unfolding outcome
@@ -124,6 +124,6 @@ module _ (t a : List ℕ) (u : ℕ) (list : Bytes) (w : whole t a ≡ true) (zer
         valid = commit-valid (memory t a) u (partList list) zero-result (whole-stands t a b w .valid);
       }
 
-  pub commit-done : outcome (COMMIT u (partList list)) (memory t a) ≡ accept nothing [] (joinedState (stateOf t a) u (partList list) (commit-ready .listed))
+  pub commit-done : outcome (COMMIT u (partList list)) (memory t a) ≡ accept nothing noBuffers (joinedState (stateOf t a) u (partList list) (commit-ready .listed))
   unfolding commit-ready
   commit-done = commit-accepted (memory t a) u (partList list) zero-result

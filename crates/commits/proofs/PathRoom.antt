@@ -13,11 +13,12 @@ use lib.Seq.{take-at, length-take-le}
 use Rattle.number.specs.Number.{AreBytes}
 use Rattle.order.specs.Order.{byBytes}
 use Rattle.order.proofs.OrderLaws as order
-use Rattle.machine.specs.Map.{isSome, byNumber, lookup, insert}
+use Rattle.machine.specs.Map.{Map, isSome, byNumber, lookup, insert}
 use Rattle.machine.specs.Names.{Bytes}
+use Rattle.machine.specs.Pairs.{pairsHeld}
 use Rattle.machine.specs.State.{Object, Upload, State, held, counted, withObject, withoutUpload}
 use Rattle.machine.specs.Valid.{Valid}
-use Rattle.machine.specs.Calls.{nothing, accept, tableFull, arenaFull, Outcome, _else_then_}
+use Rattle.machine.specs.Calls.{nothing, noBuffers, accept, tableFull, arenaFull, Outcome, _else_then_}
 use Rattle.machine.specs.Steps.{plainObject, putAt}
 use Rattle.machine.proofs.MapSums.{length-insert}
 use Rattle.machine.proofs.Counts.{put-counted, commit-counted, held-put}
@@ -36,20 +37,20 @@ use Rattle.join.proofs.PathRead.{head-inside, path-inside, path-copied}
 
 module _ (A : ℕ) (s : State) (v : Valid A s) (u : ℕ) (p : Bytes) (y : Object) where
   -- the counts after PUT and after COMMIT are one test
-  same-counted : counted (withObject s p (plainObject 0 [])) ≡ counted (withoutUpload (withObject s p y) u)
+  same-counted : counted (withObject s p (plainObject 0 [] [])) ≡ counted (withoutUpload (withObject s p y) u)
   same-counted =
-      let n : length (insert byBytes p (plainObject 0 []) (s .O)) ≡ length (insert byBytes p y (s .O)) =
-      omega (arith, length-insert order.bytes p (plainObject 0 []) (s .O), length-insert order.bytes p y (s .O)) in
+      let n : length (insert byBytes p (plainObject 0 [] []) (s .O)) ≡ length (insert byBytes p y (s .O)) =
+      omega (arith, length-insert order.bytes p (plainObject 0 [] []) (s .O), length-insert order.bytes p y (s .O)) in
       put-counted A s v p _ ∙ ap (λ (k : ℕ). leb k 256) n ∙ sym (commit-counted A s v u p y)
 
   -- no bytes are more to hold
-  room-is : resultOf (putAt A s 0 p []) ≡ cond (counted (withoutUpload (withObject s p y) u)) 0 4
+  room-is : resultOf (putAt A s 0 p [] []) ≡ cond (counted (withoutUpload (withObject s p y) u)) 0 4
   unfolding putAt
   room-is =
-      let s′ = withObject s p (plainObject 0 []) in
-      let l : held s′ ≤ A = let r = v .room in omega (arith, held-put s p (plainObject 0 [])) in
-      ap (λ (o : Outcome). resultOf (counted s′ else tableFull then o)) (pass (leb (held s′) A) arenaFull (accept nothing [] s′) (le-leb _ _ l))
-      ∙ result-last (counted s′) tableFull nothing [] s′
+      let s′ = withObject s p (plainObject 0 [] []) in
+      let l : held s′ ≤ A = let r = v .room in omega (arith, held-put s p (plainObject 0 [] [])) in
+      ap (λ (o : Outcome). resultOf (counted s′ else tableFull then o)) (pass (leb (held s′) A) arenaFull (accept nothing noBuffers s′) (le-leb _ _ l))
+      ∙ result-last (counted s′) tableFull nothing noBuffers s′
       ∙ ap (λ (b : Bool). cond b 0 4) same-counted
 
 -- what `commit_room` reads off whole memory
@@ -78,6 +79,6 @@ module _ (t a : List ℕ) (b : AreBytes t) (w : whole t a ≡ true) (u : ℕ) (p
         ∙ path-copied t a s h u x f place place-is head read [] _ src refl refl)
 
     pub path-room : (r : ℕ)
-        → ((stamp : ℕ) (content : Bytes) → length content ≡ 0 → r ≡ resultOf (putAt (length a) s stamp (take (place .at + headLength + head .pathlen - (place .at + headLength)) (drop (place .at + headLength) t)) content))
+        → ((stamp : ℕ) (content : Bytes) (m : Map Bytes Bytes) → pairsHeld m + length content ≡ 0 → r ≡ resultOf (putAt (length a) s stamp (take (place .at + headLength + head .pathlen - (place .at + headLength)) (drop (place .at + headLength) t)) content m))
         → (y : Object) → r ≡ cond (counted (withoutUpload (withObject s (x .path) y) u)) 0 4
-    path-room r is y = is 0 [] refl ∙ ap (λ (p : Bytes). resultOf (putAt (length a) s 0 p [])) path-read ∙ room-is (length a) s (h .valid) u (x .path) y
+    path-room r is y = is 0 [] [] refl ∙ ap (λ (p : Bytes). resultOf (putAt (length a) s 0 p [] [])) path-read ∙ room-is (length a) s (h .valid) u (x .path) y

@@ -9,6 +9,7 @@ use Rattle.order.specs.Order.{byBytes, same}
 use Rattle.order.proofs.OrderLaws.{bytes, numbers, same-true}
 use Rattle.machine.specs.Map.{Map, byNumber, lookup, insert, also}
 use Rattle.machine.specs.Names.{Bytes}
+use Rattle.machine.specs.Pairs.{pairMap}
 use Rattle.machine.specs.State.{Object, Part, Upload, State, fresh}
 use Rattle.machine.specs.Calls.{Call, PUT, GET, HEAD, DELETE, COPY, LIST, INITIATE, PART, COMMIT, ABORT, UPLOADS, DELETE-OBJECTS, SWEEP, Reply, lent}
 use Rattle.machine.specs.Steps.{plainObject, joinedObject, fit, deleteAt, abortAt, toSweep, act, reply, next}
@@ -21,7 +22,7 @@ use Rattle.machine.proofs.Fit.{fit-listed}
 use Rattle.machine.proofs.Outcome.{refused-not-accepted, Then, then-else, then-given, then-object, then-put, then-step}
 use Rattle.machine.proofs.Sweeping.{aborts-objects}
 use Rattle.machine.proofs.KeepsValid.{fresh-valid, final-valid}
-use Rattle.machine.proofs.Commits.{Agrees, fresh-agrees, sent, joined-new}
+use Rattle.machine.proofs.Commits.{startFrom, Agrees, fresh-agrees, sent, joined-new}
 use Rattle.machine.proofs.Traces.{final-append, trace-append}
 use Rattle.consistency.proofs.Removing.{differ, Removed, no-more, gone, removed-changed, places-removed}
 
@@ -45,20 +46,20 @@ insert-changed p q x o y h = go (same p q) refl
 abbrev pub Changed : State → Option Change → Map Bytes Object → Type 0
 Changed s none o = o ≡ s .O
 Changed s (some (sets p x)) o = o ≡ insert byBytes p x (s .O)
-Changed s (some (copies t p q)) o = (x : Object) × (lookup byBytes p (s .O) ≡ some x) × (o ≡ insert byBytes q (plainObject t (x .content)) (s .O))
+Changed s (some (copies t p q)) o = (x : Object) × (lookup byBytes p (s .O) ≡ some x) × (o ≡ insert byBytes q (plainObject t (x .content) (x .pairs)) (s .O))
 Changed s (some (joins u ns)) o =
     (x : Upload) × (xs : List Part) × (lookup byNumber u (s .U) ≡ some x) × (fit ns (x .parts) ≡ some xs) × (o ≡ insert byBytes (x .path) (joinedObject x xs) (s .O))
 Changed s (some (removes ps)) o = Removed ps (s .O) o
 
 pub act-changes : (A : ℕ) (s : State) (c : Call) → Then (λ r out s′. Changed s (change c) (s′ .O)) (act A s c)
 unfolding act deleteAt abortAt Then
-act-changes A s (PUT t p d) = then-else _ _ _ _ λ _. then-put _ A s t p d λ _ _. refl
-act-changes A s (GET p b) = then-object _ s p _ λ x. then-else _ _ _ _ λ _. refl
-act-changes A s (HEAD p) = then-object _ s p _ λ x. refl
+act-changes A s (PUT t p d ps) = then-else _ _ _ _ λ _. then-put _ A s t p d (pairMap ps) λ _ _. refl
+act-changes A s (GET p b m) = then-object _ s p _ λ x. then-else _ _ _ _ λ _. then-else _ _ _ _ λ _. refl
+act-changes A s (HEAD p m) = then-object _ s p _ λ x. then-else _ _ _ _ λ _. refl
 act-changes A s (DELETE p) = then-else _ _ _ _ λ _. then-given _ _ _ _ λ x _. gone p no-more
-act-changes A s (COPY t p q) = then-else _ _ _ _ λ _. then-given _ _ _ _ λ x e. then-put _ A s t q (x .content) λ _ _. (x, e, refl)
+act-changes A s (COPY t p q) = then-else _ _ _ _ λ _. then-given _ _ _ _ λ x e. then-put _ A s t q (x .content) (x .pairs) λ _ _. (x, e, refl)
 act-changes A s (LIST prefix suffix b) = then-else _ _ _ _ λ _. refl
-act-changes A s (INITIATE t p) = then-else _ _ _ _ λ _. then-else _ _ _ _ λ _. then-else _ _ _ _ λ _. refl
+act-changes A s (INITIATE t p ps) = then-else _ _ _ _ λ _. then-else _ _ _ _ λ _. then-else _ _ _ _ λ _. then-else _ _ _ _ λ _. refl
 act-changes A s (PART u n d) = then-else _ _ _ _ λ _. then-given _ _ _ _ λ x _. then-else _ _ _ _ λ _. then-else _ _ _ _ λ _. refl
 act-changes A s (COMMIT u ns) = then-given _ _ _ _ λ x e. then-given _ _ _ _ λ xs f. then-else _ _ _ _ λ _. (x, xs, e, f, refl)
 act-changes A s (ABORT u) = then-given _ _ _ _ λ x _. refl
@@ -74,7 +75,7 @@ module _ (A : ℕ) (s : State) (t : Trace) (v : Valid A s) (a : Agrees (s .U) (s
   told u ns x xs e f =
       let l = fit-listed ns (x .parts) xs (every-lookup numbers (UploadOk (s .N)) u x (s .U) (v .upload) e .sorted) f in
       let d = sent u t (x .parts) (a .parts u x e) ns (l .0) in
-      let q : joinedObject x xs ≡ joinedFrom (x .started) (d .parts) = ap (joinedObject x) (l .1 ∙ d .made) ∙ joined-new x (d .parts) in
+      let q : joinedObject x xs ≡ joinedFrom (startFrom x) (d .parts) = ap (joinedObject x) (l .1 ∙ d .made) ∙ joined-new x (d .parts) in
       rw (a .start u x e, d .told) (ap (λ (y : Object). some (x .path ∷ [], some y)) (sym q))
 
   wrote : (k : Option Change) (o : Map Bytes Object) → Changed s k o → (p : Bytes) → lookup byBytes p o ≡ changed p (also k (writes was t)) (was p)

@@ -12,7 +12,7 @@ use Rattle.machine.specs.Names.{Bytes}
 use Rattle.machine.specs.State.{Object}
 use Rattle.machine.specs.Calls.{Call, PUT, GET, HEAD, DELETE, COPY, LIST, INITIATE, PART, COMMIT, ABORT, UPLOADS, DELETE-OBJECTS, SWEEP, Answer, nothing, metadata, etag, number, counts, swept, Reply}
 use Rattle.machine.specs.Lists.{Trace}
-use Rattle.machine.specs.Demand3.{Kind, looks, initiates, sends, commits, other, kind, accepted, _or_, carries, carried, lastPart, lastParts, answers, opens, opened, startOf, commitOf, NoCommitAccepted}
+use Rattle.machine.specs.Demand3.{Kind, looks, initiates, sends, commits, other, kind, accepted, _or_, carries, carried, lastPart, lastParts, answers, Start, opens, opened, startOf, commitOf, NoCommitAccepted}
 use Rattle.consistency.specs.LastWrites.{Change, sets, copies, joins, removes, change, Write, writes, written, isTo, left, lastOf, lastWrite}
 use Rattle.consistency.specs.Origins.{builds, ofUpload, draws, originOf, origin, Origin}
 use Rattle.machine.proofs.Options.{both}
@@ -25,7 +25,7 @@ module _ (u : ℕ) where
   no-part : (n : ℕ) (a : Answer) (b : Bool) (k : Kind) → b && builds u a k ≡ false → cond b (carries u n k) none ≡ none
   no-part n a false k h = refl
   no-part n a true looks h = refl
-  no-part n a true (initiates t p) h = refl
+  no-part n a true (initiates t p m) h = refl
   no-part n a true (sends v m d) h = rw h
   no-part n a true (commits v) h = refl
   no-part n a true other h = refl
@@ -33,7 +33,7 @@ module _ (u : ℕ) where
   no-start : (a : Answer) (b : Bool) (k : Kind) → b && builds u a k ≡ false → cond b (opens u a k) none ≡ none
   no-start a false k h = refl
   no-start a true looks h = refl
-  no-start a true (initiates t p) h = rw h
+  no-start a true (initiates t p m) h = rw h
   no-start a true (sends v m d) h = refl
   no-start a true (commits v) h = refl
   no-start a true other h = refl
@@ -55,7 +55,7 @@ module _ (u : ℕ) where
     where
       go : (b : Bool) → isOf (e .0) (e .1) ≡ b → startOf u (ofUpload u t) ≡ startOf u t → startOf u (cond b (e ∷ ofUpload u t) (ofUpload u t)) ≡ startOf u t or opened u e
       go true h i = rw i
-      go false h i = i ∙ sym (ap (λ (x : Option (ℕ × Bytes)). startOf u t or x) (no-start (e .1 .answer) (accepted (e .1)) (kind (e .0)) h) ∙ or-none (startOf u t))
+      go false h i = i ∙ sym (ap (λ (x : Option Start). startOf u t or x) (no-start (e .1 .answer) (accepted (e .1)) (kind (e .0)) h) ∙ or-none (startOf u t))
 
   parts-kept : (t : Trace) (ns : List ℕ) → lastParts u (ofUpload u t) ns ≡ lastParts u t ns
   parts-kept t [] = refl
@@ -203,13 +203,13 @@ OfKind (some (joins u ns)) k = k ≡ commits u
 OfKind (some (removes ps)) k = k ≡ other
 
 change-kind : (c : Call) → OfKind (change c) (kind c)
-change-kind (PUT k q d) = refl
-change-kind (GET q b) = tt
-change-kind (HEAD q) = tt
+change-kind (PUT k q d ps) = refl
+change-kind (GET q b m) = tt
+change-kind (HEAD q m) = tt
 change-kind (DELETE q) = refl
 change-kind (COPY k q z) = refl
 change-kind (LIST prefix suffix b) = tt
-change-kind (INITIATE k q) = tt
+change-kind (INITIATE k q ps) = tt
 change-kind (PART v n d) = tt
 change-kind (COMMIT v ns) = refl
 change-kind (ABORT v) = tt
@@ -231,7 +231,7 @@ other-number u v n d h = ne-eqb u n (λ q. d (q ∙ sym (eqb-true v n h)))
 
 other-answer : (u v : ℕ) (a : Answer) → (u ≡ v → ⊥) → answers v a ≡ true → answers u a ≡ false
 other-answer u v nothing d h = refl
-other-answer u v (metadata l c e) d h = refl
+other-answer u v (metadata l c e n k) d h = refl
 other-answer u v (etag e) d h = refl
 other-answer u v (number n) d h = other-number u v n d h
 other-answer u v (counts r b) d h = refl
@@ -240,7 +240,7 @@ other-answer u v (swept c m) d h = refl
 -- what built one upload built no other
 other-builds : (u v : ℕ) (a : Answer) (k : Kind) → (u ≡ v → ⊥) → builds v a k ≡ true → builds u a k ≡ false
 other-builds u v a looks d h = refl
-other-builds u v a (initiates t p) d h = other-answer u v a d h
+other-builds u v a (initiates t p m) d h = other-answer u v a d h
 other-builds u v a (sends w n x) d h = other-number u v w d h
 other-builds u v a (commits w) d h = refl
 other-builds u v a other d h = refl

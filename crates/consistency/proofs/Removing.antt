@@ -10,7 +10,7 @@ use Rattle.order.proofs.OrderLaws.{bytes, same-self, same-true}
 use Rattle.machine.specs.Map.{Map, lookup, remove, Ascending, Every}
 use Rattle.machine.specs.Names.{Bytes, requestPathOk}
 use Rattle.machine.specs.State.{Object, State, withoutObject}
-use Rattle.machine.specs.Calls.{NamePlace, nothing, badRequest, notFound, Outcome, accept, _else_then_, given}
+use Rattle.machine.specs.Calls.{NamePlace, nothing, noBuffers, badRequest, notFound, Outcome, accept, _else_then_, given}
 use Rattle.machine.specs.Steps.{deleteAt, deletePlace, afterPlaces, act, after}
 use Rattle.machine.specs.Valid.{ObjectOk}
 use Rattle.machine.specs.DeleteObjects.{nameAt}
@@ -69,7 +69,7 @@ unfolding deleteAt _else_then_ given
 delete-removed s q {qs} {o} = go (requestPathOk q) refl (lookup byBytes q (s .O)) refl
   where
     go : (ok : Bool) → requestPathOk q ≡ ok → (x : Option Object) → lookup byBytes q (s .O) ≡ x →
-        Removed qs (after s (ok else badRequest then given x notFound λ _. accept nothing [] (withoutObject s q)) .O) o → Removed (q ∷ qs) (s .O) o
+        Removed qs (after s (ok else badRequest then given x notFound λ _. accept nothing noBuffers (withoutObject s q)) .O) o → Removed (q ∷ qs) (s .O) o
     go false e x f h = absent q (λ t. absurd (false≢true (sym e ∙ t))) h
     go true e none f h = absent q (λ _. f) h
     go true e (some x) f h = gone q h

@@ -34,9 +34,9 @@ last p before after e w h =
 pub last-write : LastWrite
 last-write = record {
   never = never;
-  put = λ t p d r before after ok h. last p before after (PUT t p d, r) (rw (ok, same-self p)) h ∙ rw ok;
+  put = λ t p d ps r before after ok h. last p before after (PUT t p d ps, r) (rw (ok, same-self p)) h ∙ rw ok;
   delete = λ p r before after ok h. last p before after (DELETE p, r) (rw (ok, same-self p)) h ∙ rw ok;
   delete-objects = λ names ps over b p r before after ok in-list h. last p before after (DELETE-OBJECTS names ps over b, r) (rw (ok, in-list)) h ∙ rw ok;
   copy = λ t q p r before after ok h. last p before after (COPY t q p, r) (rw (ok, same-self p)) h ∙ rw ok;
-  commit = λ u ns t p r before after ok e h. last p before after (COMMIT u ns, r) (rw (ok, e, same-self p)) h ∙ rw (ok, e);
+  commit = λ u ns x r before after ok e h. last (x .path) before after (COMMIT u ns, r) (rw (ok, e, same-self (x .path))) h ∙ rw (ok, e);
 }

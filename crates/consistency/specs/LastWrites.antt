@@ -7,14 +7,15 @@ use mathlib.Core.Option.{Option, none, some}
 use Rattle.order.specs.Order.{same}
 use Rattle.machine.specs.Map.{mapped, also}
 use Rattle.machine.specs.Names.{Bytes}
+use Rattle.machine.specs.Pairs.{Pair, pairMap}
 use Rattle.machine.specs.State.{Object}
 use Rattle.machine.specs.Calls.{Call, PUT, GET, HEAD, DELETE, COPY, LIST, INITIATE, PART, COMMIT, ABORT, UPLOADS, DELETE-OBJECTS, SWEEP, NamePlace, Reply}
 use Rattle.machine.specs.Steps.{plainObject}
 use Rattle.machine.specs.Lists.{Trace}
-use Rattle.machine.specs.Demand3.{accepted, startOf, lastParts, joinedFrom}
+use Rattle.machine.specs.Demand3.{accepted, Start, startOf, lastParts, joinedFrom}
 use Rattle.machine.specs.DeleteObjects.{nameAt}
 
--- a change of the objects: one is set; one's data are copied; the listed parts of an upload are joined at its path; some are removed
+-- a change of the objects: one is set; one's data and pairs are copied; the listed parts of an upload are joined at its path; some are removed
 pub data Change : Type 0 where
   sets : (path : Bytes) → Object → Change
   copies : (stamp : ℕ) (source destination : Bytes) → Change
@@ -23,13 +24,13 @@ pub data Change : Type 0 where
 
 -- what each call does to the objects once it is accepted; most change none
 abbrev pub change : Call → Option Change
-change (PUT t p d) = some (sets p (plainObject t d))
-change (GET p b) = none
-change (HEAD p) = none
+change (PUT t p d ps) = some (sets p (plainObject t d (pairMap ps)))
+change (GET p b m) = none
+change (HEAD p m) = none
 change (DELETE p) = some (removes (p ∷ []))
 change (COPY t p q) = some (copies t p q)
 change (LIST prefix suffix b) = none
-change (INITIATE t p) = none
+change (INITIATE t p ps) = none
 change (PART u n d) = none
 change (COMMIT u ns) = some (joins u ns)
 change (ABORT u) = none
@@ -41,12 +42,12 @@ change (SWEEP t n) = none
 abbrev pub Write : Type 0
 Write = List Bytes × Option Object
 
--- The write of a change; `was` is what stood at each path before it, `before` the calls and replies before it. A copy leaves the data that its
--- source then had; what is joined are the parts that were sent to the upload, in listed order.
+-- The write of a change; `was` is what stood at each path before it, `before` the calls and replies before it. A copy leaves the data and
+-- the pairs that its source then had; what is joined are the parts that were sent to the upload, in listed order, with the pairs of its INITIATE.
 abbrev pub writes : (was : Bytes → Option Object) (before : Trace) → Change → Option Write
 writes was before (sets p x) = some (p ∷ [], some x)
-writes was before (copies t p q) = some (q ∷ [], mapped (λ (x : Object). plainObject t (x .content)) (was p))
-writes was before (joins u ns) = mapped (λ (o : ℕ × Bytes). (o .1 ∷ [], mapped (joinedFrom (o .0)) (lastParts u before ns))) (startOf u before)
+writes was before (copies t p q) = some (q ∷ [], mapped (λ (x : Object). plainObject t (x .content) (x .pairs)) (was p))
+writes was before (joins u ns) = mapped (λ (o : Start). (o .path ∷ [], mapped (joinedFrom o) (lastParts u before ns))) (startOf u before)
 writes was before (removes ps) = some (ps, none)
 
 -- the write of a call, if it was accepted
@@ -91,8 +92,8 @@ Untouched p before (e ∷ after) = (writesTo p before e ≡ false) × Untouched 
 -- Of all calls and replies: what each call leaves at a path, while no other call writes it.
 pub record LastWrite : Type 0 where
   pub never : (p : Bytes) (t : Trace) → Untouched p [] t → lastWrite p t ≡ none
-  pub put : (t : ℕ) (p d : Bytes) (r : Reply) (before after : Trace) → accepted r ≡ true → Untouched p (before ++ (PUT t p d, r) ∷ []) after
-      → lastWrite p (before ++ (PUT t p d, r) ∷ after) ≡ some (plainObject t d)
+  pub put : (t : ℕ) (p d : Bytes) (ps : List Pair) (r : Reply) (before after : Trace) → accepted r ≡ true → Untouched p (before ++ (PUT t p d ps, r) ∷ []) after
+      → lastWrite p (before ++ (PUT t p d ps, r) ∷ after) ≡ some (plainObject t d (pairMap ps))
   pub delete : (p : Bytes) (r : Reply) (before after : Trace) → accepted r ≡ true → Untouched p (before ++ (DELETE p, r) ∷ []) after
       → lastWrite p (before ++ (DELETE p, r) ∷ after) ≡ none
   -- of every path that a place names, whether its DELETE is accepted or finds nothing there
@@ -100,7 +101,7 @@ pub record LastWrite : Type 0 where
       → among p (map (nameAt names) ps) ≡ true → Untouched p (before ++ (DELETE-OBJECTS names ps over b, r) ∷ []) after
       → lastWrite p (before ++ (DELETE-OBJECTS names ps over b, r) ∷ after) ≡ none
   pub copy : (t : ℕ) (q p : Bytes) (r : Reply) (before after : Trace) → accepted r ≡ true → Untouched p (before ++ (COPY t q p, r) ∷ []) after
-      → lastWrite p (before ++ (COPY t q p, r) ∷ after) ≡ mapped (λ (x : Object). plainObject t (x .content)) (lastWrite q before)
-  pub commit : (u : ℕ) (ns : List ℕ) (t : ℕ) (p : Bytes) (r : Reply) (before after : Trace) → accepted r ≡ true → startOf u before ≡ some (t, p)
-      → Untouched p (before ++ (COMMIT u ns, r) ∷ []) after
-      → lastWrite p (before ++ (COMMIT u ns, r) ∷ after) ≡ mapped (joinedFrom t) (lastParts u before ns)
+      → lastWrite p (before ++ (COPY t q p, r) ∷ after) ≡ mapped (λ (x : Object). plainObject t (x .content) (x .pairs)) (lastWrite q before)
+  pub commit : (u : ℕ) (ns : List ℕ) (x : Start) (r : Reply) (before after : Trace) → accepted r ≡ true → startOf u before ≡ some x
+      → Untouched (x .path) (before ++ (COMMIT u ns, r) ∷ []) after
+      → lastWrite (x .path) (before ++ (COMMIT u ns, r) ∷ after) ≡ mapped (joinedFrom x) (lastParts u before ns)

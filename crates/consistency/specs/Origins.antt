@@ -15,7 +15,7 @@ use Rattle.consistency.specs.LastWrites.{Change, sets, copies, joins, re
 -- with this answer, the call opened the upload or sent it a part
 abbrev pub builds : (upload : ℕ) → Answer → Kind → Bool
 builds u a looks = false
-builds u a (initiates t p) = answers u a
+builds u a (initiates t p m) = answers u a
 builds u a (sends v n d) = eqb u v
 builds u a (commits v) = false
 builds u a other = false

@@ -1,55 +1,62 @@
 -- GET, HEAD and LIST show the last writes before them, and nothing else: the claim about every list of calls. Assumes nothing.
 use Prim.Native.Nat.{ℕ}
 use mathlib.Core.Path.{_≡_}
-use mathlib.Core.Bool.{cond}
+use mathlib.Core.Bool.{_&&_, cond}
 use mathlib.Core.List.{List, [], _∷_, _++_}
 use mathlib.Core.Option.{Option, none, some}
 use lib.Dec.{leb}
-use lib.ListN.{length, drop}
+use lib.ListN.{length}
 use Rattle.order.specs.Order.{byBytes}
 use Rattle.machine.specs.Map.{Map, lookup, records, Ascending}
 use Rattle.machine.specs.Names.{Bytes, requestPathOk}
+use Rattle.machine.specs.Pairs.{encodePairs}
 use Rattle.machine.specs.Etags.{absent}
 use Rattle.machine.specs.State.{Object, fresh}
-use Rattle.machine.specs.Calls.{Call, GET, HEAD, LIST, Answer, nothing, metadata, counts, Reply}
-use Rattle.machine.specs.Steps.{about, listed, listRecord}
+use Rattle.machine.specs.Calls.{Call, GET, HEAD, LIST, Answer, nothing, metadata, counts, Buffers, buffers, noBuffers, Reply}
+use Rattle.machine.specs.Steps.{written, about, listed, listRecord}
 use Rattle.machine.specs.Lists.{Trace, trace, final}
 use Rattle.consistency.specs.LastWrites.{lastWrite}
 
 -- a refusal, "alone"
-abbrev pub refusedBy : ℕ → (buffer : Bytes) → Reply
-refusedBy n b = record { result = n; answer = nothing; buffer = b }
+abbrev pub refusedBy : ℕ → (lent : Buffers) → Reply
+refusedBy n b = record { result = n; answer = nothing; buffers = b }
 
--- these bytes at the front of the buffer; 7 where it is too short for them
-abbrev pub shown : Answer → (out buffer : Bytes) → Reply
-shown a out b = cond (leb (length out) (length b)) (record { result = 0; answer = a; buffer = out ++ drop (length out) b }) (refusedBy 7 b)
+-- these bytes at the front of each buffer; 7 where one is too short for them
+abbrev pub shown : Answer → (out lent : Buffers) → Reply
+shown a out b =
+    cond (leb (length (out .answer)) (length (b .answer)) && leb (length (out .pairs)) (length (b .pairs)))
+    (record { result = 0; answer = a; buffers = written out b }) (refusedBy 7 b)
 
--- GET where this stands: its data and metadata; 3 where nothing does
-abbrev pub dataShown : (buffer : Bytes) → Option Object → Reply
+-- GET where this stands: its data, its pairs and its metadata; 3 where nothing does
+abbrev pub dataShown : (lent : Buffers) → Option Object → Reply
 dataShown b none = refusedBy 3 b
-dataShown b (some x) = shown (about x) (x .content) b
+dataShown b (some x) = shown (about x) (buffers (x .content) (encodePairs (x .pairs))) b
 
--- HEAD there: the metadata
-abbrev pub metadataShown : Option Object → Reply
-metadataShown none = refusedBy 3 []
-metadataShown (some x) = record { result = 0; answer = about x; buffer = [] }
+-- HEAD there: its pairs and its metadata
+abbrev pub metadataShown : (lent : Buffers) → Option Object → Reply
+metadataShown b none = refusedBy 3 b
+metadataShown b (some x) = shown (about x) (buffers [] (encodePairs (x .pairs))) b
 
--- GET of a path where this stands: the root has no data, and 2 answers a path that breaks its rule
-abbrev pub getShows : (path buffer : Bytes) → Option Object → Reply
-getShows [] b x = shown (metadata 0 0 absent) [] b
-getShows (c ∷ p) b x = cond (requestPathOk (c ∷ p)) (dataShown b x) (refusedBy 2 b)
+-- the root has neither data nor pairs
+abbrev pub rootShown : (lent : Buffers) → Reply
+rootShown b = shown (metadata 0 0 absent 0 0) noBuffers b
+
+-- GET of a path where this stands; 2 answers a path that breaks its rule
+abbrev pub getShows : (path buffer pairsBuffer : Bytes) → Option Object → Reply
+getShows [] b m x = rootShown (buffers b m)
+getShows (c ∷ p) b m x = cond (requestPathOk (c ∷ p)) (dataShown (buffers b m) x) (refusedBy 2 (buffers b m))
 
 -- HEAD of it
-abbrev pub headShows : (path : Bytes) → Option Object → Reply
-headShows [] x = record { result = 0; answer = metadata 0 0 absent; buffer = [] }
-headShows (c ∷ p) x = cond (requestPathOk (c ∷ p)) (metadataShown x) (refusedBy 2 [])
+abbrev pub headShows : (path pairsBuffer : Bytes) → Option Object → Reply
+headShows [] m x = rootShown (buffers [] m)
+headShows (c ∷ p) m x = cond (requestPathOk (c ∷ p)) (metadataShown (buffers [] m) x) (refusedBy 2 (buffers [] m))
 
 -- LIST of these objects
 abbrev pub listShows : (prefix suffix buffer : Bytes) → Map Bytes Object → Reply
 listShows prefix suffix b o =
     let l = listed prefix suffix o in
     let out = records listRecord l in
-    shown (counts (length l) (length out)) out b
+    shown (counts (length l) (length out)) (buffers out []) (buffers b [])
 
 -- the objects in ascending order of their paths, at each path what its last write left there
 pub record Objects (t : Trace) (o : Map Bytes Object) : Type 0 where
@@ -62,8 +69,8 @@ OneMap = (t : Trace) (o o′ : Map Bytes Object) → Objects t o → Objects t o
 
 -- Every GET, HEAD and LIST of a trace shows the last writes before it.
 pub record ReadsLastWrites (t : Trace) : Type 0 where
-  pub get : (before after : Trace) (p b : Bytes) (r : Reply) → t ≡ before ++ (GET p b, r) ∷ after → r ≡ getShows p b (lastWrite p before)
-  pub head : (before after : Trace) (p : Bytes) (r : Reply) → t ≡ before ++ (HEAD p, r) ∷ after → r ≡ headShows p (lastWrite p before)
+  pub get : (before after : Trace) (p b m : Bytes) (r : Reply) → t ≡ before ++ (GET p b m, r) ∷ after → r ≡ getShows p b m (lastWrite p before)
+  pub head : (before after : Trace) (p m : Bytes) (r : Reply) → t ≡ before ++ (HEAD p m, r) ∷ after → r ≡ headShows p m (lastWrite p before)
   pub list : (before after : Trace) (prefix suffix b : Bytes) (r : Reply) → t ≡ before ++ (LIST prefix suffix b, r) ∷ after
       → (o : Map Bytes Object) × Objects before o × (r ≡ listShows prefix suffix b o)
 

@@ -5,7 +5,7 @@ use mathlib.Core.Bool.{Bool, true, false, cond}
 use mathlib.Core.List.{List}
 use mathlib.Core.Option.{Option, none, some}
 use Rattle.machine.specs.State.{State}
-use Rattle.machine.specs.Calls.{Answer, Refusal, Outcome, refuse, accept, code, _else_then_, given}
+use Rattle.machine.specs.Calls.{Answer, Buffers, Refusal, Outcome, refuse, accept, code, _else_then_, given}
 use Rattle.machine.proofs.Outcome.{code-not-zero}
 use Rattle.contract.specs.Made.{resultOf}
 
@@ -34,7 +34,7 @@ passed true n o e = (refl, refl)
 passed false n o e = absurd (code-not-zero n e)
 
 -- the last test: the result number
-pub result-last : (b : Bool) (n : Refusal) (a : Answer) (out : List ℕ) (s : State) → resultOf (b else n then accept a out s) ≡ cond b 0 (code n)
+pub result-last : (b : Bool) (n : Refusal) (a : Answer) (out : Buffers) (s : State) → resultOf (b else n then accept a out s) ≡ cond b 0 (code n)
 unfolding _else_then_
 result-last true n a out s = refl
 result-last false n a out s = refl

@@ -6,7 +6,7 @@ use mathlib.Core.List.{List}
 use native.Mathlib.Omega.{arith}
 use lib.ListN.{length}
 use Rattle.machine.specs.State.{State}
-use Rattle.machine.specs.Calls.{Call, Reply, Answer, Outcome, refuse, accept, lent}
+use Rattle.machine.specs.Calls.{Call, Buffers, Reply, Answer, Outcome, refuse, accept, lent}
 use Rattle.machine.specs.Steps.{replyOf, after}
 use Rattle.layout.specs.Memory.{Stands}
 use Rattle.layout.proofs.StandsLaws.{stands-state, stands-whole}
@@ -51,7 +51,7 @@ module _ {k : Call} {m : Memory} where
 
   module _ {m′ : Memory} {r : Reply} where
     -- accepted: its reply and the memory that it leaves
-    pub done : (a : Answer) (out : List ℕ) (s : State) → outcome k m ≡ accept a out s → r ≡ replyOf (lent k) (accept a out s) → Stands (m′ .tables) (m′ .arena) s
+    pub done : (a : Answer) (out : Buffers) (s : State) → outcome k m ≡ accept a out s → r ≡ replyOf (lent k) (accept a out s) → Stands (m′ .tables) (m′ .arena) s
         → length (m′ .tables) ≡ length (m .tables) → length (m′ .arena) ≡ length (m .arena) → MadeWhole k m r m′
     done a out s is e h lt la =
         record {

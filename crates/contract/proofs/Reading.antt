@@ -1,11 +1,12 @@
 -- How a call that changes nothing meets its contract. Assumes nothing.
 use mathlib.Core.Path.{_≡_, refl}
 use mathlib.Core.Bool.{Bool, true, false}
+use mathlib.Core.List.{[]}
 use lib.Dec.{leb}
 use lib.ListN.{length}
 use Rattle.machine.specs.Names.{Bytes}
 use Rattle.machine.specs.State.{State}
-use Rattle.machine.specs.Calls.{Call, Answer, Reply, accept, bufferShort, _else_then_, lent}
+use Rattle.machine.specs.Calls.{Call, Answer, buffers, Reply, accept, bufferShort, _else_then_, lent}
 use Rattle.machine.specs.Steps.{write, replyOf, after}
 use Rattle.layout.specs.Memory.{Stands}
 use Rattle.contract.specs.Made.{Memory, wholeMemory, stateIn, outcome, Made}
@@ -29,6 +30,6 @@ pub write-keeps : (x : Answer) (out b : Bytes) (s : State) → after s (write x 
 unfolding _else_then_
 write-keeps x out b s = go (leb (length out) (length b))
   where
-    go : (fits : Bool) → after s (fits else bufferShort then accept x out s) ≡ s
+    go : (fits : Bool) → after s (fits else bufferShort then accept x (buffers out []) s) ≡ s
     go true = refl
     go false = refl

@@ -23,7 +23,7 @@ use Rattle.types.specs.declared.SweepAnswer.{SweepAnswer}
 use Rattle.types.specs.declared.SweepAnswer.the-variants as sweep
 use Rattle.machine.specs.Names.{Bytes}
 use Rattle.machine.specs.Etags as machine
-use Rattle.machine.specs.Calls.{NamePlace, Answer, nothing, metadata, etag, number, counts, swept, Reply}
+use Rattle.machine.specs.Calls.{NamePlace, Answer, nothing, metadata, etag, number, counts, swept, Buffers, buffers, noBuffers, Reply}
 
 -- an etag, with its digest as sixteen bytes
 abbrev pub etagOf : Etag → machine.Etag
@@ -32,54 +32,54 @@ etagOf (Plain d) = machine.plain (bytesOf d)
 etagOf (Joined d n) = machine.joined (bytesOf d) n
 
 abbrev pub metadataOf : Metadata → Answer
-metadataOf m = metadata (m .length) (m .created .0) (etagOf (m .etag))
+metadataOf m = metadata (m .length) (m .created .0) (etagOf (m .etag)) (m .pairs) (m .bytes)
 
--- a refusal returns only its number, and the answer buffer as it was
-abbrev pub refused : ℕ → Bytes → Reply
-refused n b = record { result = n; answer = nothing; buffer = b }
+-- a refusal returns only its number, and the answer buffers as they were
+abbrev pub refused : ℕ → Buffers → Reply
+refused n b = record { result = n; answer = nothing; buffers = b }
 
-abbrev pub success : Answer → Bytes → Reply
-success a b = record { result = 0; answer = a; buffer = b }
+abbrev pub success : Answer → Buffers → Reply
+success a b = record { result = 0; answer = a; buffers = b }
 
 -- PUT, DELETE, COPY, COMMIT and ABORT
 abbrev pub doneReply : DoneAnswer → Reply
-doneReply (done.Refused n) = refused n []
-doneReply done.Done = success nothing []
+doneReply (done.Refused n) = refused n noBuffers
+doneReply done.Done = success nothing noBuffers
 
 -- E1, DELETE_OBJECTS; b is what the result buffer holds
 abbrev pub resultsReply : DoneAnswer → Bytes → Reply
-resultsReply (done.Refused n) b = refused n b
-resultsReply done.Done b = success nothing b
+resultsReply (done.Refused n) b = refused n (buffers b [])
+resultsReply done.Done b = success nothing (buffers b [])
 
 -- "Success is 0.": a refusal has another number, so `Done` alone says that the call was done
 abbrev pub WellNumbered : DoneAnswer → Type 0
 WellNumbered (done.Refused n) = n ≡ 0 → ⊥
 WellNumbered done.Done = Unit {0}
 
--- GET and HEAD; b is what the answer buffer holds
-abbrev pub getReply : GetAnswer → Bytes → Reply
+-- GET and HEAD; b is what the answer buffers hold
+abbrev pub getReply : GetAnswer → Buffers → Reply
 getReply (get.Refused n) b = refused n b
 getReply (get.Found m) b = success (metadataOf m) b
 
 -- PART
 abbrev pub partReply : PartAnswer → Reply
-partReply (part.Refused n) = refused n []
-partReply (part.Stored e) = success (etag (etagOf e)) []
+partReply (part.Refused n) = refused n noBuffers
+partReply (part.Stored e) = success (etag (etagOf e)) noBuffers
 
 -- INITIATE
 abbrev pub initiateReply : InitiateAnswer → Reply
-initiateReply (initiate.Refused n) = refused n []
-initiateReply (initiate.Opened u) = success (number (u .0)) []
+initiateReply (initiate.Refused n) = refused n noBuffers
+initiateReply (initiate.Opened u) = success (number (u .0)) noBuffers
 
--- LIST and UPLOADS
+-- LIST and UPLOADS; b is what the answer buffer holds
 abbrev pub listReply : ListAnswer → Bytes → Reply
-listReply (list.Refused n) b = refused n b
-listReply (list.Written c) b = success (counts (c .records) (c .bytes)) b
+listReply (list.Refused n) b = refused n (buffers b [])
+listReply (list.Written c) b = success (counts (c .records) (c .bytes)) (buffers b [])
 
 -- E3, SWEEP: "how many it aborted and whether more are due"
 abbrev pub sweepReply : SweepAnswer → Reply
-sweepReply (sweep.Refused n) = refused n []
-sweepReply (sweep.Swept x) = success (swept (x .count) (x .more)) []
+sweepReply (sweep.Refused n) = refused n noBuffers
+sweepReply (sweep.Swept x) = success (swept (x .count) (x .more)) noBuffers
 
 -- "a part list goes as 16-bit numbers, low byte first, and an odd byte left over makes it unfit": 0 is no part's number
 unfoldable pub partList : Bytes → List ℕ

@@ -43,7 +43,7 @@ meantState k m = cond (wholeMemory m) (next (length (m .arena)) (stateIn m) k) (
 
 -- Call k over memory m answered r and left memory m′.
 pub record Made (k : Call) (m : Memory) (r : Reply) (m′ : Memory) : Type 0 where
-  -- number, values and every byte of the answer buffer
+  -- number, values and every byte of the answer buffers
   pub answers : r ≡ meantReply k m
   -- the state that memory stands for
   pub state : stateIn m′ ≡ meantState k m

@@ -8,4 +8,4 @@ use Rattle.machine.specs.Calls.{notFound, Outcome, given}
 use Rattle.machine.specs.Steps.{putAt}
 
 unfoldable pub sourceOutcome : (A : ℕ) → State → (stamp : ℕ) (source destination : Bytes) → Outcome
-sourceOutcome A s t p q = given (lookup byBytes p (s .O)) notFound (λ (x : Object). putAt A s t q (x .content))
+sourceOutcome A s t p q = given (lookup byBytes p (s .O)) notFound (λ (x : Object). putAt A s t q (x .content) (x .pairs))

@@ -1,4 +1,4 @@
-// COPY: the destination becomes what PUT of the source's data would make.
+// COPY: the destination becomes what PUT of the source's data and pairs would make.
 use md5::words::Digest;
 use types::DoneAnswer;
 use types::Stamp;
@@ -47,15 +47,17 @@ fn copy_judge(tables: &[u8], arena: &[u8], stamp: Stamp, source: &[u8], destinat
     source_judge(tables, arena, stamp, source, destination)
 }
 
-// The digest of the data at source.
+// The digest of the data at source, which stand in its block after its pairs.
 fn source_digest(tables: &[u8], arena: &[u8], source: &[u8]) -> Digest
     requires { ⌜ WholeObject (now tables) (now arena) (now source) ⌝ }
     ensures { λ r. ⌜ r ≡ md5 (contentAt (stateOf (now (tables .entry)) (now (arena .entry))) (now (source .entry))) ⌝ }
 {
     let place = find::find_object(tables, arena, source);
-    let h = row::read_head(tables, place.at);
-    let from = place.base;
-    let to = from + h.size as usize;
+    let at = place.at;
+    let base = place.base;
+    let h = row::read_head(tables, at);
+    let from = base + find::pairs_size(tables, at);
+    let to = base + h.size as usize;
     md5::digest(&arena[from..to])
 }
 
@@ -79,7 +81,7 @@ pub fn copy_whole(
     DoneAnswer::Done
 }
 
-// COPY: the destination becomes what PUT of the source's data with this stamp would make.
+// COPY: the destination becomes what PUT of the source's data and pairs with this stamp would make.
 pub fn copy(
     tables: &mut [u8],
     arena: &mut [u8],

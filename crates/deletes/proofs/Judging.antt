@@ -2,7 +2,7 @@
 use Prim.Native.Nat.{ℕ, _<_, _≤_}
 use mathlib.Core.Path.{_≡_, refl, sym, subst, _∙_}
 use mathlib.Core.Bool.{Bool, true, false, cond}
-use mathlib.Core.List.{List}
+use mathlib.Core.List.{List, []}
 use native.Mathlib.Omega.{arith}
 use borrow.Author.Tests.{leb-true, eqb-true, eq-eqb, ne-eqb}
 use lib.Dec.{leb, eqb}
@@ -10,7 +10,7 @@ use lib.ListN.{length}
 use Rattle.types.specs.declared.DoneAnswer.the-variants.{Refused, Done}
 use Rattle.machine.specs.Names.{Bytes}
 use Rattle.machine.specs.State.{State}
-use Rattle.machine.specs.Calls.{NamePlace, DELETE-OBJECTS, Answer, nothing, accept, Outcome, tooMany, badRequest, bufferShort, _else_then_}
+use Rattle.machine.specs.Calls.{NamePlace, DELETE-OBJECTS, Answer, nothing, Buffers, buffers, accept, Outcome, tooMany, badRequest, bufferShort, _else_then_}
 use Rattle.machine.specs.Steps.{act, placeResults, afterPlaces}
 use Rattle.contract.specs.Answers.{refused}
 use Rattle.number.specs.Number.{AreBytes}
@@ -21,7 +21,7 @@ use Rattle.deletes.specs.Judged.{listRefusal, Judged, turnsOf, answerOf}
 
 -- The three checks -----------------------------------------------------------------------------------------------------
 
-module _ (a : Answer) (out : Bytes) (s : State) where
+module _ (a : Answer) (out : Buffers) (s : State) where
   checks : (few none fits : Bool) → Outcome
   checks few none fits = few else tooMany then none else badRequest then fits else bufferShort then accept a out s
 
@@ -65,20 +65,20 @@ module _ (names : Bytes) (ps : List NamePlace) (over : ℕ) (b : Bytes) (m : Mem
       go true w e = is w e
       go false w e = isn't w e
 
-  pub refused-made : (n ≡ 0 → ⊥) → Made (DELETE-OBJECTS names ps over b) m (refused n b) m
+  pub refused-made : (n ≡ 0 → ⊥) → Made (DELETE-OBJECTS names ps over b) m (refused n (buffers b [])) m
   unfolding outcome act listRefusal checks
   refused-made not =
       by-whole
-      (λ w e. over-whole w (judged n (e ∙ sym (number-is nothing results last (leb (length ps) 1000) (eqb over 0) (leb (length ps) (length b)))) not))
-      (λ w e. subst (λ (x : ℕ). Made (DELETE-OBJECTS names ps over b) m (refused x b) m) (sym e) (not-whole w))
+      (λ w e. over-whole w (judged n (e ∙ sym (number-is nothing (buffers results []) last (leb (length ps) 1000) (eqb over 0) (leb (length ps) (length b)))) not))
+      (λ w e. subst (λ (x : ℕ). Made (DELETE-OBJECTS names ps over b) m (refused x (buffers b [])) m) (sym e) (not-whole w))
 
   -- accepted: the results fit, and the machine accepts
-  pub accepted : n ≡ 0 → (wholeMemory m ≡ true) × (length ps ≤ length b) × (outcome (DELETE-OBJECTS names ps over b) m ≡ accept nothing results last)
+  pub accepted : n ≡ 0 → (wholeMemory m ≡ true) × (length ps ≤ length b) × (outcome (DELETE-OBJECTS names ps over b) m ≡ accept nothing (buffers results []) last)
   unfolding outcome act listRefusal checks
   accepted z =
       by-whole
       (λ w e.
-      let h = all-passed nothing results last (leb (length ps) 1000) (eqb over 0) (leb (length ps) (length b)) (sym e ∙ z) in
+      let h = all-passed nothing (buffers results []) last (leb (length ps) 1000) (eqb over 0) (leb (length ps) (length b)) (sym e ∙ z) in
       (w, leb-true _ _ (h .0), h .1))
       (λ w e. absurd (omega arith))
 

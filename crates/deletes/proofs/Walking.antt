@@ -11,7 +11,7 @@ use lib.ListN.{length, take, drop, getD, set}
 use lib.Seq.{take-all, take-suc, drop-cons, length-take-le, set-at, append-snoc}
 use Rattle.machine.specs.Names.{Bytes}
 use Rattle.machine.specs.State.{State}
-use Rattle.machine.specs.Calls.{NamePlace, DELETE-OBJECTS, nothing}
+use Rattle.machine.specs.Calls.{NamePlace, DELETE-OBJECTS, nothing, buffers, noBuffers}
 use Rattle.machine.specs.Steps.{deletePlace, placeResults, afterPlaces, replyOf}
 use Rattle.machine.proofs.Places.{length-results, after-more, results-more}
 use Rattle.layout.specs.Memory.{Stands}
@@ -49,7 +49,7 @@ module _ (names : Bytes) (ps : List NamePlace) (s : State) (b₀ : Bytes) (i : �
   one-more : take (i + 1) ps ≡ before ++ (p ∷ [])
   one-more = rw (add-one, take-suc ps i none i<)
 
-  written : (n : ℕ) → n ≡ replyOf [] (deletePlace (afterPlaces s names before) names p) .result
+  written : (n : ℕ) → n ≡ replyOf noBuffers (deletePlace (afterPlaces s names before) names p) .result
       → set (placeResults s names before ++ drop i b₀) i n ≡ placeResults s names (take (i + 1) ps) ++ drop (i + 1) b₀
   written n e =
       let l : length (placeResults s names before) ≡ i = length-results s names before ∙ length-take-le i ps (omega arith) in
@@ -119,7 +119,7 @@ module _ (names : Bytes) (ps : List NamePlace) (over : ℕ) (m₀ : Memory) (b�
         let rest : b ≡ out ++ drop (length out) b₀ =
         d .results ∙ ap (λ (l : List NamePlace). placeResults (stateIn m₀) names l ++ drop i b₀) all ∙ ap (λ (x : ℕ). out ++ drop x b₀) (i-is ∙ sym (length-results (stateIn m₀) names ps)) in
         rw (answers-done n z)
-        (over-whole (a .0) (done nothing out _ (a .2) (ap (success nothing) rest) (rw all at (d .stands)) (t .tables-length) (t .arena-length)), tt)
+        (over-whole (a .0) (done nothing (buffers out []) _ (a .2) (ap (λ (l : Bytes). success nothing (buffers l [])) rest) (rw all at (d .stands)) (t .tables-length) (t .arena-length)), tt)
 
     ended-refused : (n ≡ 0 → ⊥) → Ended
     unfolding Ended

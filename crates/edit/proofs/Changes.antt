@@ -71,7 +71,7 @@ module _ (s : State) (u : ℕ) (x : Upload) (f : lookup byNumber u (s .U) ≡ so
 
   -- the upload with other parts
   abbrev changed : Map ℕ Part → Upload
-  changed ps = record { path = x .path; started = x .started; parts = ps }
+  changed ps = record { path = x .path; started = x .started; pairs = x .pairs; parts = ps }
 
   changed-rows : (ps : Map ℕ Part) → rowsOf (withUpload s u (changed ps)) ≡ beforeParts s u x ++ (partRows ps ++ afterUpload s u)
   unfolding rowsOf beforeParts beforeUpload afterUpload uploadRows

@@ -8,6 +8,7 @@ use Rattle.machine.specs.Map.{Map, Every, total}
 use Rattle.machine.specs.Names.{Bytes}
 use Rattle.machine.specs.State.{Object, Part, Upload, State, partsIn}
 use Rattle.machine.specs.Valid.{ObjectOk, UploadOk, Valid}
+use Rattle.machine.proofs.PairLaws.{kept-few}
 use Rattle.row.specs.Row.{encodeRow, encodeRows, headLength, longestRow, EncodableAll}
 use Rattle.row.proofs.RowLaws.{length-row, encode-append, encodable-left, encodable-right}
 use Rattle.layout.specs.Header.{headerLength}
@@ -20,6 +21,7 @@ unfolding objectRows encodeRows
 objects-most [] f v = omega arith
 objects-most (e ∷ m) f v =
     let q = stored-path-length (e .0) (v .0 .path) .below in
+    let n = kept-few (e .1 .pairs) (v .0 .pairs) in
     omega (arith, length-append (encodeRow (objectRow (e .0) (e .1))) (encodeRows (objectRows m)), length-row _ (f .0), objects-most m (f .1) (v .1))
 
 parts-most : (ps : Map ℕ Part) → EncodableAll (partRows ps) → length (encodeRows (partRows ps)) ≤ headLength * length ps
@@ -34,6 +36,7 @@ unfolding uploadRows encodeRows
 uploads-most N [] f v = omega arith
 uploads-most N (e ∷ us) f v =
     let q = stored-path-length (e .1 .path) (v .0 .path) .below in
+    let n = kept-few (e .1 .pairs) (v .0 .pairs) in
     let ps = partRows (e .1 .parts) in
     omega (
       arith,

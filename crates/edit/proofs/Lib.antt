@@ -7,3 +7,4 @@ pub mod ObjectEdits
 pub mod Tail
 pub mod MapEdits
 pub mod PutLaws
+pub mod BlockLaws

@@ -1,5 +1,5 @@
 -- One row taken out or put in: what the functions that do it require, and what memory then stands for. Assumes nothing.
-use Prim.Native.Nat.{ℕ, _+_, _-_, _≤_}
+use Prim.Native.Nat.{ℕ, _+_, _-_, _*_, _≤_}
 use mathlib.Core.Path.{_≡_, refl, ap, _∙_}
 use mathlib.Core.List.{List, [], _∷_, _++_}
 use native.Mathlib.Omega.{arith}
@@ -15,6 +15,7 @@ use Rattle.layout.specs.Memory.{rowsOf, Stands}
 use Rattle.layout.proofs.RowCounts.{length-contents}
 use Rattle.layout.specs.Header.{headerOf, headed, headerLength}
 use Rattle.find.proofs.RowsAt.{At, row-at}
+use Rattle.edit.specs.Rows.{Insertable}
 use Rattle.edit.proofs.Fit.{tables-fit}
 use Rattle.edit.proofs.Standing.{removed, inserted}
 
@@ -54,11 +55,14 @@ module _ (t a : List ℕ) (s : State) (h : Stands t a s) (xs : List Row) (r : Ro
       pathlen-is : head .pathlen ≡ length (r .path)
       pathlen-is = ap (λ (x : Head). x .pathlen) head-of
 
+      pairs-is : head .pairs ≡ r .pairs
+      pairs-is = ap (λ (x : Head). x .pairs) head-of
+
       size-is : head .size ≡ length (r .content)
       size-is = ap (λ (x : Head). x .size) head-of
 
       pub rows-inside : (headerLength ≤ at) × (at + span head ≤ used) × (used ≤ length t)
-      rows-inside = (omega (arith, at-is), omega (arith, rows-length, pathlen-is), used-inside)
+      rows-inside = (omega (arith, at-is), omega (arith, rows-length, pathlen-is, pairs-is), used-inside)
 
       pub data-inside : (base + head .size ≤ end) × (end ≤ length a)
       data-inside = (omega (arith, data-length, size-is), end-inside)
@@ -68,13 +72,13 @@ module _ (t a : List ℕ) (s : State) (h : Stands t a s) (xs : List Row) (r : Ro
           → length t′ ≡ length t → length a′ ≡ length a → Stands t′ a′ s′
       unfolding encodeRows contentsOf
       removed-stands s′ valid split′ t′ a′ header is e e′ l l′ =
-          let n-is : span head ≡ length (encodeRow r ++ []) = omega (arith, pathlen-is, length-row r (here .encodable), length-append (encodeRow r) []) in
+          let n-is : span head ≡ length (encodeRow r ++ []) = omega (arith, pathlen-is, pairs-is, length-row r (here .encodable), length-append (encodeRow r) []) in
           let m-is : head .size ≡ length (r .content ++ []) = omega (arith, size-is, length-append (r .content) []) in
           removed t a s h s′ valid (spliced t at (span head) used []) t′ a′ header is e l l′ xs (r ∷ []) ys at (span head) used base (head .size) end split split′
           at-is n-is used-is refl base-is m-is end-is e′
 
   -- the row r put in; its data stand after the last byte held
-  module _ (split : rowsOf s ≡ xs ++ ys) (s′ : State) (valid : Valid (length a) s′) (split′ : rowsOf s′ ≡ xs ++ (r ∷ ys)) (path : length (r .path) ≤ 128)
+  module _ (split : rowsOf s ≡ xs ++ ys) (s′ : State) (valid : Valid (length a) s′) (split′ : rowsOf s′ ≡ xs ++ (r ∷ ys)) (short : length (r .path) ≤ 128) (few : length (r .lengths) ≤ 16)
       (encodable : Encodable r) (content : take (length (r .content)) (drop (held s) a) ≡ r .content) (room : held s + length (r .content) ≤ length a) where
     old-length : length (encodeRows (rowsOf s)) ≡ length (encodeRows xs) + length (encodeRows ys)
     old-length = ap length (ap encodeRows split ∙ encode-append xs ys) ∙ length-append (encodeRows xs) (encodeRows ys)
@@ -88,10 +92,17 @@ module _ (t a : List ℕ) (s : State) (h : Stands t a s) (xs : List Row) (r : Ro
         ap length (ap encodeRows split′ ∙ encode-append xs (r ∷ ys))
         ∙ omega (arith, length-append (encodeRows xs) (encodeRow r ++ encodeRows ys), length-append (encodeRow r) (encodeRows ys), length-row r encodable)
 
-    pub row-room : (headerLength ≤ at) × (at ≤ used) × (length (r .path) ≤ 128) × (used + span (headOf r) ≤ length t)
-    row-room =
+    pub row-room : (head : Head) → head ≡ headOf r → Insertable t at used head (r .path) (r .lengths)
+    row-room head is =
         let f = tables-fit (length a) s′ (h .small) valid in
-        (omega (arith, at-is), omega (arith, old-length), path, omega (arith, old-length, new-length, h .size))
+        record {
+          past-header = omega (arith, at-is);
+          within = omega (arith, old-length);
+          short = short;
+          few = few;
+          shared = omega (arith, encodable .fits .1 .1 .1 .0, ap (λ (x : Head). x .kind + 4 * x .pairs) is);
+          room = omega (arith, old-length, new-length, h .size, encodable .lengths);
+        }
 
     pub base-inside : base ≤ end
     base-inside = omega (arith, old-data)
@@ -99,12 +110,12 @@ module _ (t a : List ℕ) (s : State) (h : Stands t a s) (xs : List Row) (r : Ro
     pub data-room : base + (end - base) + length (r .content) ≤ length a
     data-room = omega (arith, old-data, room, length-contents s)
 
-    pub inserted-stands : (t′ a′ path digest : List ℕ) (head : Head) (header : Header) (size : ℕ) → header ≡ headerOf (length a) s′
-        → head ≡ headOf r → digest ≡ r .digest → path ≡ r .path → size ≡ length (r .content)
-        → t′ ≡ headed (spliced t at 0 used (rowBytes head digest path)) header → a′ ≡ rotated a base (end - base) size
+    pub inserted-stands : (t′ a′ path digest lengths : List ℕ) (head : Head) (header : Header) (size : ℕ) → header ≡ headerOf (length a) s′
+        → head ≡ headOf r → digest ≡ r .digest → path ≡ r .path → lengths ≡ r .lengths → size ≡ length (r .content)
+        → t′ ≡ headed (spliced t at 0 used (rowBytes head digest path lengths)) header → a′ ≡ rotated a base (end - base) size
         → length t′ ≡ length t → length a′ ≡ length a → Stands t′ a′ s′
-    inserted-stands t′ a′ p d head header size is head-is d-is p-is size-is e e′ l l′ =
-        let bytes : rowBytes head d p ≡ encodeRow r = rw (head-is, d-is, p-is) in
+    inserted-stands t′ a′ p d ls head header size is head-is d-is p-is ls-is size-is e e′ l l′ =
+        let bytes : rowBytes head d p ls ≡ encodeRow r = rw (head-is, d-is, p-is, ls-is) in
         let left : end - base ≡ length (contentsOf ys) = omega (arith, old-data) in
-        inserted t a s h s′ valid (spliced t at 0 used (rowBytes head d p)) t′ a′ header is e l l′ xs r ys at used base (end - base) (rowBytes head d p) split split′
+        inserted t a s h s′ valid (spliced t at 0 used (rowBytes head d p ls)) t′ a′ header is e l l′ xs r ys at used base (end - base) (rowBytes head d p ls) split split′
         bytes at-is used-is refl base-is left (e′ ∙ ap (rotated a base (end - base)) size-is) content

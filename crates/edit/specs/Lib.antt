@@ -1,2 +1,4 @@
 pub mod Edits
+pub mod Rows
 pub mod Objects
+pub mod Blocks

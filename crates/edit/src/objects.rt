@@ -7,6 +7,8 @@ ghost use mathlib.Core.Bool.{true};
 ghost use Rattle.machine.specs.State.{withoutObject, withObject};
 ghost use Rattle.layout.specs.Memory.{whole};
 ghost use Rattle.find.specs.Known.{WholeObject};
+ghost use Rattle.machine.specs.Pairs.{pairsOk, pairList};
+ghost use Rattle.edit.specs.Blocks.{keptOf};
 ghost use Rattle.edit.specs.Edits.{MayBecome, Becomes};
 ghost use Rattle.edit.specs.Objects.{Addable, objectAfterHeld, plainWith};
 
@@ -35,7 +37,8 @@ pub fn remove_object(tables: &mut [u8], arena: &mut [u8], path: &[u8])
     buffer::remove(arena, base, m, end.base);
 }
 
-// An object put in at a path that has none; its data, `size` bytes, stand after the last byte held.
+// An object put in at a path that has none. Its block, `size` bytes, stands after the last byte held: pairs of these
+// lengths, then data.
 pub fn add_object(
     tables: &mut [u8],
     arena: &mut [u8],
@@ -44,12 +47,14 @@ pub fn add_object(
     count: u16,
     digest: Digest,
     path: &[u8],
+    lengths: &[u8],
     size: usize,
 )
-    requires { ⌜ Addable (now tables) (now arena) stamp kind count digest (now path) size ⌝ }
+    requires { ⌜ Addable (now tables) (now arena) stamp kind count digest (now path) (now lengths) size ⌝ }
     ensures { λ _. ⌜ Becomes (now (tables .entry)) (now (arena .entry)) (now (tables .exit)) (now (arena .exit))
         (λ s. withObject s (now (path .entry))
-        (objectAfterHeld (now (tables .entry)) (now (arena .entry)) stamp kind count digest size)) ⌝ }
+        (objectAfterHeld (now (tables .entry)) (now (arena .entry)) stamp kind count digest
+        (now (lengths .entry)) size)) ⌝ }
 {
     let place = find::find_object(tables, arena, path);
     let end = find::rows_end(tables, arena);
@@ -61,6 +66,7 @@ pub fn add_object(
         number: 0,
         stamp,
         kind,
+        pairs: (lengths.len() / 2) as u8,
         pathlen: path.len() as u8,
         count,
     };
@@ -71,12 +77,12 @@ pub fn add_object(
         uploads: header.uploads,
         parts: header.parts,
     };
-    crate::rows::insert_row(tables, place.at, end.at, h, digest, path, after);
+    crate::rows::insert_row(tables, place.at, end.at, h, digest, path, lengths, after);
     buffer::rotate(arena, base, held - base, size);
 }
 
-// The object at path becomes one with this data and a plain etag. What stood there goes first, so that its bytes are
-// free.
+// The object at path becomes one with this data and these pairs, and a plain etag. What stood there goes first, so that
+// its bytes are free.
 pub fn put_object(
     tables: &mut [u8],
     arena: &mut [u8],
@@ -84,16 +90,19 @@ pub fn put_object(
     digest: Digest,
     path: &[u8],
     content: &[u8],
+    pairs: &[u8],
 )
-    requires { ⌜ MayBecome (now tables) (now arena)
-        (λ s. withObject s (now path) (plainWith stamp digest (now content))) ⌝ }
+    requires { ⌜ (pairsOk (pairList (now pairs)) ≡ true) × MayBecome (now tables) (now arena)
+        (λ s. withObject s (now path) (plainWith stamp digest (now content) (keptOf (now pairs)))) ⌝ }
     ensures { λ _. ⌜ Becomes (now (tables .entry)) (now (arena .entry)) (now (tables .exit)) (now (arena .exit))
-        (λ s. withObject s (now (path .entry)) (plainWith stamp digest (now (content .entry)))) ⌝ }
+        (λ s. withObject s (now (path .entry))
+        (plainWith stamp digest (now (content .entry)) (keptOf (now (pairs .entry))))) ⌝ }
 {
     free_path(tables, arena, path);
     let end = find::rows_end(tables, arena);
-    let held = end.base;
-    buffer::copy_at(arena, held, content);
+    let mut lengths = [0u8; 16];
+    let block = crate::blocks::write_block(arena, end.base, pairs, content, &mut lengths);
+    let n = block.lengths;
     add_object(
         tables,
         arena,
@@ -102,7 +111,8 @@ pub fn put_object(
         0,
         digest,
         path,
-        content.len(),
+        &lengths[..n],
+        block.bytes,
     );
 }
 

@@ -9,7 +9,8 @@ ghost use lib.ListN.{length};
 ghost use Rattle.md5.specs.Md5.{bytesOf};
 ghost use Rattle.buffer.specs.Buffer.{spliced};
 ghost use Rattle.layout.specs.Header.{headed, headerLength};
-ghost use Rattle.row.specs.Row.{rowBytes, headLength};
+ghost use Rattle.row.specs.Row.{rowBytes};
+ghost use Rattle.edit.specs.Rows.{Insertable};
 
 // A row put in at `at`, where `used` bytes of the tables are used.
 pub fn insert_row(
@@ -19,16 +20,17 @@ pub fn insert_row(
     h: Head,
     digest: Digest,
     path: &[u8],
+    lengths: &[u8],
     header: Header,
 )
-    requires { ⌜ (headerLength ≤ at) × (at ≤ used) × (length (now path) ≤ 128)
-        × (used + (headLength + length (now path)) ≤ length (now tables)) ⌝ }
+    requires { ⌜ Insertable (now tables) at used h (now path) (now lengths) ⌝ }
     ensures { λ _. ⌜ now (tables .exit)
-        ≡ headed (spliced (now (tables .entry)) at 0 used (rowBytes h (bytesOf digest) (now (path .entry)))) header ⌝ }
+        ≡ headed (spliced (now (tables .entry)) at 0 used
+        (rowBytes h (bytesOf digest) (now (path .entry)) (now (lengths .entry)))) header ⌝ }
 {
     let mut row = [0u8; row::LONGEST_ROW];
-    row::write_row(&mut row, h, digest, path);
-    let n = row::HEAD_LENGTH + path.len();
+    row::write_row(&mut row, h, digest, path, lengths);
+    let n = row::HEAD_LENGTH + path.len() + lengths.len();
     buffer::splice(tables, at, 0, used, &row[..n]);
     layout::headers::write_header(tables, header);
 }

@@ -1,109 +1,93 @@
 -- An object copied to another path: what the steps require, and what memory then stands for. Assumes nothing.
-use Prim.Native.Nat.{ℕ, _+_, _≤_}
+use Prim.Native.Nat.{ℕ, _≤_}
 use mathlib.Core.Path.{_≡_, sym, ap, ap₂, _∙_, subst}
 use mathlib.Core.Bool.{false, true≢false}
 use mathlib.Core.List.{List, _++_}
-use mathlib.Core.Option.{some}
 use native.Mathlib.Omega.{arith}
-use lib.ListN.{length, take, drop}
-use Rattle.number.specs.Number.{AreBytes}
-use Rattle.number.proofs.Fields.{over}
+use lib.ListN.{length, take}
+use Rattle.number.specs.Number.{AreBytes, over}
 use Rattle.md5.specs.declared.words.Digest.{Digest}
 use Rattle.order.specs.Order.{byBytes, same}
 use Rattle.order.proofs.OrderLaws.{bytes, same-self}
-use Rattle.machine.specs.Map.{lookup}
-use Rattle.machine.specs.State.{Object, State, withObject, withoutObject}
+use Rattle.machine.specs.Map.{Map, isSome, lookup}
+use Rattle.machine.specs.Names.{Bytes}
+use Rattle.machine.specs.State.{State, withObject, withoutObject}
 use Rattle.machine.specs.Valid.{Valid}
 use Rattle.machine.proofs.MapLaws.{lookup-remove-other}
-use Rattle.row.specs.declared.Head.{Head}
-use Rattle.row.specs.Row.{encodeRows, contentsOf, headAt, headLength}
+use Rattle.stored_pairs.specs.Stored.{pairLengths, pairBytes}
 use Rattle.layout.specs.Rules.{plainKind}
-use Rattle.layout.specs.Memory.{rowsOf, objectRow, stateOf, Stands}
+use Rattle.layout.specs.Memory.{rowsOf, stateOf, Stands}
 use Rattle.layout.proofs.WholeLaws.{whole-stands}
-use Rattle.layout.proofs.StandsLaws.{stands-state}
+use Rattle.layout.proofs.StandsLaws.{stands-state, stands-whole}
 use Rattle.find.specs.declared.RowPlace.{RowPlace}
-use Rattle.layout.specs.Header.{headerLength}
-use Rattle.find.specs.declared.Lookup.{Lookup}
-use Rattle.find.specs.Places.{placeAfter, beforeObject, afterObject, objectPlace}
-use Rattle.find.proofs.Splits.{object-found}
-use Rattle.find.proofs.RowsAt.{At, row-at}
-use Rattle.find.proofs.Found.{is-some}
-use Rattle.edit.specs.Objects.{objectAfterHeld, plainWith, Addable}
+use Rattle.find.specs.Places.{placeAfter}
+use Rattle.edit.specs.declared.blocks.BlockSizes.{BlockSizes}
+use Rattle.edit.specs.Objects.{objectAfterHeld, Addable}
 use Rattle.edit.proofs.PutLaws.{put-room, put-addable, put-stands}
-use Rattle.edit_copy.specs.Copy.{contentIn, contentAt, Copiable}
+use Rattle.edit_copy.specs.Copy.{contentIn, pairsIn, contentAt, keptAt, blockLength, copied, Copiable, BlockCopiable, CopiedBlock}
 
+-- memory t₁, a₁ stands for the state without the object at q
 module _ (t a p q : List ℕ) (b : AreBytes t) (stamp : ℕ) (digest : Digest) (pre : Copiable t a stamp digest p q) (other : same p q ≡ false)
     (t₁ a₁ : List ℕ) (h : Stands t₁ a₁ (withoutObject (stateOf t a) q)) (keeps : length a₁ ≡ length a)
-    (end : RowPlace) (end-is : end ≡ placeAfter (rowsOf (stateOf t₁ a₁))) (place : Lookup) (place-is : place ≡ objectPlace (stateOf t₁ a₁) p) where
+    (end : RowPlace) (end-is : end ≡ placeAfter (rowsOf (stateOf t₁ a₁))) where
   abbrev s : State
   s = stateOf t a
 
   abbrev v : Valid (length a) s
   v = whole-stands t a b (pre .is-whole) .valid
 
-  abbrev s₁ : State
-  s₁ = withoutObject s q
+  abbrev m : Map Bytes Bytes
+  m = keptAt s p
 
-  abbrev x : Object
-  x = is-some (lookup byBytes p (s .O)) (pre .there) .0
-
-  found : lookup byBytes p (s .O) ≡ some x
-  found = is-some (lookup byBytes p (s .O)) (pre .there) .1
+  abbrev content : List ℕ
+  content = contentAt s p
 
   differ : p ≡ q → ⊥
   differ e = true≢false (sym (same-self q) ∙ ap (λ (l : List ℕ). same l q) (sym e) ∙ other)
 
-  found₁ : lookup byBytes p (s₁ .O) ≡ some x
-  found₁ = lookup-remove-other bytes p q (s .O) (v .objects) differ ∙ found
+  -- the source is as it was
+  still-there : lookup byBytes p (stateOf t₁ a₁ .O) ≡ lookup byBytes p (s .O)
+  still-there = ap (λ (z : State). lookup byBytes p (z .O)) (stands-state t₁ a₁ (withoutObject s q) h) ∙ lookup-remove-other bytes p q (s .O) (v .objects) differ
 
-  content-is : contentAt s p ≡ x .content
+  content-same : contentAt (stateOf t₁ a₁) p ≡ content
   unfolding contentAt
-  content-is = ap contentIn found
+  content-same = ap contentIn still-there
 
-  here : At t₁ a₁ s₁ h (beforeObject s₁ p) (objectRow p x) (afterObject s₁ p)
-  here = row-at t₁ a₁ s₁ h (beforeObject s₁ p) (objectRow p x) (afterObject s₁ p) (object-found s₁ p x found₁)
+  pairs-same : keptAt (stateOf t₁ a₁) p ≡ m
+  unfolding keptAt
+  pairs-same = ap pairsIn still-there
 
-  place-of : place ≡ objectPlace s₁ p
-  place-of = place-is ∙ ap (λ (z : State). objectPlace z p) (stands-state t₁ a₁ s₁ h)
+  length-same : blockLength (stateOf t₁ a₁) p ≡ blockLength s p
+  length-same = rw (content-same, pairs-same)
 
-  at-is : place .at ≡ headerLength + length (encodeRows (beforeObject s₁ p))
-  unfolding objectPlace
-  at-is = ap (λ (z : Lookup). z .at) place-of
+  pub copy-ready : (lengths : List ℕ) → 16 ≤ length lengths → BlockCopiable t₁ a₁ p (end .base) lengths
+  copy-ready lengths r =
+      record {
+        is-there = (stands-whole t₁ a₁ (withoutObject s q) h, ap isSome still-there ∙ pre .there);
+        room = omega (arith, length-same, put-room s q content m stamp digest (length a) v (pre .valid) t₁ a₁ h keeps end end-is);
+        lengths-room = r;
+      }
 
-  base-is : place .base ≡ length (contentsOf (beforeObject s₁ p))
-  unfolding objectPlace
-  base-is = ap (λ (z : Lookup). z .base) place-of
+  -- the block is copied after the last byte held
+  module _ (r : BlockSizes) (a₂ lengths : List ℕ) (w : CopiedBlock t₁ a₁ p (end .base) r a₂ lengths) (keeps₂ : length a₂ ≡ length a₁) where
+    lengths-are : take (r .lengths) lengths ≡ pairLengths m
+    lengths-are = w .lengths ∙ ap pairLengths pairs-same
 
-  pub source-inside : place .at + headLength ≤ length t₁
-  source-inside = omega (arith, at-is, here .inside)
+    size-is : r .bytes ≡ blockLength s p
+    size-is = w .bytes ∙ length-same
 
-  valid-content : Valid (length a) (withObject s q (plainWith stamp digest (x .content)))
-  valid-content = subst (λ (d : List ℕ). Valid (length a) (withObject s q (plainWith stamp digest d))) content-is (pre .valid)
+    block-is : a₂ ≡ over a₁ (end .base) (pairBytes m ++ content) (r .bytes)
+    block-is = w .block ∙ ap₂ (λ (k : Map Bytes Bytes) (d : List ℕ). over a₁ (end .base) (pairBytes k ++ d) (r .bytes)) pairs-same content-same
 
-  module _ (head : Head) (head-is : head ≡ headAt (drop (place .at) t₁)) where
-    size-is : head .size ≡ length (x .content)
-    size-is = ap (λ (z : Head). z .size) (head-is ∙ ap (λ (i : ℕ). headAt (drop i t₁)) at-is ∙ here .head)
+    pub copy-addable : Addable t₁ a₂ stamp plainKind 0 digest q (take (r .lengths) lengths) (r .bytes)
+    copy-addable =
+        subst (λ (ls : List ℕ). Addable t₁ a₂ stamp plainKind 0 digest q ls (r .bytes)) (sym lengths-are)
+        (put-addable s q content m stamp digest (length a) v (pre .valid) t₁ a₁ h keeps end end-is a₂ (r .bytes) size-is block-is keeps₂)
 
-    pub copy-inside : (place .base + head .size ≤ length a₁) × (end .base + head .size ≤ length a₁)
-    copy-inside =
-        let r = put-room s q (x .content) stamp digest (length a) v valid-content t₁ a₁ h keeps end end-is in
-        (omega (arith, base-is, size-is, here .arena-inside), omega (arith, size-is))
-
-    module _ (a₂ : List ℕ) (e : a₂ ≡ take (end .base) a₁ ++ take (head .size) (drop (place .base) a₁) ++ drop (end .base + head .size) a₁) (keeps₂ : length a₂ ≡ length a₁) where
-      read : take (head .size) (drop (place .base) a₁) ≡ x .content
-      read = ap₂ (λ (n i : ℕ). take n (drop i a₁)) size-is base-is ∙ here .content
-
-      written : a₂ ≡ over a₁ (end .base) (x .content) (length (x .content))
-      written = e ∙ ap₂ (λ (d : List ℕ) (n : ℕ). take (end .base) a₁ ++ d ++ drop (end .base + n) a₁) read size-is
-
-      pub copy-addable : Addable t₁ a₂ stamp plainKind 0 digest q (head .size)
-      copy-addable = subst (Addable t₁ a₂ stamp plainKind 0 digest q) (sym size-is) (put-addable s q (x .content) stamp digest (length a) v valid-content t₁ a₁ h keeps end end-is a₂ written keeps₂)
-
-      pub copy-stands : (t′ a′ : List ℕ) → Stands t′ a′ (withObject (stateOf t₁ a₂) q (objectAfterHeld t₁ a₂ stamp plainKind 0 digest (head .size))) → Stands t′ a′ (withObject s q (plainWith stamp digest (contentAt s p)))
-      copy-stands t′ a′ g =
-          subst (λ (d : List ℕ). Stands t′ a′ (withObject s q (plainWith stamp digest d))) (sym content-is)
-          (put-stands s q (x .content) stamp digest (length a) v valid-content t₁ a₁ h keeps end end-is a₂ written keeps₂ t′ a′
-          (subst (λ (n : ℕ). Stands t′ a′ (withObject (stateOf t₁ a₂) q (objectAfterHeld t₁ a₂ stamp plainKind 0 digest n))) size-is g))
+    pub copy-stands : (t′ a′ : List ℕ) → Stands t′ a′ (withObject (stateOf t₁ a₂) q (objectAfterHeld t₁ a₂ stamp plainKind 0 digest (take (r .lengths) lengths) (r .bytes))) → Stands t′ a′ (copied stamp digest p q s)
+    copy-stands t′ a′ g =
+        put-stands s q content m stamp digest (length a) v (pre .valid) t₁ a₁ h keeps end end-is a₂ (r .bytes) size-is block-is keeps₂ t′ a′
+        (subst (λ (ls : List ℕ). Stands t′ a′ (withObject (stateOf t₁ a₂) q (objectAfterHeld t₁ a₂ stamp plainKind 0 digest ls (r .bytes)))) lengths-are g)
 
 -- a copy to the same path
 pub same-path : (t a p q : List ℕ) (stamp : ℕ) (digest : Digest) → p ≡ q → Copiable t a stamp digest p q → Copiable t a stamp digest p p

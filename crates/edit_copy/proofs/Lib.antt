@@ -1,2 +1,3 @@
+pub mod Source
 pub mod Restamping
 pub mod Copying

@@ -1,36 +1,60 @@
 // An object copied, to another path or to its own.
-use layout::Header;
+use edit::blocks::BlockSizes;
 use md5::words::Digest;
 use row::Head;
 ghost use mathlib.Core.Path.{_≡_};
 ghost use mathlib.Core.Bool.{false};
 ghost use Rattle.order.specs.Order.{same};
 ghost use Rattle.edit.specs.Edits.{Becomes};
-ghost use Rattle.edit_copy.specs.Copy.{copied, Copiable};
+ghost use Rattle.edit_copy.specs.Copy.{copied, Copiable, BlockCopiable, CopiedBlock};
 
-// The object at path gets another stamp and a plain etag; its data stay.
+// The object at path gets another stamp and a plain etag: the front of its row is written anew. Its pairs and data stay.
 fn restamp(tables: &mut [u8], arena: &[u8], stamp: u64, digest: Digest, path: &[u8])
     requires { ⌜ Copiable (now tables) (now arena) stamp digest (now path) (now path) ⌝ }
     ensures { λ _. ⌜ Becomes (now (tables .entry)) (now (arena .entry)) (now (tables .exit)) (now (arena .entry))
         (copied stamp digest (now (path .entry)) (now (path .entry))) ⌝ }
 {
     let place = find::find_object(tables, arena, path);
-    let end = find::rows_end(tables, arena);
-    let header = layout::headers::read_header(tables);
     let at = place.at;
     let old = row::read_head(tables, at);
-    let n = row::HEAD_LENGTH + path.len();
-    let used = end.at;
     let h = Head {
         size: old.size,
         number: 0,
         stamp,
         kind: layout::PLAIN_KIND,
-        pathlen: path.len() as u8,
+        pairs: old.pairs,
+        pathlen: old.pathlen,
         count: 0,
     };
-    edit::rows::remove_rows(tables, at, n, used, header);
-    edit::rows::insert_row(tables, at, used - n, h, digest, path, header);
+    let mut front = [0u8; row::HEAD_LENGTH];
+    row::write_row(&mut front, h, digest, b"", b"");
+    buffer::copy_at(tables, at, &front);
+}
+
+// The block of the object at source, over the arena from `to` on; the lengths of its pairs over the front of `lengths`.
+fn copy_block(
+    tables: &[u8],
+    arena: &mut [u8],
+    source: &[u8],
+    to: usize,
+    lengths: &mut [u8],
+) -> BlockSizes
+    requires { ⌜ BlockCopiable (now tables) (now arena) (now source) to (now lengths) ⌝ }
+    ensures { λ r. ⌜ CopiedBlock (now (tables .entry)) (now (arena .entry)) (now (source .entry)) to r
+        (now (arena .exit)) (now (lengths .exit)) ⌝ }
+{
+    let place = find::find_object(tables, arena, source);
+    let at = place.at;
+    let from = place.base;
+    let h = row::read_head(tables, at);
+    let size = h.size as usize;
+    let old = find::pairs::lengths(tables, at);
+    buffer::copy_at(lengths, 0, old);
+    buffer::copy_within(arena, from, to, size);
+    BlockSizes {
+        lengths: old.len(),
+        bytes: size,
+    }
 }
 
 // The object at source copied to another path. What stood there goes first, so that its bytes are free.
@@ -49,12 +73,9 @@ fn copy_across(
 {
     edit::objects::free_path(tables, arena, destination);
     let end = find::rows_end(tables, arena);
-    let held = end.base;
-    let place = find::find_object(tables, arena, source);
-    let from = place.base;
-    let h = row::read_head(tables, place.at);
-    let size = h.size as usize;
-    buffer::copy_within(arena, from, held, size);
+    let mut lengths = [0u8; 16];
+    let block = copy_block(tables, arena, source, end.base, &mut lengths);
+    let n = block.lengths;
     edit::objects::add_object(
         tables,
         arena,
@@ -63,11 +84,12 @@ fn copy_across(
         0,
         digest,
         destination,
-        size,
+        &lengths[..n],
+        block.bytes,
     );
 }
 
-// The object at source copied: destination then has its data, with this stamp and a plain etag.
+// The object at source copied: destination then has its data and pairs, with this stamp and a plain etag.
 pub fn copy_object(
     tables: &mut [u8],
     arena: &mut [u8],

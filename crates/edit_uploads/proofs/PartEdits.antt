@@ -33,6 +33,7 @@ use Rattle.find.proofs.RowsAt.{row-at}
 use Rattle.find.proofs.Splits.{part-place, part-found}
 use Rattle.find.proofs.Found.{is-some}
 use Rattle.edit.proofs.Changes.{without-part-rows, new-part-rows}
+use Rattle.edit.specs.Rows.{Insertable}
 use Rattle.edit.proofs.OneRow as row
 use Rattle.edit_uploads.specs.Parts.{withoutPart, partAfterHeld}
 use Rattle.edit_uploads.proofs.PartStates.{open-once, same-uploads, parts-without, without-part-valid}
@@ -170,8 +171,8 @@ module _ (t a : List ℕ) (b : AreBytes t) (w : whole t a ≡ true) (u n : ℕ) 
     more-is : counting (header .parts + 1) ≡ headerOf (length a) s₂
     more-is = rw (header-is, one-more, same-uploads s u x is-open (withPart x n q))
 
-    abbrev new-head : Head
-    new-head = record { size = size; number = n; stamp = 0; kind = partKind; pathlen = 0; count = 0 }
+    abbrev pub new-head : Head
+    new-head = record { size = size; number = n; stamp = 0; kind = partKind; pairs = 0; pathlen = 0; count = 0 }
 
     new-head-is : new-head ≡ headOf (partRow n q)
     new-head-is = rw content-length
@@ -183,10 +184,10 @@ module _ (t a : List ℕ) (b : AreBytes t) (w : whole t a ≡ true) (u n : ℕ) 
     pub record Adding : Type 0 where
       pub fits : size < 256 ^ 4
       pub count : header .parts ≤ 255
-      pub rows : (headerLength ≤ place .at) × (place .at ≤ end .at) × (0 ≤ 128) × (end .at + headLength ≤ length t)
+      pub rows : Insertable t (place .at) (end .at) new-head [] []
       pub base : place .base ≤ end .base
       pub content : place .base + (end .base - place .base) + size ≤ length a
-      pub stands : (t′ a′ : List ℕ) → t′ ≡ headed (spliced t (place .at) 0 (end .at) (rowBytes new-head (bytesOf digest) [])) (counting (header .parts + 1))
+      pub stands : (t′ a′ : List ℕ) → t′ ≡ headed (spliced t (place .at) 0 (end .at) (rowBytes new-head (bytesOf digest) [] [])) (counting (header .parts + 1))
           → a′ ≡ rotated a (place .base) (end .base - place .base) size → length t′ ≡ length t → length a′ ≡ length a
           → (z : Upload) → lookup byNumber u (s .U) ≡ some z → Stands t′ a′ (withUpload s u (withPart z n q))
 
@@ -195,14 +196,14 @@ module _ (t a : List ℕ) (b : AreBytes t) (w : whole t a ≡ true) (u n : ℕ) 
         record {
           fits = small;
           count = let l = valid .parts in omega (arith, parts-are, one-more);
-          rows = row.row-room t a s stands (beforePart s u x n) (partRow n q) (fromPart s u x n) (place .at) (place .base) (end .at) (end .base) at-is base-is used-is held-is (part-place s u x is-open n) s₂ valid split′ (omega arith) row-encodable content-is room′;
-          base = row.base-inside t a s stands (beforePart s u x n) (partRow n q) (fromPart s u x n) (place .at) (place .base) (end .at) (end .base) at-is base-is used-is held-is (part-place s u x is-open n) s₂ valid split′ (omega arith) row-encodable content-is room′;
+          rows = row.row-room t a s stands (beforePart s u x n) (partRow n q) (fromPart s u x n) (place .at) (place .base) (end .at) (end .base) at-is base-is used-is held-is (part-place s u x is-open n) s₂ valid split′ (omega arith) (omega arith) row-encodable content-is room′ new-head new-head-is;
+          base = row.base-inside t a s stands (beforePart s u x n) (partRow n q) (fromPart s u x n) (place .at) (place .base) (end .at) (end .base) at-is base-is used-is held-is (part-place s u x is-open n) s₂ valid split′ (omega arith) (omega arith) row-encodable content-is room′;
           content =
-              let d = row.data-room t a s stands (beforePart s u x n) (partRow n q) (fromPart s u x n) (place .at) (place .base) (end .at) (end .base) at-is base-is used-is held-is (part-place s u x is-open n) s₂ valid split′ (omega arith) row-encodable content-is room′ in
+              let d = row.data-room t a s stands (beforePart s u x n) (partRow n q) (fromPart s u x n) (place .at) (place .base) (end .at) (end .base) at-is base-is used-is held-is (part-place s u x is-open n) s₂ valid split′ (omega arith) (omega arith) row-encodable content-is room′ in
               omega (arith, content-length);
           stands =
               λ t′ a′ e e′ l l′ z open-z.
               subst (λ (k : Upload). Stands t′ a′ (withUpload s u (withPart k n q))) (open-once _ x z is-open open-z)
-              (row.inserted-stands t a s stands (beforePart s u x n) (partRow n q) (fromPart s u x n) (place .at) (place .base) (end .at) (end .base) at-is base-is used-is held-is (part-place s u x is-open n) s₂ valid split′ (omega arith) row-encodable content-is room′
-              t′ a′ [] (bytesOf digest) _ _ size more-is new-head-is digest-is refl (sym content-length) e e′ l l′);
+              (row.inserted-stands t a s stands (beforePart s u x n) (partRow n q) (fromPart s u x n) (place .at) (place .base) (end .at) (end .base) at-is base-is used-is held-is (part-place s u x is-open n) s₂ valid split′ (omega arith) (omega arith) row-encodable content-is room′
+              t′ a′ [] (bytesOf digest) [] _ _ size more-is new-head-is digest-is refl refl (sym content-length) e e′ l l′);
         }

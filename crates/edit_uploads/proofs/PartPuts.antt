@@ -53,7 +53,7 @@ module _ (t a : List ℕ) (w : whole t a ≡ true) (u n : ℕ) (x : Upload) (is-
   pub free-already : AreBytes t → place .found ≡ false → (z : Upload) → lookup byNumber u (stateOf t a .U) ≡ some z → Stands t a (withUpload (stateOf t a) u (withoutPart z n))
   free-already b e z open-z =
       let absent : lookup byNumber n (x .parts) ≡ none = is-none _ (place-found (stateOf t a) u x n place false (place-is x is-open) e) in
-      let same : withoutPart x n ≡ x = ap (λ (ps : Map ℕ Part). record { path = x .path; started = x .started; parts = ps }) (remove-absent numbers n (x .parts) absent) in
+      let same : withoutPart x n ≡ x = ap (λ (ps : Map ℕ Part). record { path = x .path; started = x .started; pairs = x .pairs; parts = ps }) (remove-absent numbers n (x .parts) absent) in
       let kept : insert byNumber u (withoutPart x n) (stateOf t a .U) ≡ stateOf t a .U = ap (λ (y : Upload). insert byNumber u y (stateOf t a .U)) same ∙ insert-there numbers u x (stateOf t a .U) is-open in
       subst (λ (y : Upload). Stands t a (withUpload (stateOf t a) u (withoutPart y n))) (open-once _ x z is-open open-z)
       (subst (λ (m : Map ℕ Upload). Stands t a (withU (stateOf t a) m)) (sym kept) (whole-stands t a b w))
@@ -102,7 +102,7 @@ module _ (s : State) (u n : ℕ) (x : Upload) (is-open : lookup byNumber u (s .U
 
     -- the part put in where it was taken out is the part put in
     put-back : withPart x₁ n y ≡ withPart x n y
-    put-back = ap (λ (ps : Map ℕ Part). record { path = x .path; started = x .started; parts = ps }) (insert-removed numbers n y (x .parts) (ok .sorted))
+    put-back = ap (λ (ps : Map ℕ Part). record { path = x .path; started = x .started; pairs = x .pairs; parts = ps }) (insert-removed numbers n y (x .parts) (ok .sorted))
 
     target : withUpload (stateOf t₁ a₂) u (withPart x₁ n (partAfterHeld t₁ a₂ digest (length content))) ≡ withUpload s u (withPart x n y)
     target =

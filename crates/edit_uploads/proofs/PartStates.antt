@@ -37,6 +37,7 @@ module _ (s : State) (u : ℕ) (x : Upload) (is-open : lookup byNumber u (s .U) 
         high = o .high;
         path = o .path;
         stamp = o .stamp;
+        pairs = o .pairs;
         sorted = ascending-remove numbers n (x .parts) (o .sorted);
         each = every-remove numbers PartOk n (x .parts) (o .each);
       } in

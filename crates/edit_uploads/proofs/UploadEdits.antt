@@ -1,25 +1,31 @@
 -- An upload opened, or taken out with its parts: what the steps require, and what memory then stands for. Assumes nothing.
-use Prim.Native.Nat.{ℕ, _+_, _-_, _≤_, _<_, _^_}
-use mathlib.Core.Path.{_≡_, refl, sym, ap, _∙_}
+use Prim.Native.Nat.{ℕ, _+_, _-_, _*_, _/_, _≤_, _<_, _^_}
+use mathlib.Core.Path.{_≡_, refl, sym, ap, ap₂, _∙_, subst}
 use mathlib.Core.Bool.{true}
 use mathlib.Core.List.{List, [], _∷_, _++_, append-assoc, append-nil}
 use mathlib.Core.Option.{none, some}
 use native.Mathlib.Omega.{arith}
-use lib.ListN.{length, take, drop, length-append, take-append-drop}
-use Rattle.number.specs.Number.{le, AreBytes}
+use lib.ListN.{length, take, drop, length-append}
+use Rattle.number.specs.Number.{le, over, AreBytes}
 use Rattle.md5.specs.declared.words.Digest.{Digest}
 use Rattle.md5.specs.Md5.{bytesOf}
 use Rattle.order.proofs.OrderLaws.{numbers, compare-above}
-use Rattle.buffer.specs.Buffer.{spliced, rotated}
+use Rattle.buffer.specs.Buffer.{spliced}
+use Rattle.buffer.proofs.Rotating.{none-left}
 use Rattle.machine.specs.Map.{isSome, Map, byNumber, lookup, Every, total}
-use Rattle.machine.specs.State.{Upload, State, held, partsIn, withUpload, withoutUpload, withNext}
+use Rattle.machine.specs.Names.{Bytes}
+use Rattle.machine.specs.Pairs.{pairsHeld}
+use Rattle.machine.specs.State.{Upload, State, held, uploadLength, partsIn, withUpload, withoutUpload, withNext}
 use Rattle.machine.specs.Steps.{newUpload}
 use Rattle.machine.specs.Valid.{Valid, UploadOk}
 use Rattle.machine.proofs.MapSums.{length-insert, length-remove, total-insert, total-remove, total-share}
 use Rattle.machine.proofs.MapLaws.{lookup-insert, every-lookup}
 use Rattle.machine.proofs.KeepsValid.{without-upload-valid}
+use Rattle.machine.proofs.PairLaws.{kept-few, kept-held}
+use Rattle.stored_pairs.specs.Stored.{pairLengths, pairBytes}
+use Rattle.stored_pairs.proofs.StoredLaws.{length-lengths, length-bytes}
 use Rattle.row.specs.declared.Head.{Head}
-use Rattle.row.specs.Row.{Row, encodeRows, contentsOf, headOf, rowBytes, headLength, Encodable}
+use Rattle.row.specs.Row.{Row, encodeRows, contentsOf, headOf, rowBytes, Encodable}
 use Rattle.row.proofs.RowLaws.{encode-append, contents-append}
 use Rattle.layout.specs.declared.Header.{Header}
 use Rattle.layout.specs.Rules.{noDigest, uploadKind, partsMost}
@@ -39,12 +45,19 @@ use Rattle.find.proofs.Found.{is-some}
 use Rattle.edit.proofs.Changes.{new-upload-rows, without-upload-rows}
 use Rattle.edit.proofs.Fit.{tables-fit}
 use Rattle.edit.proofs.Standing.{removed}
+use Rattle.edit.proofs.Tail.{tail-stands, tail-read}
+use Rattle.edit.specs.Rows.{Insertable}
 use Rattle.edit.proofs.OneRow as row
 
 -- no upload has the next number
-no-upload : (N : ℕ) (us : Map ℕ Upload) → Every (UploadOk N) us → lookup byNumber N us ≡ none
+pub no-upload : (N : ℕ) (us : Map ℕ Upload) → Every (UploadOk N) us → lookup byNumber N us ≡ none
 no-upload N [] v = refl
 no-upload N (e ∷ us) v = rw (compare-above N (e .0) (v .0 .high)) (no-upload N us (v .1))
+
+-- an upload opened adds the bytes of its pairs to those held
+pub held-open : (s : State) (stamp : ℕ) (p : Bytes) (m : Map Bytes Bytes) → Every (UploadOk (s .N)) (s .U) → held s + pairsHeld m ≡ held (withNext (withUpload s (s .N) (newUpload stamp p m)))
+unfolding held
+held-open s stamp p m v = omega (arith, rw (no-upload (s .N) (s .U) v) at (total-insert numbers uploadLength (s .N) (newUpload stamp p m) (s .U)))
 
 -- the digest of a row that has none
 abbrev zeroDigest : Digest
@@ -53,13 +66,6 @@ zeroDigest = record { a = 0; b = 0; c = 0; d = 0 }
 zero-bytes : bytesOf zeroDigest ≡ noDigest
 unfolding bytesOf le
 zero-bytes = refl
-
--- no bytes are turned
-rotated-none : (a : List ℕ) (at : ℕ) → rotated a at (at - at) 0 ≡ a
-rotated-none a at =
-    let z : at - at ≡ 0 = omega arith in
-    let i : at + 0 + 0 ≡ at = omega arith in
-    ap (λ (n : ℕ). rotated a at n 0) z ∙ ap (λ (n : ℕ). take at a ++ drop n a) i ∙ take-append-drop at a
 
 module _ (t a : List ℕ) (b : AreBytes t) (w : whole t a ≡ true) (end : RowPlace) (end-is : end ≡ placeAfter (rowsOf (stateOf t a)))
     (header : Header) (read : header ≡ headerAt t) where
@@ -85,9 +91,9 @@ module _ (t a : List ℕ) (b : AreBytes t) (w : whole t a ≡ true) (end : RowPl
   held-is = ap (λ (x : RowPlace). x .base) end-is
 
   -- opened
-  module _ (stamp : ℕ) (p : List ℕ) (valid : Valid (length a) (withNext (withUpload s (s .N) (newUpload stamp p)))) where
+  module _ (stamp : ℕ) (p : List ℕ) (m : Map Bytes Bytes) (valid : Valid (length a) (withNext (withUpload s (s .N) (newUpload stamp p m)))) where
     abbrev x : Upload
-    x = newUpload stamp p
+    x = newUpload stamp p m
 
     abbrev s′ : State
     s′ = withNext (withUpload s (s .N) x)
@@ -110,8 +116,8 @@ module _ (t a : List ℕ) (b : AreBytes t) (w : whole t a ≡ true) (end : RowPl
     row-encodable : Encodable (uploadRow (s .N) x)
     row-encodable = upload-encodable (s .N + 1) (s .N) x (valid .last) upload-ok
 
-    no-room : held s + 0 ≤ length a
-    no-room = let l = stands .valid .room in omega arith
+    few : length (pairLengths m) ≤ 16
+    few = omega (arith, length-lengths m, kept-few m (upload-ok .pairs))
 
     split : rowsOf s ≡ rowsOf s ++ []
     split = sym (append-nil (rowsOf s))
@@ -125,18 +131,14 @@ module _ (t a : List ℕ) (b : AreBytes t) (w : whole t a ≡ true) (end : RowPl
     opened-is : opened ≡ headerOf (length a) s′
     opened-is = rw (header-is, one-more, same-parts)
 
-    abbrev head : Head
-    head = record { size = 0; number = header .next; stamp = stamp; kind = uploadKind; pathlen = length p; count = 0 }
-
-    head-is : head ≡ headOf (uploadRow (s .N) x)
-    head-is = rw header-is
+    held-there : end .base ≡ held s
+    held-there = held-is ∙ length-contents s
 
     pub record Opening : Type 0 where
       pub path : length p ≤ 128
       pub number : header .next < 256 ^ 4
       pub count : header .uploads ≤ 15
-      pub room : (headerLength ≤ end .at) × (end .at ≤ end .at) × (length p ≤ 128) × (end .at + (headLength + length p) ≤ length t)
-      pub stands : (t′ : List ℕ) → t′ ≡ headed (spliced t (end .at) 0 (end .at) (rowBytes head (bytesOf zeroDigest) p)) opened → length t′ ≡ length t → Stands t′ a s′
+      pub room : end .base + (pairsHeld m + 0) ≤ length a
 
     pub opening : Opening
     opening =
@@ -144,15 +146,64 @@ module _ (t a : List ℕ) (b : AreBytes t) (w : whole t a ≡ true) (end : RowPl
           path = path-most;
           number = let n = ap (λ (h : Header). h .next) header-is in let l = valid .last in omega arith;
           count = let l = valid .opens in omega (arith, uploads-are, one-more);
-          room =
-              row.row-room t a s stands (rowsOf s) (uploadRow (s .N) x) [] (end .at) (end .base) (end .at) (end .base) used-is held-is used-is held-is
-              split s′ valid split′ path-most row-encodable refl no-room;
-          stands =
-              λ t′ e l.
-              row.inserted-stands t a s stands (rowsOf s) (uploadRow (s .N) x) [] (end .at) (end .base) (end .at) (end .base) used-is held-is used-is held-is
-              split s′ valid split′ path-most row-encodable refl no-room
-              t′ a p (bytesOf zeroDigest) _ _ 0 opened-is head-is zero-bytes refl refl e (sym (rotated-none a (end .base))) l refl;
+          room = let r = valid .room in omega (arith, held-there, held-open s stamp p m (stands .valid .upload));
         }
+
+    -- the block is written: n length bytes, and `size` bytes after the last byte held
+    module _ (a′ : List ℕ) (n size : ℕ) (size-is : size ≡ pairsHeld m + 0) (e : a′ ≡ over a (end .base) (pairBytes m ++ []) size) (keeps : length a′ ≡ length a)
+        (lengths : List ℕ) (n-is : length lengths ≡ n) (lengths-are : lengths ≡ pairLengths m) where
+      block-length : length (pairBytes m) ≡ size
+      block-length = omega (arith, length-bytes m, size-is)
+
+      written : a′ ≡ over a (held s) (pairBytes m) size
+      written = e ∙ ap₂ (λ (i : ℕ) (d : List ℕ). over a i d size) held-there (append-nil (pairBytes m))
+
+      there : Stands t a′ s
+      there = tail-stands t a s stands a′ (pairBytes m) size written keeps
+
+      block-is : take (length (pairBytes m)) (drop (held s) a′) ≡ pairBytes m
+      block-is = tail-read t a s stands a′ (pairBytes m) size written keeps
+
+      room′ : held s + length (pairBytes m) ≤ length a′
+      room′ = let r = valid .room in omega (arith, held-open s stamp p m (stands .valid .upload), length-bytes m, keeps)
+
+      valid′ : Valid (length a′) s′
+      valid′ = subst (λ (A : ℕ). Valid A s′) (sym keeps) valid
+
+      twice : n ≡ 2 * length m
+      twice = omega (arith, n-is, ap length lengths-are, length-lengths m)
+
+      abbrev head : Head
+      head = record { size = size; number = header .next; stamp = stamp; kind = uploadKind; pairs = n / 2; pathlen = length p; count = 0 }
+
+      head-is : head ≡ headOf (uploadRow (s .N) x)
+      head-is =
+          let half : n / 2 ≡ length m = omega (arith, twice) in
+          let next : header .next ≡ s .N = ap (λ (h : Header). h .next) header-is in
+          λ i. record { size = sym block-length i; number = next i; stamp = stamp; kind = uploadKind; pairs = half i; pathlen = length p; count = 0 }
+
+      pub record Opened : Type 0 where
+        pub small : size < 256 ^ 4
+        pub few : n ≤ 16
+        pub room : Insertable t (end .at) (end .at) head p lengths
+        pub stands : (t′ : List ℕ) → t′ ≡ headed (spliced t (end .at) 0 (end .at) (rowBytes head (bytesOf zeroDigest) p lengths)) opened → length t′ ≡ length t → Stands t′ a′ s′
+
+      pub after-block : Opened
+      after-block =
+          record {
+            small = omega (arith, size-is, kept-held m (upload-ok .pairs));
+            few = omega (arith, twice, length-lengths m, few);
+            room =
+                subst (λ (ls : List ℕ). Insertable t (end .at) (end .at) head p ls) (sym lengths-are)
+                (row.row-room t a′ s there (rowsOf s) (uploadRow (s .N) x) [] (end .at) (end .base) (end .at) (end .base) used-is held-is used-is held-is
+                split s′ valid′ split′ path-most few row-encodable block-is room′ head head-is);
+            stands =
+                λ t′ e′ l.
+                row.inserted-stands t a′ s there (rowsOf s) (uploadRow (s .N) x) [] (end .at) (end .base) (end .at) (end .base) used-is held-is used-is held-is
+                split s′ valid′ split′ path-most few row-encodable block-is room′
+                t′ a′ p (bytesOf zeroDigest) lengths _ _ size (opened-is ∙ ap (λ (A : ℕ). headerOf A s′) (sym keeps)) head-is zero-bytes refl lengths-are (sym block-length) e′
+                (none-left a′ (end .base) (end .base - end .base) size (let r = room′ in omega (arith, held-there, block-length)) (omega arith)) l refl;
+          }
 
   -- taken out
   module _ (u : ℕ) (there : isSome (lookup byNumber u (s .U)) ≡ true) (place : Lookup) (place-is : place ≡ uploadPlace s u)

@@ -15,7 +15,7 @@ use Rattle.find.specs.Known.{OfOpen}
 
 -- the upload without a part
 abbrev pub withoutPart : Upload → ℕ → Upload
-withoutPart x n = record { path = x .path; started = x .started; parts = remove byNumber n (x .parts) }
+withoutPart x n = record { path = x .path; started = x .started; pairs = x .pairs; parts = remove byNumber n (x .parts) }
 
 abbrev pub partWith : Digest → (content : List ℕ) → Part
 partWith digest content = record { content = content; digest = bytesOf digest }

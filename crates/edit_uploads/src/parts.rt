@@ -55,6 +55,7 @@ fn add_part(
         number: number as u32,
         stamp: 0,
         kind: layout::PART_KIND,
+        pairs: 0,
         pathlen: 0,
         count: 0,
     };
@@ -65,7 +66,7 @@ fn add_part(
         uploads: header.uploads,
         parts: header.parts + 1,
     };
-    edit::rows::insert_row(tables, place.at, end.at, h, digest, b"", after);
+    edit::rows::insert_row(tables, place.at, end.at, h, digest, b"", b"", after);
     buffer::rotate(arena, base, held - base, size);
 }
 

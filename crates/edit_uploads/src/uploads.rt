@@ -2,26 +2,35 @@
 use layout::Header;
 use md5::words::Digest;
 use row::Head;
+ghost use mathlib.Core.Path.{_≡_};
+ghost use mathlib.Core.Bool.{true};
+ghost use Rattle.machine.specs.Pairs.{pairsOk, pairList};
 ghost use Rattle.machine.specs.State.{withUpload, withoutUpload, withNext};
 ghost use Rattle.machine.specs.Steps.{newUpload};
 ghost use Rattle.find.specs.Known.{WholeOpen};
+ghost use Rattle.edit.specs.Blocks.{keptOf};
 ghost use Rattle.edit.specs.Edits.{MayBecome, Becomes};
 
-// An upload without parts, put after all rows with the next number. No data change.
-pub fn open_upload(tables: &mut [u8], arena: &[u8], stamp: u64, path: &[u8])
-    requires { ⌜ MayBecome (now tables) (now arena)
-        (λ s. withNext (withUpload s (s .N) (newUpload stamp (now path)))) ⌝ }
-    ensures { λ _. ⌜ Becomes (now (tables .entry)) (now (arena .entry)) (now (tables .exit)) (now (arena .entry))
-        (λ s. withNext (withUpload s (s .N) (newUpload stamp (now (path .entry))))) ⌝ }
+// An upload without parts, put after all rows with the next number. The kept pairs of the request are its block, after
+// the last byte held.
+pub fn open_upload(tables: &mut [u8], arena: &mut [u8], stamp: u64, path: &[u8], pairs: &[u8])
+    requires { ⌜ (pairsOk (pairList (now pairs)) ≡ true) × MayBecome (now tables) (now arena)
+        (λ s. withNext (withUpload s (s .N) (newUpload stamp (now path) (keptOf (now pairs))))) ⌝ }
+    ensures { λ _. ⌜ Becomes (now (tables .entry)) (now (arena .entry)) (now (tables .exit)) (now (arena .exit))
+        (λ s. withNext (withUpload s (s .N) (newUpload stamp (now (path .entry)) (keptOf (now (pairs .entry)))))) ⌝ }
 {
     let end = find::rows_end(tables, arena);
     let header = layout::headers::read_header(tables);
     let used = end.at;
+    let mut lengths = [0u8; 16];
+    let block = edit::blocks::write_block(arena, end.base, pairs, b"", &mut lengths);
+    let n = block.lengths;
     let h = Head {
-        size: 0,
+        size: block.bytes as u32,
         number: header.next as u32,
         stamp,
         kind: layout::UPLOAD_KIND,
+        pairs: (n / 2) as u8,
         pathlen: path.len() as u8,
         count: 0,
     };
@@ -38,7 +47,7 @@ pub fn open_upload(tables: &mut [u8], arena: &[u8], stamp: u64, path: &[u8])
         uploads: header.uploads + 1,
         parts: header.parts,
     };
-    edit::rows::insert_row(tables, used, used, h, digest, path, after);
+    edit::rows::insert_row(tables, used, used, h, digest, path, &lengths[..n], after);
 }
 
 // The upload with this number, taken out with its parts.

@@ -6,3 +6,4 @@ pub mod ObjectSearch
 pub mod Walk
 pub mod Searches
 pub mod Answers
+pub mod PairSizes

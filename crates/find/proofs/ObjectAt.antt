@@ -14,7 +14,7 @@ use Rattle.layout.specs.Memory.{objectRow, objectRows, uploadRows, rowsOf}
 use Rattle.find.proofs.Splits.{object-rows-append}
 
 abbrev pub blank : Bytes × Object
-blank = ([], record { content = []; created = 0; etag = absent })
+blank = ([], record { content = []; created = 0; etag = absent; pairs = [] })
 
 module _ (s : State) (i : ℕ) where
   abbrev pub entry : Bytes × Object

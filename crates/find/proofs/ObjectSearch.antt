@@ -55,7 +55,7 @@ pub record Turn (t a : List ℕ) (s : State) (p : Bytes) (i at base : ℕ) (head
   pub arena-inside : base + head .size ≤ length a
   pub less : byBytes p (take (head .pathlen) (drop (at + headLength) t)) ≡ Ordering·lt → placed false at base ≡ objectPlace s p
   pub equal : byBytes p (take (head .pathlen) (drop (at + headLength) t)) ≡ Ordering·eq → placed true at base ≡ objectPlace s p
-  pub greater : byBytes p (take (head .pathlen) (drop (at + headLength) t)) ≡ Ordering·gt → Passed s p (i + 1) (at + headLength + head .pathlen) (base + head .size)
+  pub greater : byBytes p (take (head .pathlen) (drop (at + headLength) t)) ≡ Ordering·gt → Passed s p (i + 1) (at + span head) (base + head .size)
 
 module _ (t a : List ℕ) (s : State) (h : Stands t a s) (p : Bytes) (i at base : ℕ) (k : Passed s p i at base) (l : i < length (s .O)) where
   here-at : At t a s h (front s i) (row s i) (rest s i)

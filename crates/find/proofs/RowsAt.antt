@@ -7,8 +7,8 @@ use lib.ListN.{length, take, drop, length-append}
 use lib.Seq.{take-at, drop-at, drop-drop}
 use Rattle.machine.specs.State.{State}
 use Rattle.row.specs.declared.Head.{Head}
-use Rattle.row.specs.Row.{Row, encodeRow, encodeRows, contentsOf, headAt, digestAt, pathAt, headOf, numbersLength, headLength, span, Encodable, EncodableAll}
-use Rattle.row.proofs.RowLaws.{encode-append, contents-append, encodable-right, length-row, head-back, digest-back, path-back}
+use Rattle.row.specs.Row.{Row, encodeRow, encodeRows, contentsOf, headAt, digestAt, pathAt, lengthsAt, headOf, numbersLength, headLength, span, Encodable, EncodableAll}
+use Rattle.row.proofs.RowLaws.{encode-append, contents-append, encodable-right, length-row, head-back, digest-back, path-back, lengths-back}
 use Rattle.layout.specs.Memory.{rowsOf, Stands}
 use Rattle.layout.proofs.StandsLaws.{rows-encodable, length-header}
 use Rattle.layout.specs.Header.{encodeHeader, headerLength}
@@ -50,6 +50,7 @@ pub record At (t a : List ℕ) (s : State) (h : Stands t a s) (xs : List Row) (r
   pub head : headAt (drop (headerLength + length (encodeRows xs)) t) ≡ headOf r
   pub digest : take 16 (drop (headerLength + length (encodeRows xs) + numbersLength) t) ≡ r .digest
   pub path : take (length (r .path)) (drop (headerLength + length (encodeRows xs) + headLength) t) ≡ r .path
+  pub lengths : lengthsAt (drop (headerLength + length (encodeRows xs)) t) ≡ r .lengths
   pub inside : headerLength + length (encodeRows xs) + span (headOf r) ≤ length t
   pub next : headerLength + length (encodeRows (xs ++ (r ∷ []))) ≡ headerLength + length (encodeRows xs) + span (headOf r)
   pub arena : drop (length (contentsOf xs)) a ≡ r .content ++ (contentsOf ys ++ h .arena-free)
@@ -106,6 +107,7 @@ module _ (t a : List ℕ) (s : State) (h : Stands t a s) (xs : List Row) (r : Ro
         head = head-here;
         digest = digest-here;
         path = path-here;
+        lengths = ap lengthsAt row-here ∙ lengths-back r row-encodable (encodeRows ys ++ h .tables-free) [];
         inside = let k = next-cut .inside in omega (arith, next-row);
         next = next-row;
         arena = content-here;
@@ -128,6 +130,7 @@ pub row-read : (t a : List ℕ) (s : State) (h : Stands t a s) (xs : List Row) (
 row-read t a s h xs r ys at base head k e f q =
     let same : head ≡ headOf r = q ∙ ap (λ (n : ℕ). headAt (drop n t)) e ∙ k .head in
     let n : head .pathlen ≡ length (r .path) = ap (λ (x : Head). x .pathlen) same in
+    let p : head .pairs ≡ r .pairs = ap (λ (x : Head). x .pairs) same in
     let m : head .size ≡ length (r .content) = ap (λ (x : Head). x .size) same in
     let inside = k .inside in
     let next = k .next in

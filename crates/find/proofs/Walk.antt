@@ -55,7 +55,7 @@ pub record Turn (t a : List ℕ) (s : State) (i at base : ℕ) (head : Head) : T
   pub next : Reached s (i + 1) (at + span head) (base + head .size)
 
 abbrev blank : Row
-blank = record { number = 0; stamp = 0; kind = 0; count = 0; digest = []; path = []; content = [] }
+blank = record { number = 0; stamp = 0; kind = 0; count = 0; digest = []; path = []; pairs = 0; lengths = []; content = [] }
 
 module _ (t a : List ℕ) (s : State) (h : Stands t a s) (i at base : ℕ) (k : Reached s i at base) (l : i < length (rowsOf s)) where
   abbrev rs : List Row

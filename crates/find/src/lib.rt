@@ -1,11 +1,14 @@
-// Readers of whole memory: where an object, an upload or a part stands, how many there are, and how much is held.
+// Readers of whole memory: where an object, an upload or a part stands, how many there are, how much is held, and the
+// lengths of a row's pairs.
 pub mod counts;
 pub mod objects;
+pub mod pairs;
 mod search;
 pub mod uploads;
 
 pub use counts::read_counts;
 pub use objects::find_object;
+pub use pairs::pairs_size;
 pub use uploads::find_part;
 pub use uploads::find_part_from;
 pub use uploads::find_upload;

@@ -40,7 +40,7 @@ pub fn find_object(tables: &[u8], arena: &[u8], path: &[u8]) -> Lookup
                 };
             }
         }
-        at = to;
+        at += row::span(h);
         base += h.size as usize;
         i += 1;
     }

@@ -1,4 +1,4 @@
--- The test "whole" over a rule of paths: the present one, and the one before E2. Assumes nothing.
+-- The test "whole" of the former layout over a rule of paths: the present one, and the one before E2. Assumes nothing.
 use Prim.Native.Nat.{ℕ, _+_}
 use mathlib.Core.Bool.{Bool, cond}
 use mathlib.Core.List.{List, [], _∷_}
@@ -11,9 +11,9 @@ use Rattle.row.specs.Row.{Row, headOf, good}
 use Rattle.layout.specs.declared.Mark.{Mark}
 use Rattle.layout.specs.Header.{headerLength, headerAt}
 use Rattle.layout.specs.Rules.{plainKind, joinedKind, uploadKind, partsMost, all, isLess, noDigest, partRule, objectNext, entryNext, start}
-use Rattle.layout.specs.Memory.{tablesLength, headerOk, uploadsAmong, uploadRowsAt, uploadTables, uploadArena}
+use Rattle.layout.specs.Memory.{formerTablesLength, headerOk, uploadsAmong, uploadRowsAt, uploadTables, uploadArena}
 
--- the rules of rows and the test "whole" of layout/specs, with `pathIs` for the rule of paths
+-- the rules of rows without pairs and the test "whole" of layout/specs, with `pathIs` for the rule of paths
 module _ (pathIs : Bytes → Bool) where
   unfoldable pub objectRuleBy : (last : List ℕ) → Head → (path : List ℕ) → Bool
   objectRuleBy last h path =
@@ -24,18 +24,20 @@ module _ (pathIs : Bytes → Bool) where
       ∷ leb (h .count) (cond (eqb (h .kind) plainKind) 0 partsMost)
       ∷ pathIs path
       ∷ isLess (byBytes last path)
+      ∷ eqb (h .pairs) 0
       ∷ [])
 
   unfoldable pub uploadRuleBy : (N : ℕ) → Mark → Head → (digest path : List ℕ) → Bool
   uploadRuleBy N m h digest path =
       all
-      (eqb (h .size) 0
-      ∷ eqb (h .count) 0
+      (eqb (h .count) 0
       ∷ leb 1 (h .stamp)
       ∷ ltb (m .upload) (h .number)
       ∷ ltb (h .number) N
       ∷ pathIs path
       ∷ same digest noDigest
+      ∷ eqb (h .pairs) 0
+      ∷ eqb (h .size) 0
       ∷ [])
 
   unfoldable pub entryRuleBy : (N : ℕ) → Mark → Head → (digest path : List ℕ) → Bool
@@ -50,7 +52,7 @@ module _ (pathIs : Bytes → Bool) where
   unfoldable pub wholeBy : (t a : List ℕ) → Bool
   wholeBy t a =
       all
-      (headerOk tablesLength (length t) (length a) (headerAt t)
+      (headerOk formerTablesLength (length t) (length a) (headerAt t)
       ∷ good (List ℕ) objectOkBy objectNext (headerAt t .objects) [] (drop headerLength t) a
       ∷ good Mark (entryOkBy (headerAt t .next)) entryNext (headerAt t .uploads + headerAt t .parts) start (uploadTables t a) (uploadArena t a)
       ∷ eqb (uploadsAmong (uploadRowsAt t a)) (headerAt t .uploads)

@@ -10,7 +10,7 @@ use Rattle.order.proofs.OrderLaws.{numbers}
 use Rattle.machine.specs.Map.{byNumber, lookup, Ascending}
 use Rattle.machine.specs.Names.{requestPartOk}
 use Rattle.machine.specs.State.{Upload, State, fresh}
-use Rattle.machine.specs.Calls.{Call, PUT, GET, HEAD, DELETE, COPY, LIST, INITIATE, PART, COMMIT, ABORT, UPLOADS, DELETE-OBJECTS, SWEEP, Answer, Reply, badRequest, refuse, _else_then_, given}
+use Rattle.machine.specs.Calls.{Call, PUT, GET, HEAD, DELETE, COPY, LIST, INITIATE, PART, COMMIT, ABORT, UPLOADS, DELETE-OBJECTS, SWEEP, Answer, noBuffers, Reply, badRequest, refuse, _else_then_, given}
 use Rattle.machine.specs.Steps.{abortAt, toSweep, act, replyOf, reply, next}
 use Rattle.machine.specs.Lists.{Trace, trace, final}
 use Rattle.machine.specs.Fits.{member}
@@ -48,7 +48,7 @@ module _ (A u : ℕ) (s : State) where
       effects-gone more (ascending-remove numbers v (i .U) o) (g .0, lookup-remove-other numbers u v (i .U) o (open-other u v i x g e) ∙ g .1)
 
   does-gone : {k : Kind} {r : Answer} {s′ : State} → Ascending byNumber (s .U) → Gone u s → Does A s k r s′ → Gone u s′
-  does-gone o g (opens-upload t p h c l) =
+  does-gone o g (opens-upload t p m h k c r l) =
       let q = g .0 in (omega arith, lookup-insert-other numbers u (s .N) _ (s .U) (λ e. omega (arith, e)) ∙ g .1)
   does-gone o g (sets-part v x n d h e c r) = (g .0, lookup-insert-other numbers u v _ (s .U) (open-other u v s x g e) ∙ g .1)
   does-gone o g (has-effects q w more) = effects-gone more o g
@@ -62,16 +62,16 @@ module _ (A u : ℕ) (s : State) (v : Valid A s) (g : Gone u s) where
 
   refused-here : (c : Call) → names u c ≡ true → reply A s c .result ≡ 2
   unfolding act abortAt given _else_then_
-  refused-here (PUT t p d) e = absurd (false≢true e)
-  refused-here (GET p b) e = absurd (false≢true e)
-  refused-here (HEAD p) e = absurd (false≢true e)
+  refused-here (PUT t p d ps) e = absurd (false≢true e)
+  refused-here (GET p b k) e = absurd (false≢true e)
+  refused-here (HEAD p k) e = absurd (false≢true e)
   refused-here (DELETE p) e = absurd (false≢true e)
   refused-here (COPY t p q) e = absurd (false≢true e)
   refused-here (LIST prefix suffix b) e = absurd (false≢true e)
-  refused-here (INITIATE t p) e = absurd (false≢true e)
+  refused-here (INITIATE t p ps) e = absurd (false≢true e)
   refused-here (PART k n d) e = rw (gone-here k e) (go (requestPartOk n))
     where
-      go : (b : Bool) → replyOf [] (b else badRequest then refuse badRequest) .result ≡ 2
+      go : (b : Bool) → replyOf noBuffers (b else badRequest then refuse badRequest) .result ≡ 2
       go true = refl
       go false = refl
   refused-here (COMMIT k ns) e = rw (gone-here k e)

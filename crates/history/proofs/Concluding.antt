@@ -3,6 +3,7 @@ use Prim.Native.Nat.{ℕ}
 use mathlib.Core.Path.{_≡_, refl, _∙_, subst}
 use lib.ListN.{length}
 use Rattle.machine.specs.Names.{Bytes}
+use Rattle.machine.specs.Calls.{Buffers}
 use Rattle.machine.specs.Lists.{Trace}
 use Rattle.contract.specs.Made.{Memory, freshResult, MadeFresh}
 use Rattle.history.specs.declared.batch.BatchAnswer.{BatchAnswer}
@@ -17,7 +18,7 @@ conclude m m₀ m′ n t made z run =
     demand3 (length (m .arena)) t m′ (record { lent = m; start = m₀; arena = refl; fresh = subst (λ (k : ℕ). MadeFresh m k m₀) z made; run = run })
 
 -- the list runs wherever FRESH accepts
-pub accepted-runs : (m : Memory) (stamp : ℕ) (path one two early late : Bytes) (a : BatchAnswer) (early′ late′ : Bytes) (m′ : Memory)
-    → freshResult m ≡ 0 → Concluded m stamp path one two early late a early′ late′ m′ → Ran a
-accepted-runs m stamp path one two early late (answer.Refused n) early′ late′ m′ z h = absurd (h .0 (h .1 ∙ z))
-accepted-runs m stamp path one two early late (answer.Ran b) early′ late′ m′ z h = tt
+pub accepted-runs : (m : Memory) (stamp : ℕ) (path pairs one two : Bytes) (early late : Buffers) (a : BatchAnswer) (early′ late′ : Buffers) (m′ : Memory)
+    → freshResult m ≡ 0 → Concluded m stamp path pairs one two early late a early′ late′ m′ → Ran a
+accepted-runs m stamp path pairs one two early late (answer.Refused n) early′ late′ m′ z h = absurd (h .0 (h .1 ∙ z))
+accepted-runs m stamp path pairs one two early late (answer.Ran b) early′ late′ m′ z h = tt

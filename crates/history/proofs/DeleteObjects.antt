@@ -28,6 +28,6 @@ same-as-deletes A t m f t₂ m₂ f₂ before later names ps over b r e ok e₂ 
     let ok′ = ap accepted here ∙ ok in
     record {
       same = same-runs A t m f before later c r e (singleDeletes names ps) t₂ m₂ f₂ e₂ (h .state ok′);
-      buffer = ap (λ (x : Reply). x .buffer) (sym here ∙ h .replies ok′)
+      buffer = ap (λ (x : Reply). x .buffers .answer) (sym here ∙ h .replies ok′)
           ∙ ap (λ (x : Trace). resultsOf x ++ drop (length ps) b) (sym (made-is A t m f before later c r e (singleDeletes names ps) t₂ m₂ f₂ e₂ (h .state ok′)));
     }

@@ -30,11 +30,11 @@ module _ (A : ℕ) (t : Trace) (m : Memory) (f : FromFresh A t m) where
       let s = from-fresh A t m f in
       rw (stands-state _ _ _ (s .1)) (subst (λ (x : Trace). Objects x (final A fresh (calls t) .O)) (sym (s .0)) (machine-consistent A (calls t) .objects))
 
-  got : (p b : Bytes) (r : Reply) (m′ : Memory) → Made (GET p b) m r m′ → r ≡ getShows p b (lastWrite p t)
-  got p b r m′ made = answered (GET p b) r m′ made ∙ get-shows _ _ p b _ (held .each p)
+  got : (p b k : Bytes) (r : Reply) (m′ : Memory) → Made (GET p b k) m r m′ → r ≡ getShows p b k (lastWrite p t)
+  got p b k r m′ made = answered (GET p b k) r m′ made ∙ get-shows _ _ p b k _ (held .each p)
 
-  headed : (p : Bytes) (r : Reply) (m′ : Memory) → Made (HEAD p) m r m′ → r ≡ headShows p (lastWrite p t)
-  headed p r m′ made = answered (HEAD p) r m′ made ∙ head-shows _ _ p _ (held .each p)
+  headed : (p k : Bytes) (r : Reply) (m′ : Memory) → Made (HEAD p k) m r m′ → r ≡ headShows p k (lastWrite p t)
+  headed p k r m′ made = answered (HEAD p k) r m′ made ∙ head-shows _ _ p k _ (held .each p)
 
 same-write : (p : Bytes) (t t₂ : Trace) → origin p t₂ ≡ origin p t → lastWrite p t₂ ≡ lastWrite p t
 same-write p t t₂ e = sym (origins .enough p t₂) ∙ ap (lastWrite p) e ∙ origins .enough p t
@@ -47,7 +47,7 @@ consistent A t m f = record {
   head = headed A t m f;
   list = λ prefix suffix b r m′ made. (stateIn m .O, held A t m f, answered A t m f (LIST prefix suffix b) r m′ made ∙ list-shows _ _ prefix suffix b);
   same-origin = λ A₂ t₂ m₂ f₂ p e. let q = same-write p t t₂ e in record {
-    get = λ b r r₂ n n₂ made made₂. got A₂ t₂ m₂ f₂ p b r₂ n₂ made₂ ∙ ap (getShows p b) q ∙ sym (got A t m f p b r n made);
-    head = λ r r₂ n n₂ made made₂. headed A₂ t₂ m₂ f₂ p r₂ n₂ made₂ ∙ ap (headShows p) q ∙ sym (headed A t m f p r n made);
+    get = λ b k r r₂ n n₂ made made₂. got A₂ t₂ m₂ f₂ p b k r₂ n₂ made₂ ∙ ap (getShows p b k) q ∙ sym (got A t m f p b k r n made);
+    head = λ k r r₂ n n₂ made made₂. headed A₂ t₂ m₂ f₂ p k r₂ n₂ made₂ ∙ ap (headShows p k) q ∙ sym (headed A t m f p k r n made);
   };
 }

@@ -35,14 +35,14 @@ objects-kept A s c e =
 -- What GET, HEAD and LIST answer comes of the objects alone -------------------------------------------------------------------
 
 looks-same : (A : ℕ) (s s′ : State) (c : Call) → s′ .O ≡ s .O → isLook (kind c) ≡ true → reply A s′ c ≡ reply A s c
-looks-same A s s′ (PUT t p d) e l = absurd (false≢true l)
-looks-same A s s′ (GET p b) e l = get-shows A s′ p b _ (ap (lookup byBytes p) e) ∙ sym (get-shows A s p b _ refl)
-looks-same A s s′ (HEAD p) e l = head-shows A s′ p _ (ap (lookup byBytes p) e) ∙ sym (head-shows A s p _ refl)
+looks-same A s s′ (PUT t p d ps) e l = absurd (false≢true l)
+looks-same A s s′ (GET p b k) e l = get-shows A s′ p b k _ (ap (lookup byBytes p) e) ∙ sym (get-shows A s p b k _ refl)
+looks-same A s s′ (HEAD p k) e l = head-shows A s′ p k _ (ap (lookup byBytes p) e) ∙ sym (head-shows A s p k _ refl)
 looks-same A s s′ (DELETE p) e l = absurd (false≢true l)
 looks-same A s s′ (COPY t p q) e l = absurd (false≢true l)
 looks-same A s s′ (LIST prefix suffix b) e l =
     list-shows A s′ prefix suffix b ∙ ap (listShows prefix suffix b) e ∙ sym (list-shows A s prefix suffix b)
-looks-same A s s′ (INITIATE t p) e l = absurd (false≢true l)
+looks-same A s s′ (INITIATE t p ps) e l = absurd (false≢true l)
 looks-same A s s′ (PART u n d) e l = absurd (false≢true l)
 looks-same A s s′ (COMMIT u ns) e l = absurd (false≢true l)
 looks-same A s s′ (ABORT u) e l = absurd (false≢true l)

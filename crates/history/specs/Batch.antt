@@ -4,7 +4,8 @@ use mathlib.Core.Path.{_≡_}
 use mathlib.Core.List.{[], _∷_}
 use lib.ListN.{length}
 use Rattle.machine.specs.Names.{Bytes}
-use Rattle.machine.specs.Calls.{GET, INITIATE, PART, COMMIT}
+use Rattle.machine.specs.Pairs.{pairList}
+use Rattle.machine.specs.Calls.{GET, INITIATE, PART, COMMIT, Buffers}
 use Rattle.machine.specs.Lists.{Trace}
 use Rattle.contract.specs.Answers.{doneReply, getReply, partReply, initiateReply}
 use Rattle.contract.specs.Made.{Memory, freshResult}
@@ -13,21 +14,21 @@ use Rattle.history.specs.declared.batch.BatchAnswer.{BatchAnswer}
 use Rattle.history.specs.declared.batch.BatchAnswer.the-variants as answer
 use Rattle.history.specs.Demand3.{Demand3}
 
--- INITIATE, two PARTs, GET, COMMIT of part 2 before part 1, GET; each answer buffer before and after its call
-unfoldable pub batchTrace : (stamp : ℕ) (path one two early late : Bytes) → Batch → (early′ late′ : Bytes) → Trace
-batchTrace stamp path one two early late b early′ late′ =
-    (INITIATE stamp path, initiateReply (b .opened))
+-- INITIATE, two PARTs, GET, COMMIT of part 2 before part 1, GET; the answer buffers of each GET before and after it
+unfoldable pub batchTrace : (stamp : ℕ) (path pairs one two : Bytes) (early late : Buffers) → Batch → (early′ late′ : Buffers) → Trace
+batchTrace stamp path pairs one two early late b early′ late′ =
+    (INITIATE stamp path (pairList pairs), initiateReply (b .opened))
     ∷ (PART 1 1 one, partReply (b .first))
     ∷ (PART 1 2 two, partReply (b .second))
-    ∷ (GET path early, getReply (b .early) early′)
+    ∷ (GET path (early .answer) (early .pairs), getReply (b .early) early′)
     ∷ (COMMIT 1 (2 ∷ 1 ∷ []), doneReply (b .committed))
-    ∷ (GET path late, getReply (b .late) late′)
+    ∷ (GET path (late .answer) (late .pairs), getReply (b .late) late′)
     ∷ []
 
 -- FRESH refused by a number that is not 0, and nothing changed; or the list ran as demand 3 says
-abbrev pub Concluded : (m : Memory) (stamp : ℕ) (path one two early late : Bytes) → BatchAnswer → (early′ late′ : Bytes) → (m′ : Memory) → Type 0
-Concluded m stamp path one two early late (answer.Refused n) early′ late′ m′ = (n ≡ 0 → ⊥) × (n ≡ freshResult m) × (m′ ≡ m) × (early′ ≡ early) × (late′ ≡ late)
-Concluded m stamp path one two early late (answer.Ran b) early′ late′ m′ = Demand3 (length (m .arena)) (batchTrace stamp path one two early late b early′ late′) m′
+abbrev pub Concluded : (m : Memory) (stamp : ℕ) (path pairs one two : Bytes) (early late : Buffers) → BatchAnswer → (early′ late′ : Buffers) → (m′ : Memory) → Type 0
+Concluded m stamp path pairs one two early late (answer.Refused n) early′ late′ m′ = (n ≡ 0 → ⊥) × (n ≡ freshResult m) × (m′ ≡ m) × (early′ ≡ early) × (late′ ≡ late)
+Concluded m stamp path pairs one two early late (answer.Ran b) early′ late′ m′ = Demand3 (length (m .arena)) (batchTrace stamp path pairs one two early late b early′ late′) m′
 
 -- the answer is that of a list that ran
 abbrev pub Ran : BatchAnswer → Type 0

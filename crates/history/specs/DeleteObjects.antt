@@ -14,4 +14,4 @@ pub record SameAsDeletes (before : Trace) (names : Bytes) (ps : List NamePlace) 
   -- "the store ends as that many DELETE calls in that sequence would leave it"
   pub same : SameRuns before later m (singleDeletes names ps) t₂ m₂
   -- "One result number per place, a byte each, goes into a lent buffer"
-  pub buffer : r .buffer ≡ resultsOf (same .made) ++ drop (length ps) results
+  pub buffer : r .buffers .answer ≡ resultsOf (same .made) ++ drop (length ps) results

@@ -14,8 +14,8 @@ use Rattle.history.specs.Runs.{FromFresh}
 
 -- GET and HEAD of this path answer the same, whether they are made over the one memory or over the other
 pub record SameAt (p : Bytes) (m m₂ : Memory) : Type 0 where
-  pub get : (b : Bytes) (r r₂ : Reply) (n n₂ : Memory) → Made (GET p b) m r n → Made (GET p b) m₂ r₂ n₂ → r₂ ≡ r
-  pub head : (r r₂ : Reply) (n n₂ : Memory) → Made (HEAD p) m r n → Made (HEAD p) m₂ r₂ n₂ → r₂ ≡ r
+  pub get : (b k : Bytes) (r r₂ : Reply) (n n₂ : Memory) → Made (GET p b k) m r n → Made (GET p b k) m₂ r₂ n₂ → r₂ ≡ r
+  pub head : (k : Bytes) (r r₂ : Reply) (n n₂ : Memory) → Made (HEAD p k) m r n → Made (HEAD p k) m₂ r₂ n₂ → r₂ ≡ r
 
 -- The run from FRESH with calls and answers t, which leaves memory m.
 pub record Consistent (A : ℕ) (t : Trace) (m : Memory) : Type 0 where
@@ -24,8 +24,8 @@ pub record Consistent (A : ℕ) (t : Trace) (m : Memory) : Type 0 where
   -- each GET, HEAD and LIST of the run shows the last writes before it
   pub reads : ReadsLastWrites t
   -- and so does one that is made next
-  pub get : (p b : Bytes) (r : Reply) (m′ : Memory) → Made (GET p b) m r m′ → r ≡ getShows p b (lastWrite p t)
-  pub head : (p : Bytes) (r : Reply) (m′ : Memory) → Made (HEAD p) m r m′ → r ≡ headShows p (lastWrite p t)
+  pub get : (p b k : Bytes) (r : Reply) (m′ : Memory) → Made (GET p b k) m r m′ → r ≡ getShows p b k (lastWrite p t)
+  pub head : (p k : Bytes) (r : Reply) (m′ : Memory) → Made (HEAD p k) m r m′ → r ≡ headShows p k (lastWrite p t)
   pub list : (prefix suffix b : Bytes) (r : Reply) (m′ : Memory) → Made (LIST prefix suffix b) m r m′
       → (o : Map Bytes Object) × Objects t o × (r ≡ listShows prefix suffix b o)
   -- what is read at a path comes of its origin alone: another run from FRESH, over any arena, in which the path has the same origin, reads the

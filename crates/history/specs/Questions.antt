@@ -34,13 +34,13 @@ SameReads m m′ = (c : Call) (r r′ : Reply) (n n′ : Memory) → isLook (kin
 
 -- the call is a PART, a COMMIT or an ABORT of the upload
 abbrev pub names : (upload : ℕ) → Call → Bool
-names u (PUT t p d) = false
-names u (GET p b) = false
-names u (HEAD p) = false
+names u (PUT t p d ps) = false
+names u (GET p b k) = false
+names u (HEAD p k) = false
 names u (DELETE p) = false
 names u (COPY t p q) = false
 names u (LIST prefix suffix b) = false
-names u (INITIATE t p) = false
+names u (INITIATE t p ps) = false
 names u (PART v n d) = eqb u v
 names u (COMMIT v ns) = eqb u v
 names u (ABORT v) = eqb u v

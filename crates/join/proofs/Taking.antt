@@ -1,4 +1,4 @@
--- An upload taken out, its parts' data left after the last byte held, in listed order. Assumes nothing.
+-- An upload taken out, its pairs and its parts' data, in listed order, left after the last byte held. Assumes nothing.
 use Prim.Native.Nat.{ℕ, _+_, _-_, _*_, _≤_}
 use mathlib.Core.Path.{_≡_, refl, sym, ap, _∙_, subst}
 use mathlib.Core.Bool.{false≢true}
@@ -23,6 +23,7 @@ use Rattle.machine.proofs.Fit.{fit-cons, fit-contents, fit-length}
 use Rattle.machine.proofs.MapLaws.{every-lookup, every-remove}
 use Rattle.machine.proofs.MapSums.{length-remove, total-remove, total-share}
 use Rattle.machine.proofs.KeepsValid.{without-upload-valid}
+use Rattle.stored_pairs.specs.Stored.{pairBytes}
 use Rattle.row.specs.Row.{Row, encodeRows, contentsOf}
 use Rattle.row.proofs.RowLaws.{encode-append, contents-append}
 use Rattle.layout.specs.declared.Header.{Header}
@@ -106,7 +107,11 @@ module _ (t a : List ℕ) (s : State) (h : Stands t a s) (u : ℕ) (x : Upload) 
   unfolding boundsOf
   base-is = ap (λ (k : Bounds). k .base) b-is
 
-  size-is : b .size ≡ length (contentsOf parts)
+  pub starts-is : b .parts ≡ length (contentsOf ahead)
+  unfolding boundsOf
+  starts-is = ap (λ (k : Bounds). k .parts) b-is
+
+  size-is : b .size ≡ length (pairBytes (x .pairs)) + length (contentsOf parts)
   unfolding boundsOf
   size-is = ap (λ (k : Bounds). k .size) b-is
 
@@ -119,7 +124,7 @@ module _ (t a : List ℕ) (s : State) (h : Stands t a s) (u : ℕ) (x : Upload) 
   count-is = ap (λ (k : Bounds). k .count) b-is
 
   -- the parts as `arrange` asks for them
-  abbrev pub listed-at : ListedAt t a (b .first) (b .base) list
+  abbrev pub listed-at : ListedAt t a (b .first) (b .parts) list
   listed-at =
       record {
         region = record {
@@ -131,7 +136,7 @@ module _ (t a : List ℕ) (s : State) (h : Stands t a s) (u : ℕ) (x : Upload) 
           arena-before = contentsOf ahead;
           arena-after = contentsOf after ++ h .arena-free;
           arena = arena-told;
-          arena-starts = ap length (parts-data s u x) ∙ sym base-is;
+          arena-starts = sym starts-is;
           encodable = parts-encodable t a s h u x f;
         };
         listed = ys;
@@ -174,7 +179,7 @@ module _ (t a : List ℕ) (s : State) (h : Stands t a s) (u : ℕ) (x : Upload) 
       rows-used =
           omega (arith, ap length (ap encodeRows (parts-after s u x f) ∙ encode-append (throughParts s u x) after), length-append (encodeRows (throughParts s u x)) (encodeRows after))
 
-      data-used : length (contentsOf (rowsOf s)) ≡ length (contentsOf (beforeUpload s u)) + length (contentsOf parts) + length (contentsOf after)
+      data-used : length (contentsOf (rowsOf s)) ≡ length (contentsOf (beforeUpload s u)) + (length (pairBytes (x .pairs)) + length (contentsOf parts)) + length (contentsOf after)
       data-used =
           omega (
             arith,
@@ -203,8 +208,12 @@ module _ (t a : List ℕ) (s : State) (h : Stands t a s) (u : ℕ) (x : Upload) 
   abbrev rows : List Row
   rows = listedRows (partList list) ys
 
+  -- the block of the object
+  abbrev block : List ℕ
+  block = pairBytes (x .pairs) ++ contents ys
+
   -- tables and arena with the parts in listed order
-  module _ (t₁ a₁ : List ℕ) (e : t₁ ≡ orderedTables t a (b .first) (b .base) list listed-at) (e′ : a₁ ≡ orderedArena t a (b .first) (b .base) list listed-at)
+  module _ (t₁ a₁ : List ℕ) (e : t₁ ≡ orderedTables t a (b .first) (b .parts) list listed-at) (e′ : a₁ ≡ orderedArena t a (b .first) (b .parts) list listed-at)
       (keeps : length t₁ ≡ length t) where
     gone : List Row
     gone = uploadRow u x ∷ rows
@@ -258,8 +267,15 @@ module _ (t a : List ℕ) (s : State) (h : Stands t a s) (u : ℕ) (x : Upload) 
         rows-spliced (beforeUpload s u) gone [] after t₁ t₂ header (h .tables-free) [] told (length-header (length a) s (h .small) (h .valid)) refl c₁
         ∙ ap (λ (rs : List Row). header ++ (encodeRows rs ++ drop (headerLength + length (encodeRows (beforeUpload s u ++ after))) t₁)) (sym (without-upload-rows s u x f))
 
-    size-told : b .size ≡ length (contents ys)
-    size-told = size-is ∙ length-part-contents (x .parts) ∙ sym (fit-contents (partList list) (x .parts) ys fits)
+    size-told : b .size ≡ length block
+    size-told =
+        omega (
+          arith,
+          size-is,
+          length-part-contents (x .parts),
+          fit-contents (partList list) (x .parts) ys fits,
+          length-append (pairBytes (x .pairs)) (contents ys),
+        )
 
     right : b .held - (b .base + b .size) ≡ length (contentsOf after)
     right =
@@ -273,25 +289,32 @@ module _ (t a : List ℕ) (s : State) (h : Stands t a s) (u : ℕ) (x : Upload) 
           data-through t a s h u x f,
         )
 
-    pub arena-cut : (a₂ : List ℕ) → a₂ ≡ rotated a₁ (b .base) (b .size) (b .held - (b .base + b .size)) → a₂ ≡ contentsOf (rowsOf s′) ++ (contents ys ++ h .arena-free)
+    arena-told : a₁ ≡ contentsOf (beforeUpload s u) ++ (block ++ (contentsOf after ++ h .arena-free))
     unfolding orderedArena
+    arena-told =
+        e′
+        ∙ ap (λ (l : List ℕ). l ++ (contents ys ++ (contentsOf after ++ h .arena-free))) (parts-data s u x)
+        ∙ append-assoc (contentsOf (beforeUpload s u)) (pairBytes (x .pairs)) (contents ys ++ (contentsOf after ++ h .arena-free))
+        ∙ ap (λ (l : List ℕ). contentsOf (beforeUpload s u) ++ l) (sym (append-assoc (pairBytes (x .pairs)) (contents ys) (contentsOf after ++ h .arena-free)))
+
+    pub arena-cut : (a₂ : List ℕ) → a₂ ≡ rotated a₁ (b .base) (b .size) (b .held - (b .base + b .size)) → a₂ ≡ contentsOf (rowsOf s′) ++ (block ++ h .arena-free)
     arena-cut a₂ c =
-        let rows-are : contentsOf (rowsOf s′) ≡ contentsOf ahead ++ contentsOf after =
-        ap contentsOf (without-upload-rows s u x f) ∙ contents-append (beforeUpload s u) after ∙ ap (λ (l : List ℕ). l ++ contentsOf after) (sym (parts-data s u x)) in
-        rotated-parts a₁ (contentsOf ahead) (contents ys) (contentsOf after) (h .arena-free) (b .base) (b .size) (b .held - (b .base + b .size)) e′ (ap length (parts-data s u x) ∙ sym base-is) (sym size-told) (sym right) a₂ c
-        ∙ sym (append-assoc (contentsOf ahead) (contentsOf after) (contents ys ++ h .arena-free))
-        ∙ ap (λ (l : List ℕ). l ++ (contents ys ++ h .arena-free)) (sym rows-are)
+        let rows-are : contentsOf (rowsOf s′) ≡ contentsOf (beforeUpload s u) ++ contentsOf after =
+        ap contentsOf (without-upload-rows s u x f) ∙ contents-append (beforeUpload s u) after in
+        rotated-parts a₁ (contentsOf (beforeUpload s u)) block (contentsOf after) (h .arena-free) (b .base) (b .size) (b .held - (b .base + b .size)) arena-told (sym base-is) (sym size-told) (sym right) a₂ c
+        ∙ sym (append-assoc (contentsOf (beforeUpload s u)) (contentsOf after) (block ++ h .arena-free))
+        ∙ ap (λ (l : List ℕ). l ++ (block ++ h .arena-free)) (sym rows-are)
 
   -- the upload's rows cut out of the ordered tables, and its data moved to after those still held
-  pub taken : (t₁ a₁ t₂ a₂ : List ℕ) (digest : Digest) (head : Header) → Arranged t a (b .first) (b .base) list listed-at t₁ a₁ digest → length t₁ ≡ length t → head ≡ headerOf (length a) s
+  pub taken : (t₁ a₁ t₂ a₂ : List ℕ) (digest : Digest) (head : Header) → Arranged t a (b .first) (b .parts) list listed-at t₁ a₁ digest → length t₁ ≡ length t → head ≡ headerOf (length a) s
       → t₂ ≡ headed (spliced t₁ (b .at) (b .after - b .at) (b .used) [])
       (record { arena = head .arena; next = head .next; objects = head .objects; uploads = head .uploads - 1; parts = head .parts - b .count })
       → a₂ ≡ rotated a₁ (b .base) (b .size) (b .held - (b .base + b .size)) → length t₂ ≡ length t → length a₂ ≡ length a
-      → Stands t₂ a₂ s′ × (take (b .size) (drop (held s′) a₂) ≡ contents ys) × (b .size ≡ length (contents ys)) × (b .count ≡ length ys) × (bytesOf digest ≡ md5 (digests ys))
+      → Stands t₂ a₂ s′ × (take (b .size) (drop (held s′) a₂) ≡ block) × (b .size ≡ length block) × (b .count ≡ length ys) × (bytesOf digest ≡ md5 (digests ys))
   taken t₁ a₁ t₂ a₂ digest head g keeps is e e′ l l′ =
       let free = drop (headerLength + length (encodeRows (beforeUpload s u ++ after))) t₁ in
       let cut = tables-cut t₁ a₁ (g .tables) (g .arena) keeps _ refl in
-      let arena : a₂ ≡ contentsOf (rowsOf s′) ++ (contents ys ++ h .arena-free) = arena-cut t₁ a₁ (g .tables) (g .arena) keeps a₂ e′ in
+      let arena : a₂ ≡ contentsOf (rowsOf s′) ++ (block ++ h .arena-free) = arena-cut t₁ a₁ (g .tables) (g .arena) keeps a₂ e′ in
       let written = header-written (length a) s s′ _ t₂ (encodeRows (rowsOf s′) ++ free) _ (length-header (length a) s (h .small) (h .valid)) cut (closed-is head is) e in
       let size = size-told t₁ a₁ (g .tables) (g .arena) keeps in
       let stands : Stands t₂ a₂ s′ = record {
@@ -300,12 +323,12 @@ module _ (t a : List ℕ) (s : State) (h : Stands t a s) (u : ℕ) (x : Upload) 
         valid = subst (λ (A : ℕ). Valid A s′) (sym l′) (without-upload-valid (length a) s u (h .valid));
         tables-free = free;
         tables = written ∙ ap (λ (A : ℕ). encodeHeader A s′ ++ (encodeRows (rowsOf s′) ++ free)) (sym l′);
-        arena-free = contents ys ++ h .arena-free;
+        arena-free = block ++ h .arena-free;
         arena = arena;
       } in
-      let rest : drop (held s′) a₂ ≡ contents ys ++ h .arena-free = ap (drop (held s′)) arena ∙ drop-at (contentsOf (rowsOf s′)) (contents ys ++ h .arena-free) (held s′) (length-contents s′) in (
+      let rest : drop (held s′) a₂ ≡ block ++ h .arena-free = ap (drop (held s′)) arena ∙ drop-at (contentsOf (rowsOf s′)) (block ++ h .arena-free) (held s′) (length-contents s′) in (
         stands,
-        ap (take (b .size)) rest ∙ take-at (contents ys) (h .arena-free) (b .size) (sym size),
+        ap (take (b .size)) rest ∙ take-at block (h .arena-free) (b .size) (sym size),
         size,
         count-is ∙ sym (fit-length (partList list) (x .parts) ys fits),
         ap bytesOf (g .digest-is) ∙ sym (digestBytes-is (digests ys)),

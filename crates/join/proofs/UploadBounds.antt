@@ -4,12 +4,14 @@ use mathlib.Core.Path.{_≡_, refl, ap, _∙_, subst}
 use mathlib.Core.List.{List, [], _∷_, _++_, append-nil}
 use mathlib.Core.Option.{some}
 use native.Mathlib.Omega.{arith}
-use lib.ListN.{length, length-append}
+use lib.ListN.{length, drop, length-append}
 use Rattle.order.proofs.OrderLaws.{numbers}
 use Rattle.machine.specs.Map.{Map, byNumber, lookup}
 use Rattle.machine.specs.State.{Part, Upload, State, partsIn}
 use Rattle.machine.proofs.MapSums.{total-share}
-use Rattle.row.specs.Row.{encodeRow, encodeRows, contentsOf, headLength, EncodableAll}
+use Rattle.stored_pairs.specs.Stored.{pairBytes}
+use Rattle.row.specs.declared.Head.{Head}
+use Rattle.row.specs.Row.{headAt, encodeRow, encodeRows, contentsOf, headLength, EncodableAll}
 use Rattle.row.proofs.RowLaws.{encode-append, contents-append, encodable-left, encodable-right, length-row}
 use Rattle.layout.specs.Rules.{partsMost}
 use Rattle.layout.specs.Memory.{uploadRow, partRow, partRows, rowsOf, Stands}
@@ -21,16 +23,20 @@ use Rattle.find.specs.declared.PassedParts.{PassedParts}
 use Rattle.find.specs.Places.{placeAfter, beforeUpload, beforeParts, throughParts, afterUpload, uploadPlace, passedParts}
 use Rattle.find.proofs.Splits.{parts-place}
 use Rattle.join.specs.Bounds.{boundsOf}
+use Rattle.join.proofs.PathRead.{size-there}
 
 length-part-bytes : (m : Map ℕ Part) → EncodableAll (partRows m) → length (encodeRows (partRows m)) ≡ headLength * length m
 unfolding partRows encodeRows
 length-part-bytes [] f = refl
 length-part-bytes (e ∷ m) f = omega (arith, length-append (encodeRow (partRow (e .0) (e .1))) (encodeRows (partRows m)), length-row _ (f .0), length-part-bytes m (f .1))
 
--- no data stand in an upload's own row
-pub parts-data : (s : State) (u : ℕ) (x : Upload) → contentsOf (beforeParts s u x) ≡ contentsOf (beforeUpload s u)
+-- an upload's own row has its pairs
+pub parts-data : (s : State) (u : ℕ) (x : Upload) → contentsOf (beforeParts s u x) ≡ contentsOf (beforeUpload s u) ++ pairBytes (x .pairs)
 unfolding beforeParts contentsOf
-parts-data s u x = contents-append (beforeUpload s u) (uploadRow u x ∷ []) ∙ append-nil (contentsOf (beforeUpload s u))
+parts-data s u x = contents-append (beforeUpload s u) (uploadRow u x ∷ []) ∙ ap (λ (l : List ℕ). contentsOf (beforeUpload s u) ++ l) (append-nil (pairBytes (x .pairs)))
+
+pub length-parts-data : (s : State) (u : ℕ) (x : Upload) → length (contentsOf (beforeParts s u x)) ≡ length (contentsOf (beforeUpload s u)) + length (pairBytes (x .pairs))
+length-parts-data s u x = ap length (parts-data s u x) ∙ length-append (contentsOf (beforeUpload s u)) (pairBytes (x .pairs))
 
 module _ (t a : List ℕ) (s : State) (h : Stands t a s) (u : ℕ) (x : Upload) (f : lookup byNumber u (s .U) ≡ some x) where
   pub parts-encodable : EncodableAll (partRows (x .parts))
@@ -51,17 +57,18 @@ module _ (t a : List ℕ) (s : State) (h : Stands t a s) (u : ℕ) (x : Upload) 
         length-part-bytes (x .parts) parts-encodable,
       )
 
-  pub data-through : length (contentsOf (throughParts s u x)) ≡ length (contentsOf (beforeUpload s u)) + length (contentsOf (partRows (x .parts)))
+  pub data-through : length (contentsOf (throughParts s u x)) ≡ length (contentsOf (beforeUpload s u)) + (length (pairBytes (x .pairs)) + length (contentsOf (partRows (x .parts))))
   unfolding throughParts
   data-through =
       omega (
         arith,
         ap length (contents-append (beforeParts s u x) (partRows (x .parts))),
         length-append (contentsOf (beforeParts s u x)) (contentsOf (partRows (x .parts))),
-        ap length (parts-data s u x),
+        length-parts-data s u x,
       )
 
-  module _ (place : Lookup) (place-is : place ≡ uploadPlace s u) (parts : PassedParts) (parts-are : parts ≡ passedParts s u x) (end : RowPlace) (end-is : end ≡ placeAfter (rowsOf s)) where
+  module _ (place : Lookup) (place-is : place ≡ uploadPlace s u) (parts : PassedParts) (parts-are : parts ≡ passedParts s u x) (end : RowPlace) (end-is : end ≡ placeAfter (rowsOf s))
+      (head : Head) (head-is : head ≡ headAt (drop (place .at) t)) where
     at-is : place .at ≡ headerLength + length (encodeRows (beforeUpload s u))
     unfolding uploadPlace
     at-is = ap (λ (k : Lookup). k .at) place-is
@@ -88,6 +95,12 @@ module _ (t a : List ℕ) (s : State) (h : Stands t a s) (u : ℕ) (x : Upload) 
     pub rows-within : headLength * parts .count ≤ parts .next .at
     rows-within = omega (arith, count-is, after-is, rows-through)
 
+    size-read : head .size ≡ length (pairBytes (x .pairs))
+    size-read = size-there t a s h u x f place place-is head head-is
+
+    parts-is : place .base + head .size ≡ length (contentsOf (beforeParts s u x))
+    parts-is = omega (arith, base-is, size-read, length-parts-data s u x)
+
     pub base-within : place .base ≤ parts .next .base
     base-within = omega (arith, base-is, data-after, data-through)
 
@@ -97,6 +110,7 @@ module _ (t a : List ℕ) (s : State) (h : Stands t a s) (u : ℕ) (x : Upload) 
       after = parts .next .at;
       used = end .at;
       base = place .base;
+      parts = place .base + head .size;
       size = parts .next .base - place .base;
       held = end .base;
       count = parts .count;
@@ -104,7 +118,7 @@ module _ (t a : List ℕ) (s : State) (h : Stands t a s) (u : ℕ) (x : Upload) 
     unfolding boundsOf
     bounds-are =
         let first : parts .next .at - headLength * parts .count ≡ headerLength + length (encodeRows (beforeParts s u x)) = omega (arith, count-is, after-is, rows-through) in
-        let size : parts .next .base - place .base ≡ length (contentsOf (partRows (x .parts))) = omega (arith, base-is, data-after, data-through) in
+        let size : parts .next .base - place .base ≡ length (pairBytes (x .pairs)) + length (contentsOf (partRows (x .parts))) = omega (arith, base-is, data-after, data-through) in
         let used : end .at ≡ headerLength + length (encodeRows (rowsOf s)) = ap (λ (k : RowPlace). k .at) end-is in
         let held : end .base ≡ length (contentsOf (rowsOf s)) = ap (λ (k : RowPlace). k .base) end-is in
-        λ i. record { at = at-is i; first = first i; after = after-is i; used = used i; base = base-is i; size = size i; held = held i; count = count-is i }
+        λ i. record { at = at-is i; first = first i; after = after-is i; used = used i; base = base-is i; parts = parts-is i; size = size i; held = held i; count = count-is i }

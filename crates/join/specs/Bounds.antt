@@ -1,8 +1,9 @@
--- Where an upload's rows and its parts' data begin and end. Assumes nothing.
+-- Where an upload's rows, its block and its parts' data begin and end. Assumes nothing.
 use Prim.Native.Nat.{ℕ, _+_, _≤_}
 use mathlib.Core.List.{List}
 use lib.ListN.{length}
 use Rattle.machine.specs.State.{Upload, State}
+use Rattle.stored_pairs.specs.Stored.{pairBytes}
 use Rattle.row.specs.Row.{encodeRows, contentsOf}
 use Rattle.layout.specs.Header.{headerLength}
 use Rattle.layout.specs.Memory.{partRows, rowsOf}
@@ -23,7 +24,8 @@ boundsOf s u x =
       after = headerLength + length (encodeRows (throughParts s u x));
       used = headerLength + length (encodeRows (rowsOf s));
       base = length (contentsOf (beforeUpload s u));
-      size = length (contentsOf (partRows (x .parts)));
+      parts = length (contentsOf (beforeParts s u x));
+      size = length (pairBytes (x .pairs)) + length (contentsOf (partRows (x .parts)));
       held = length (contentsOf (rowsOf s));
       count = length (x .parts);
     }

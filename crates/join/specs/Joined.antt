@@ -2,7 +2,7 @@
 use Prim.Native.Nat.{ℕ}
 use mathlib.Core.Path.{_≡_}
 use mathlib.Core.Bool.{true}
-use mathlib.Core.List.{List}
+use mathlib.Core.List.{List, _++_}
 use mathlib.Core.Option.{some}
 use lib.ListN.{length, take, drop}
 use Rattle.md5.specs.Md5.{bytesOf}
@@ -12,6 +12,7 @@ use Rattle.machine.specs.Digest.{md5}
 use Rattle.machine.specs.State.{Part, Upload, State, held, withObject, withoutUpload}
 use Rattle.machine.specs.Steps.{fit, contents, digests, joinedObject}
 use Rattle.machine.specs.Valid.{Valid}
+use Rattle.stored_pairs.specs.Stored.{pairLengths, pairBytes}
 use Rattle.layout.specs.Memory.{whole, stateOf, Stands}
 use Rattle.contract.specs.Answers.{partList}
 use Rattle.join.specs.declared.Taken.{Taken}
@@ -37,11 +38,11 @@ pub record Joinable (t a : List ℕ) (u : ℕ) (list : Bytes) : Type 0 where
   pub listed : Listed (stateOf t a) u (partList list)
   pub valid : Valid (length a) (joinedState (stateOf t a) u (partList list) listed)
 
--- the upload is out, and its parts' data stand after the last byte held, in listed order
+-- the upload is out, and the block of the object stands after the last byte held: the upload's pairs, then its parts' data in listed order
 pub record TakenOut (t a : List ℕ) (u : ℕ) (list : Bytes) (k : Listed (stateOf t a) u (partList list)) (t′ a′ : List ℕ) (r : Taken) : Type 0 where
   pub stands : Stands t′ a′ (withoutUpload (stateOf t a) u)
-  pub content : take (r .size) (drop (held (withoutUpload (stateOf t a) u)) a′) ≡ contents (k .listed)
-  pub size-is : r .size ≡ length (contents (k .listed))
+  pub content : take (r .size) (drop (held (withoutUpload (stateOf t a) u)) a′) ≡ pairBytes (k .upload .pairs) ++ contents (k .listed)
+  pub size-is : r .size ≡ length (pairBytes (k .upload .pairs) ++ contents (k .listed))
   pub count-is : r .count ≡ length (k .listed)
   pub digest-is : bytesOf (r .digest) ≡ md5 (digests (k .listed))
 
@@ -50,3 +51,8 @@ pub record JoinableAt (t a : List ℕ) (u : ℕ) (list path : Bytes) (stamp : �
   pub joinable : Joinable t a u list
   pub path-is : path ≡ joinable .listed .upload .path
   pub stamp-is : stamp ≡ joinable .listed .upload .started
+
+-- the same, and the lengths of its pairs
+pub record JoinableWith (t a : List ℕ) (u : ℕ) (list path lengths : Bytes) (stamp : ℕ) : Type 0 where
+  pub at-path : JoinableAt t a u list path stamp
+  pub lengths-are : lengths ≡ pairLengths (at-path .joinable .listed .upload .pairs)

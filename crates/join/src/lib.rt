@@ -11,22 +11,24 @@ ghost use Rattle.layout.specs.Header.{headed};
 ghost use Rattle.find.specs.Known.{WholeOpen, OfOpen};
 ghost use Rattle.contract.specs.Answers.{partList};
 ghost use Rattle.join.specs.Bounds.{Inside, boundsOf};
-ghost use Rattle.join.specs.Joined.{Listed, Joins, TakenOut, Joinable, JoinableAt};
+ghost use Rattle.join.specs.Joined.{Listed, Joins, TakenOut, Joinable, JoinableAt, JoinableWith};
 
 // Where an upload's row, its first part's row, the rows after its parts and the free bytes begin in the tables; where
-// its parts' data begin in the arena, their size, and what is held; how many parts it has.
+// its block and its parts' data begin in the arena, the size of both together, and what is held; how many parts it has.
 pub struct Bounds {
     pub at: usize,
     pub first: usize,
     pub after: usize,
     pub used: usize,
     pub base: usize,
+    pub parts: usize,
     pub size: usize,
     pub held: usize,
     pub count: usize,
 }
 
-// What is known of an upload that was taken out: the digest of its parts' digests, the size of their data, their count.
+// What is known of an upload that was taken out: the digest of its parts' digests, the size of its pairs and their data,
+// how many parts it had.
 pub struct Taken {
     pub digest: Digest,
     pub size: usize,
@@ -42,19 +44,24 @@ fn upload_bounds(tables: &[u8], arena: &[u8], upload: u32) -> Bounds
     let parts = find::parts_end(tables, arena, upload);
     let end = find::rows_end(tables, arena);
     let next = parts.next;
+    let at = place.at;
+    let base = place.base;
+    let h = row::read_head(tables, at);
+    let data = base + h.size as usize;
     Bounds {
-        at: place.at,
+        at,
         first: next.at - row::HEAD_LENGTH * parts.count,
         after: next.at,
         used: end.at,
-        base: place.base,
-        size: next.base - place.base,
+        base,
+        parts: data,
+        size: next.base - base,
         held: end.base,
         count: parts.count,
     }
 }
 
-// The upload's rows cut out, and its parts' data moved to after the last byte that is still held.
+// The upload's rows cut out, and its pairs and its parts' data moved to after the last byte that is still held.
 fn cut(tables: &mut [u8], arena: &mut [u8], b: Bounds, header: Header)
     requires { ⌜ Inside (now tables) (now arena) b ⌝ }
     ensures { λ _. ⌜ (now (tables .exit)
@@ -66,7 +73,7 @@ fn cut(tables: &mut [u8], arena: &mut [u8], b: Bounds, header: Header)
     edit::rows::remove_rows(tables, b.at, b.after - b.at, b.used, header);
 }
 
-// An open upload taken out, its parts' data left after the last byte held, in listed order.
+// An open upload taken out, its pairs and its parts' data, in listed order, left after the last byte held.
 fn take_upload(tables: &mut [u8], arena: &mut [u8], upload: u32, list: &[u8]) -> Taken
     requires { ⌜ (whole (now tables) (now arena) ≡ true)
         × Listed (stateOf (now tables) (now arena)) upload (partList (now list)) ⌝ }
@@ -85,7 +92,7 @@ fn take_upload(tables: &mut [u8], arena: &mut [u8], upload: u32, list: &[u8]) ->
         uploads: h.uploads - 1,
         parts: h.parts - count,
     };
-    let digest = join_order::arrange(tables, arena, b.first, b.base, list);
+    let digest = join_order::arrange(tables, arena, b.first, b.parts, list);
     cut(tables, arena, b, header);
     Taken {
         digest,
@@ -94,13 +101,21 @@ fn take_upload(tables: &mut [u8], arena: &mut [u8], upload: u32, list: &[u8]) ->
     }
 }
 
-// An upload's parts joined into an object at the upload's path, with its start stamp.
-fn join_at(tables: &mut [u8], arena: &mut [u8], upload: u32, list: &[u8], path: &[u8], stamp: u64)
-    requires { ⌜ JoinableAt (now tables) (now arena) upload (now list) (now path) stamp ⌝ }
-    ensures { λ _. ⌜ ((k : JoinableAt (now (tables .entry)) (now (arena .entry)) upload
-        (now (list .entry)) (now (path .entry)) stamp)
+// An upload's parts joined into an object at the upload's path, with its start stamp and pairs of these lengths.
+fn join_with(
+    tables: &mut [u8],
+    arena: &mut [u8],
+    upload: u32,
+    list: &[u8],
+    path: &[u8],
+    lengths: &[u8],
+    stamp: u64,
+)
+    requires { ⌜ JoinableWith (now tables) (now arena) upload (now list) (now path) (now lengths) stamp ⌝ }
+    ensures { λ _. ⌜ ((k : JoinableWith (now (tables .entry)) (now (arena .entry)) upload
+        (now (list .entry)) (now (path .entry)) (now (lengths .entry)) stamp)
         → Joins (now (tables .entry)) (now (arena .entry)) (now (tables .exit)) (now (arena .exit)) upload
-        (now (list .entry)) (k .joinable .listed)) ⌝ }
+        (now (list .entry)) (k .at-path .joinable .listed)) ⌝ }
 {
     edit::objects::free_path(tables, arena, path);
     let taken = take_upload(tables, arena, upload, list);
@@ -112,8 +127,25 @@ fn join_at(tables: &mut [u8], arena: &mut [u8], upload: u32, list: &[u8], path: 
         taken.count,
         taken.digest,
         path,
+        lengths,
         taken.size,
     );
+}
+
+// The same, with the lengths that stand in the upload's row: they wait in a local array.
+fn join_at(tables: &mut [u8], arena: &mut [u8], upload: u32, list: &[u8], path: &[u8], stamp: u64)
+    requires { ⌜ JoinableAt (now tables) (now arena) upload (now list) (now path) stamp ⌝ }
+    ensures { λ _. ⌜ ((k : JoinableAt (now (tables .entry)) (now (arena .entry)) upload
+        (now (list .entry)) (now (path .entry)) stamp)
+        → Joins (now (tables .entry)) (now (arena .entry)) (now (tables .exit)) (now (arena .exit)) upload
+        (now (list .entry)) (k .joinable .listed)) ⌝ }
+{
+    let place = find::find_upload(tables, arena, upload);
+    let stored = find::pairs::lengths(tables, place.at);
+    let n = stored.len();
+    let mut lengths = [0u8; 16];
+    buffer::copy_at(&mut lengths, 0, stored);
+    join_with(tables, arena, upload, list, path, &lengths[..n], stamp);
 }
 
 // An open upload's parts, joined in listed order into an object at its path; the upload is gone.

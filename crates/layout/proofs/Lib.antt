@@ -3,6 +3,7 @@ pub mod WholeLaws
 pub mod RowCounts
 pub mod UploadLaws
 pub mod ObjectLaws
+pub mod PairRows
 pub mod TestLaws
 pub mod FreeBytes
 pub mod HeaderFields

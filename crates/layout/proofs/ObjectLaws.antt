@@ -13,11 +13,16 @@ use Rattle.machine.specs.Names.{Bytes, storedPathOk}
 use Rattle.machine.specs.Etags.{Etag, absent, plain, joined, countOf, digestOf}
 use Rattle.machine.specs.State.{Object}
 use Rattle.machine.specs.Valid.{EtagOk, ObjectOk}
-use Rattle.row.specs.Row.{Row, contentsOf, Encodable, EncodableAll}
+use Rattle.machine.specs.Pairs.{pairsMost}
+use Rattle.machine.proofs.PairLaws.{kept-few}
+use Rattle.stored_pairs.proofs.StoredLaws.{length-lengths, stored-decode}
+use Rattle.stored_pairs.proofs.Blocks.{data-back}
+use Rattle.row.specs.Row.{Row, headOf, contentsOf, Encodable, EncodableAll}
 use Rattle.row.proofs.RowLaws.{Follows}
-use Rattle.layout.specs.Rules.{plainKind, joinedKind, partsMost, isLess, objectRule, objectOk, objectNext}
+use Rattle.layout.specs.Rules.{plainKind, joinedKind, partsMost, isLess, pairsRule, objectRule, objectOk, objectNext}
 use Rattle.layout.specs.Memory.{objectRow, objectRows, objectOf, objectsOf, rowEtag, rowKind}
 use Rattle.layout.proofs.TestLaws.{all-true, true-all, stored-path-length, stamp-range, stamp-ok}
+use Rattle.layout.proofs.PairRows.{Paired, paired, pairs-ok}
 
 is-less : (o : Ordering) → isLess o ≡ true → o ≡ Ordering·lt
 is-less Ordering·lt e = refl
@@ -56,57 +61,68 @@ record ObjectIs (last : List ℕ) (r : Row) : Type 0 where
   path : storedPathOk (r .path) ≡ true
   later : byBytes last (r .path) ≡ Ordering·lt
 
-object-is : (last : List ℕ) (r : Row) → objectOk last r ≡ true → ObjectIs last r
-unfolding objectRule
-object-is last r e =
-    let h = all-true _ e in
-    record {
-      number = sym (eqb-true _ _ (h .0));
-      stamp = leb-true _ _ (h .1 .0);
-      etag = etagged (r .kind) (r .count) (r .digest) (leb-true _ _ (h .1 .1 .0)) (leb-true _ _ (h .1 .1 .1 .0));
-      path = h .1 .1 .1 .1 .0;
-      later = is-less _ (h .1 .1 .1 .1 .1 .0);
-    }
-
-row-same : (last : List ℕ) (r : Row) → ObjectIs last r → objectRow (r .path) (objectOf r) ≡ r
-row-same last r h =
-    λ i. record {
-      number = h .number i;
-      stamp = r .stamp;
-      kind = h .etag .same-kind i;
-      count = h .etag .same-count i;
-      digest = h .etag .same-digest i;
-      path = r .path;
-      content = r .content;
-    }
-
-pub object-rows-same : (last : List ℕ) (rs : List Row) → Follows (List ℕ) objectOk objectNext last rs → objectRows (objectsOf rs) ≡ rs
-unfolding objectRows objectsOf
-object-rows-same last [] v = refl
-object-rows-same last (r ∷ rs) v = ap₂ (λ (x : Row) (l : List Row). x ∷ l) (row-same last r (object-is last r (v .0))) (object-rows-same (r .path) rs (v .1))
-
-pub objects-above : (last : List ℕ) (rs : List Row) → Follows (List ℕ) objectOk objectNext last rs → Above byBytes last (objectsOf rs)
-unfolding objectsOf
-objects-above last [] v = tt
-objects-above last (r ∷ rs) v = object-is last r (v .0) .later
-
-pub objects-ascending : (last : List ℕ) (rs : List Row) → Follows (List ℕ) objectOk objectNext last rs → Ascending byBytes (objectsOf rs)
-unfolding objectsOf
-objects-ascending last [] v = tt
-objects-ascending last (r ∷ rs) v = (objects-above (r .path) rs (v .1), objects-ascending (r .path) rs (v .1))
-
-pub objects-ok : (last : List ℕ) (rs : List Row) → EncodableAll rs → Follows (List ℕ) objectOk objectNext last rs → Every ObjectOk (objectsOf rs)
-unfolding objectsOf
-objects-ok last [] f v = tt
-objects-ok last (r ∷ rs) f v =
-    let h = object-is last r (v .0) in (
+-- rows that may have `most` pairs
+module _ (most : ℕ) where
+  object-is : (last : List ℕ) (r : Row) → objectOk most last r ≡ true → ObjectIs last r
+  unfolding objectRule
+  object-is last r e =
+      let h = all-true _ e in
       record {
-        path = h .path;
-        stamp = stamp-ok (r .stamp) (h .stamp) (f .0 .fits .1 .1 .0);
-        etag = h .etag .ok (f .0 .digest);
-      },
-      objects-ok (r .path) rs (f .1) (v .1),
-    )
+        number = sym (eqb-true _ _ (h .0));
+        stamp = leb-true _ _ (h .1 .0);
+        etag = etagged (r .kind) (r .count) (r .digest) (leb-true _ _ (h .1 .1 .0)) (leb-true _ _ (h .1 .1 .1 .0));
+        path = h .1 .1 .1 .1 .0;
+        later = is-less _ (h .1 .1 .1 .1 .1 .0);
+      }
+
+  -- the pairs of an object's row keep their rule
+  pub object-pairs : (last : List ℕ) (r : Row) → objectOk most last r ≡ true → pairsRule most (headOf r) (r .lengths) (r .content) ≡ true
+  unfolding objectRule
+  object-pairs last r e = all-true _ e .1 .1 .1 .1 .1 .1 .0
+
+  row-same : (last : List ℕ) (r : Row) → Paired r → ObjectIs last r → objectRow (r .path) (objectOf r) ≡ r
+  row-same last r m h =
+      λ i. record {
+        number = h .number i;
+        stamp = r .stamp;
+        kind = h .etag .same-kind i;
+        count = h .etag .same-count i;
+        digest = h .etag .same-digest i;
+        path = r .path;
+        pairs = m .count i;
+        lengths = m .lengths i;
+        content = m .content i;
+      }
+
+  pub object-rows-same : (last : List ℕ) (rs : List Row) → EncodableAll rs → Follows (List ℕ) (objectOk most) objectNext last rs → objectRows (objectsOf rs) ≡ rs
+  unfolding objectRows objectsOf
+  object-rows-same last [] f v = refl
+  object-rows-same last (r ∷ rs) f v =
+      ap₂ (λ (x : Row) (l : List Row). x ∷ l) (row-same last r (paired most r (f .0) (object-pairs last r (v .0))) (object-is last r (v .0))) (object-rows-same (r .path) rs (f .1) (v .1))
+
+  pub objects-above : (last : List ℕ) (rs : List Row) → Follows (List ℕ) (objectOk most) objectNext last rs → Above byBytes last (objectsOf rs)
+  unfolding objectsOf
+  objects-above last [] v = tt
+  objects-above last (r ∷ rs) v = object-is last r (v .0) .later
+
+  pub objects-ascending : (last : List ℕ) (rs : List Row) → Follows (List ℕ) (objectOk most) objectNext last rs → Ascending byBytes (objectsOf rs)
+  unfolding objectsOf
+  objects-ascending last [] v = tt
+  objects-ascending last (r ∷ rs) v = (objects-above (r .path) rs (v .1), objects-ascending (r .path) rs (v .1))
+
+  pub objects-ok : (last : List ℕ) (rs : List Row) → EncodableAll rs → Follows (List ℕ) (objectOk most) objectNext last rs → Every ObjectOk (objectsOf rs)
+  unfolding objectsOf
+  objects-ok last [] f v = tt
+  objects-ok last (r ∷ rs) f v =
+      let h = object-is last r (v .0) in (
+        record {
+          path = h .path;
+          stamp = stamp-ok (r .stamp) (h .stamp) (f .0 .fits .1 .1 .0);
+          etag = h .etag .ok (f .0 .digest);
+          pairs = paired most r (f .0) (object-pairs last r (v .0)) .kept;
+        },
+        objects-ok (r .path) rs (f .1) (v .1),
+      )
 
 pub length-objects : (rs : List Row) → length (objectsOf rs) ≡ length rs
 unfolding objectsOf
@@ -128,7 +144,10 @@ etag-is (plain d) o = record { kind = omega arith; count = omega arith; most = o
 etag-is (joined d n) o = record { kind = omega arith; count = o .1; most = o .1; digest = o .0; same = refl }
 
 pub object-back : (x : Object) → EtagOk (x .etag) → (p : Bytes) → objectOf (objectRow p x) ≡ x
-object-back x o p = λ i. record { content = x .content; created = x .created; etag = etag-is (x .etag) o .same i }
+object-back x o p =
+    let content = data-back (x .pairs) (x .content) in
+    let pairs = stored-decode (x .pairs) (x .content) in
+    λ i. record { content = content i; created = x .created; etag = etag-is (x .etag) o .same i; pairs = pairs i }
 
 pub objects-back : (m : Map Bytes Object) → Every ObjectOk m → objectsOf (objectRows m) ≡ m
 unfolding objectsOf objectRows
@@ -144,24 +163,27 @@ path-later : (p : Bytes) → 1 ≤ length p → byBytes [] p ≡ Ordering·lt
 path-later [] h = absurd (omega arith)
 path-later (b ∷ p) h = refl
 
-pub object-encodable : (p : Bytes) (x : Object) → length (x .content) < 256 ^ 4 → ObjectOk p x → Encodable (objectRow p x)
+pub object-encodable : (p : Bytes) (x : Object) → length (objectRow p x .content) < 256 ^ 4 → ObjectOk p x → Encodable (objectRow p x)
 object-encodable p x l o =
     let e = etag-is (x .etag) (o .etag) in
     let q = stored-path-length p (o .path) in
     let t = stamp-range (x .created) (o .stamp) in
     record {
-      fits = (l, (omega arith, (omega (arith, t .below), (omega (arith, e .kind), (omega (arith, q .below), (omega (arith, e .most), tt))))));
+      fits = (l, (omega arith, (omega (arith, t .below), (omega (arith, e .kind, kept-few (x .pairs) (o .pairs)), (omega (arith, q .below), (omega (arith, e .most), tt))))));
       digest = e .digest;
+      kind = omega (arith, e .kind);
+      lengths = length-lengths (x .pairs);
     }
 
 pub object-rows-encodable : (m : Map Bytes Object) → length (contentsOf (objectRows m)) < 256 ^ 4 → Every ObjectOk m → EncodableAll (objectRows m)
 unfolding objectRows contentsOf
 object-rows-encodable [] l v = tt
 object-rows-encodable (e ∷ m) l v =
-    let s = length-append (e .1 .content) (contentsOf (objectRows m)) in
+    let s = length-append (objectRow (e .0) (e .1) .content) (contentsOf (objectRows m)) in
     (object-encodable (e .0) (e .1) (omega arith) (v .0), object-rows-encodable m (omega arith) (v .1))
 
-pub object-rows-follow : (last : List ℕ) (m : Map Bytes Object) → Above byBytes last m → Ascending byBytes m → Every ObjectOk m → Follows (List ℕ) objectOk objectNext last (objectRows m)
+pub object-rows-follow : (last : List ℕ) (m : Map Bytes Object) → Above byBytes last m → Ascending byBytes m → Every ObjectOk m
+    → Follows (List ℕ) (objectOk pairsMost) objectNext last (objectRows m)
 unfolding objectRows objectRule
 object-rows-follow last [] h a v = tt
 object-rows-follow last (e ∷ m) h a v =
@@ -176,7 +198,7 @@ object-rows-follow last (e ∷ m) h a v =
               le-leb _ _ (g .count),
               (
                 v .0 .path,
-                (ap isLess h, tt),
+                (ap isLess h, (pairs-ok (e .1 .pairs) (headOf (objectRow (e .0) (e .1))) _ (e .1 .content) (v .0 .pairs) refl refl, tt)),
               ),
             ),
           ),

@@ -7,6 +7,7 @@ use native.Mathlib.Omega.{arith}
 use borrow.Author.Tests.{le-leb, eq-eqb}
 use lib.ListN.{length, drop}
 use lib.Seq.{drop-at}
+use Rattle.machine.specs.Pairs.{pairsMost}
 use Rattle.machine.specs.State.{State, held}
 use Rattle.machine.specs.Valid.{Valid}
 use Rattle.row.specs.Fields.{numbersAt, Fit}
@@ -155,24 +156,24 @@ module _ {T : ℕ} (t a : List ℕ) (s : State) (h : StandsOf T t a s) where
         ),
       )
 
-  objects-ok-back : objectsGood t a ≡ true
+  objects-ok-back : objectsGood pairsMost t a ≡ true
   unfolding objectsGood
   objects-ok-back =
-      ap (λ (n : ℕ). good (List ℕ) objectOk objectNext n [] (drop headerLength t) a) count-is
-      ∙ ap₂ (good (List ℕ) objectOk objectNext (length (objectRows (s .O))) []) tables₁-is arena₁-is
-      ∙ rows-complete (List ℕ) objectOk objectNext [] (objectRows (s .O)) upload-rest upload-data encodable-objects
+      ap (λ (n : ℕ). good (List ℕ) (objectOk pairsMost) objectNext n [] (drop headerLength t) a) count-is
+      ∙ ap₂ (good (List ℕ) (objectOk pairsMost) objectNext (length (objectRows (s .O))) []) tables₁-is arena₁-is
+      ∙ rows-complete (List ℕ) (objectOk pairsMost) objectNext [] (objectRows (s .O)) upload-rest upload-data encodable-objects
       (object-rows-follow [] (s .O) (objects-first (s .O) (h .valid .object)) (h .valid .objects) (h .valid .object))
 
-  uploads-ok-back : uploadsGood t a ≡ true
+  uploads-ok-back : uploadsGood pairsMost t a ≡ true
   unfolding uploadsGood
   uploads-ok-back =
       let n : headerAt t .next ≡ s .N = ap (λ (x : Header). x .next) header-back in
-      ap₂ (λ (N n : ℕ). good Mark (entryOk N) entryNext n start (uploadTables t a) (uploadArena t a)) n count₂-is
-      ∙ ap₂ (good Mark (entryOk (s .N)) entryNext (length (uploadRows (s .U))) start) upload-tables-are upload-arena-is
-      ∙ rows-complete Mark (entryOk (s .N)) entryNext start (uploadRows (s .U)) (h .tables-free) (h .arena-free) encodable-uploads
+      ap₂ (λ (N n : ℕ). good Mark (entryOk pairsMost N) entryNext n start (uploadTables t a) (uploadArena t a)) n count₂-is
+      ∙ ap₂ (good Mark (entryOk pairsMost (s .N)) entryNext (length (uploadRows (s .U))) start) upload-tables-are upload-arena-is
+      ∙ rows-complete Mark (entryOk pairsMost (s .N)) entryNext start (uploadRows (s .U)) (h .tables-free) (h .arena-free) encodable-uploads
       (upload-rows-follow (s .N) start (s .U) (uploads-first (s .N) (s .U) (h .valid .upload)) (h .valid .uploads) (h .valid .upload))
 
-  pub stands-whole : wholeOf T t a ≡ true
+  pub stands-whole : wholeOf T pairsMost t a ≡ true
   unfolding wholeOf
   stands-whole =
       let c : uploadsAmong (uploadRowsAt t a) ≡ headerAt t .uploads = ap uploadsAmong uploads-are ∙ opens-uploads (s .U) ∙ sym (ap (λ (x : Header). x .uploads) header-back) in

@@ -8,6 +8,7 @@ use borrow.Author.Tests.{leb-true, le-leb}
 use lib.Dec.{leb}
 use lib.ListN.{length}
 use Rattle.machine.specs.Names.{Bytes, pathOk, storedPathOk, stampOk, numberOk, storedPartOk}
+use Rattle.row.specs.Row.{Row, Encodable}
 use Rattle.row.proofs.RowLaws.{and-left, and-right, and-both}
 use Rattle.layout.specs.Rules.{all}
 
@@ -24,6 +25,14 @@ pub true-all : (bs : List Bool) → AllTrue bs → all bs ≡ true
 unfolding all
 true-all [] h = refl
 true-all (b ∷ bs) h = and-both b (all bs) (h .0) (true-all bs (h .1))
+
+pub nil-of-length : {A : Type 0} (l : List A) → length l ≡ 0 → [] ≡ l
+nil-of-length [] e = refl
+nil-of-length (x ∷ l) e = absurd (omega arith)
+
+-- a row without pairs has no lengths
+pub no-lengths : (r : Row) → Encodable r → 0 ≡ r .pairs → [] ≡ r .lengths
+no-lengths r f e = nil-of-length (r .lengths) (let l = f .lengths in omega arith)
 
 pub record Between (low n high : ℕ) : Type 0 where
   pub above : low ≤ n

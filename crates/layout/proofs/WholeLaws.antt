@@ -10,6 +10,7 @@ use lib.Seq.{drop-at}
 use Rattle.number.proofs.NumberLaws.{bytes-drop}
 use Rattle.number.specs.Number.{AreBytes}
 use Rattle.machine.specs.Map.{Map, total}
+use Rattle.machine.specs.Pairs.{pairsMost}
 use Rattle.machine.specs.State.{Part, partsIn}
 use Rattle.machine.specs.Valid.{Valid}
 use Rattle.row.specs.Fields.{fields, numbersAt}
@@ -55,7 +56,7 @@ header-numbers : (t : List ℕ) → numbersAt headerWidths t ≡ headerNumbers (
 unfolding headerAt numbersAt
 header-numbers t = refl
 
-module _ (T : ℕ) (room : headerLength ≤ T) (t a : List ℕ) (b : AreBytes t) (w : wholeOf T t a ≡ true) where
+module _ (T most : ℕ) (room : headerLength ≤ T) (t a : List ℕ) (b : AreBytes t) (w : wholeOf T most t a ≡ true) where
   header : HeaderIs T (length t) (length a) (headerAt t)
   unfolding wholeOf
   header = header-is _ _ _ _ (all-true _ w .0)
@@ -63,11 +64,11 @@ module _ (T : ℕ) (room : headerLength ≤ T) (t a : List ℕ) (b : AreBytes t)
   abbrev t₁ : List ℕ
   t₁ = drop headerLength t
 
-  objects-good : good (List ℕ) objectOk objectNext (headerAt t .objects) [] t₁ a ≡ true
+  objects-good : good (List ℕ) (objectOk most) objectNext (headerAt t .objects) [] t₁ a ≡ true
   unfolding wholeOf objectsGood
   objects-good = all-true _ w .1 .0
 
-  uploads-good : good Mark (entryOk (headerAt t .next)) entryNext (headerAt t .uploads + headerAt t .parts) start (uploadTables t a) (uploadArena t a) ≡ true
+  uploads-good : good Mark (entryOk most (headerAt t .next)) entryNext (headerAt t .uploads + headerAt t .parts) start (uploadTables t a) (uploadArena t a) ≡ true
   unfolding wholeOf uploadsGood
   uploads-good = all-true _ w .1 .1 .0
 
@@ -80,29 +81,29 @@ module _ (T : ℕ) (room : headerLength ≤ T) (t a : List ℕ) (b : AreBytes t)
 
   tables₁ : encodeRows (objectRowsAt t a) ++ uploadTables t a ≡ t₁
   unfolding objectRowsAt uploadTables
-  tables₁ = rows-sound (List ℕ) objectOk objectNext (headerAt t .objects) [] t₁ a b₁ objects-good
+  tables₁ = rows-sound (List ℕ) (objectOk most) objectNext (headerAt t .objects) [] t₁ a b₁ objects-good
 
   arena₁ : contentsOf (objectRowsAt t a) ++ uploadArena t a ≡ a
   unfolding objectRowsAt uploadArena
-  arena₁ = contents-sound (List ℕ) objectOk objectNext (headerAt t .objects) [] t₁ a b₁ objects-good
+  arena₁ = contents-sound (List ℕ) (objectOk most) objectNext (headerAt t .objects) [] t₁ a b₁ objects-good
 
   b₂ : AreBytes (uploadTables t a)
   b₂ = subst AreBytes (sym (ap (drop (length (encodeRows (objectRowsAt t a)))) tables₁) ∙ drop-at (encodeRows (objectRowsAt t a)) (uploadTables t a) (length (encodeRows (objectRowsAt t a))) refl) (bytes-drop (length (encodeRows (objectRowsAt t a))) t₁ b₁)
 
-  follows₁ : Follows (List ℕ) objectOk objectNext [] (objectRowsAt t a)
+  follows₁ : Follows (List ℕ) (objectOk most) objectNext [] (objectRowsAt t a)
   unfolding objectRowsAt
-  follows₁ = follows-sound (List ℕ) objectOk objectNext (headerAt t .objects) [] t₁ a objects-good
+  follows₁ = follows-sound (List ℕ) (objectOk most) objectNext (headerAt t .objects) [] t₁ a objects-good
 
   encodable₁ : EncodableAll (objectRowsAt t a)
   unfolding objectRowsAt
-  encodable₁ = encodable-sound (List ℕ) objectOk objectNext (headerAt t .objects) [] t₁ a b₁ objects-good
+  encodable₁ = encodable-sound (List ℕ) (objectOk most) objectNext (headerAt t .objects) [] t₁ a b₁ objects-good
 
   nested₂ : Nested (headerAt t .next) start (uploadRowsAt t a) (nest (uploadRowsAt t a))
   unfolding uploadRowsAt
   nested₂ =
-      nested (headerAt t .next) start _
-      (encodable-sound Mark (entryOk (headerAt t .next)) entryNext _ start (uploadTables t a) (uploadArena t a) b₂ uploads-good)
-      (follows-sound Mark (entryOk (headerAt t .next)) entryNext _ start (uploadTables t a) (uploadArena t a) uploads-good)
+      nested most (headerAt t .next) start _
+      (encodable-sound Mark (entryOk most (headerAt t .next)) entryNext _ start (uploadTables t a) (uploadArena t a) b₂ uploads-good)
+      (follows-sound Mark (entryOk most (headerAt t .next)) entryNext _ start (uploadTables t a) (uploadArena t a) uploads-good)
 
   upload-rows-same : uploadRows (nest (uploadRowsAt t a) .uploads) ≡ uploadRowsAt t a
   unfolding partRows
@@ -110,7 +111,7 @@ module _ (T : ℕ) (room : headerLength ≤ T) (t a : List ℕ) (b : AreBytes t)
 
   rows-same : rowsOf (stateOf t a) ≡ objectRowsAt t a ++ uploadRowsAt t a
   unfolding rowsOf stateOf
-  rows-same = ap₂ (λ (x y : List Row). x ++ y) (object-rows-same [] (objectRowsAt t a) follows₁) upload-rows-same
+  rows-same = ap₂ (λ (x y : List Row). x ++ y) (object-rows-same most [] (objectRowsAt t a) encodable₁ follows₁) upload-rows-same
 
   abbrev free : List ℕ
   free = pastRows (headerAt t .uploads + headerAt t .parts) (uploadTables t a)
@@ -120,11 +121,11 @@ module _ (T : ℕ) (room : headerLength ≤ T) (t a : List ℕ) (b : AreBytes t)
 
   tables₂ : encodeRows (uploadRowsAt t a) ++ free ≡ uploadTables t a
   unfolding uploadRowsAt
-  tables₂ = rows-sound Mark (entryOk (headerAt t .next)) entryNext _ start (uploadTables t a) (uploadArena t a) b₂ uploads-good
+  tables₂ = rows-sound Mark (entryOk most (headerAt t .next)) entryNext _ start (uploadTables t a) (uploadArena t a) b₂ uploads-good
 
   arena₂ : contentsOf (uploadRowsAt t a) ++ arena-free ≡ uploadArena t a
   unfolding uploadRowsAt
-  arena₂ = contents-sound Mark (entryOk (headerAt t .next)) entryNext _ start (uploadTables t a) (uploadArena t a) b₂ uploads-good
+  arena₂ = contents-sound Mark (entryOk most (headerAt t .next)) entryNext _ start (uploadTables t a) (uploadArena t a) b₂ uploads-good
 
   count-objects : length (stateOf t a .O) ≡ headerAt t .objects
   unfolding stateOf objectRowsAt
@@ -158,8 +159,8 @@ module _ (T : ℕ) (room : headerLength ≤ T) (t a : List ℕ) (b : AreBytes t)
   unfolding stateOf
   state-valid =
       record {
-        objects = objects-ascending [] (objectRowsAt t a) follows₁;
-        object = objects-ok [] (objectRowsAt t a) encodable₁ follows₁;
+        objects = objects-ascending most [] (objectRowsAt t a) follows₁;
+        object = objects-ok most [] (objectRowsAt t a) encodable₁ follows₁;
         uploads = nested₂ .ascending;
         upload = nested₂ .ok;
         first = header .first;
@@ -183,4 +184,4 @@ module _ (T : ℕ) (room : headerLength ≤ T) (t a : List ℕ) (b : AreBytes t)
       }
 
 pub whole-stands : (t a : List ℕ) → AreBytes t → whole t a ≡ true → Stands t a (stateOf t a)
-whole-stands = wholeOf-stands tablesLength (omega arith)
+whole-stands = wholeOf-stands tablesLength pairsMost (omega arith)

@@ -7,9 +7,11 @@ use lib.Dec.{leb, eqb}
 use lib.ListN.{length, drop}
 use Rattle.machine.specs.Map.{Map}
 use Rattle.machine.specs.Names.{Bytes}
+use Rattle.machine.specs.Pairs.{pairsMost}
 use Rattle.machine.specs.Etags.{Etag, absent, plain, joined, countOf, digestOf}
 use Rattle.machine.specs.State.{Object, Part, Upload, State}
 use Rattle.machine.specs.Valid.{Valid}
+use Rattle.stored_pairs.specs.Stored.{pairLengths, pairBytes, sumOf, pairsAt}
 use Rattle.row.specs.Row.{Row, encodeRows, contentsOf, rowsAt, pastRows, pastData, good}
 use Rattle.layout.specs.declared.Mark.{Mark}
 use Rattle.layout.specs.declared.Header.{Header}
@@ -24,16 +26,38 @@ rowKind absent = plainKind
 rowKind (plain digest) = plainKind
 rowKind (joined digest count) = joinedKind
 
--- the row of an object, of an upload, and of a part
+-- the row of an object, of an upload, and of a part; E6: the block of an object is its pairs, then its data; that of an upload its pairs
 abbrev pub objectRow : Bytes → Object → Row
 objectRow p x =
-    record { number = 0; stamp = x .created; kind = rowKind (x .etag); count = countOf (x .etag); digest = digestOf (x .etag); path = p; content = x .content }
+    record {
+      number = 0;
+      stamp = x .created;
+      kind = rowKind (x .etag);
+      count = countOf (x .etag);
+      digest = digestOf (x .etag);
+      path = p;
+      pairs = length (x .pairs);
+      lengths = pairLengths (x .pairs);
+      content = pairBytes (x .pairs) ++ x .content;
+    }
 
 abbrev pub uploadRow : ℕ → Upload → Row
-uploadRow u x = record { number = u; stamp = x .started; kind = uploadKind; count = 0; digest = noDigest; path = x .path; content = [] }
+uploadRow u x =
+    record {
+      number = u;
+      stamp = x .started;
+      kind = uploadKind;
+      count = 0;
+      digest = noDigest;
+      path = x .path;
+      pairs = length (x .pairs);
+      lengths = pairLengths (x .pairs);
+      content = pairBytes (x .pairs);
+    }
 
 abbrev pub partRow : ℕ → Part → Row
-partRow n y = record { number = n; stamp = 0; kind = partKind; count = 0; digest = y .digest; path = []; content = y .content }
+partRow n y =
+    record { number = n; stamp = 0; kind = partKind; count = 0; digest = y .digest; path = []; pairs = 0; lengths = []; content = y .content }
 
 -- the rows of a map
 unfoldable pub objectRows : Map Bytes Object → List Row
@@ -55,9 +79,13 @@ rowsOf s = objectRows (s .O) ++ uploadRows (s .U)
 
 -- The lengths ---------------------------------------------------------------------------------------------------------------
 
--- header, 256 objects and 16 uploads with paths of 128 bytes, 256 parts
+-- header, 256 objects and 16 uploads with paths of 128 bytes and 8 pairs, 256 parts
 abbrev pub tablesLength : ℕ
-tablesLength = 53842
+tablesLength = 58194
+
+-- the same without pairs
+abbrev pub formerTablesLength : ℕ
+formerTablesLength = 53842
 
 abbrev pub arenaMost : ℕ
 arenaMost = 1048576
@@ -67,8 +95,18 @@ arenaMost = 1048576
 abbrev pub rowEtag : (kind : ℕ) (digest : Bytes) (count : ℕ) → Etag
 rowEtag kind digest count = cond (eqb kind plainKind) (plain digest) (joined digest count)
 
+-- the pairs of a row, with which its block begins
+abbrev pub pairsOf : Row → Map Bytes Bytes
+pairsOf r = pairsAt (r .lengths) (r .content)
+
 abbrev pub objectOf : Row → Object
-objectOf r = record { content = r .content; created = r .stamp; etag = rowEtag (r .kind) (r .digest) (r .count) }
+objectOf r =
+    record {
+      content = drop (sumOf (r .lengths)) (r .content);
+      created = r .stamp;
+      etag = rowEtag (r .kind) (r .digest) (r .count);
+      pairs = pairsOf r;
+    }
 
 unfoldable pub objectsOf : List Row → Map Bytes Object
 objectsOf [] = []
@@ -83,7 +121,7 @@ abbrev pub rowPart : Row → Part
 rowPart r = record { content = r .content; digest = r .digest }
 
 abbrev pub uploadOf : Row → Map ℕ Part → Upload
-uploadOf r ps = record { path = r .path; started = r .stamp; parts = ps }
+uploadOf r ps = record { path = r .path; started = r .stamp; pairs = pairsOf r; parts = ps }
 
 unfoldable pub nest : List Row → Nest
 nest [] = record { waiting = []; uploads = [] }
@@ -129,26 +167,30 @@ headerOk T tables arena h =
     ∷ leb (h .parts) partsMost
     ∷ [])
 
-unfoldable pub objectsGood : (t a : List ℕ) → Bool
-objectsGood t a = good (List ℕ) objectOk objectNext (headerAt t .objects) [] (drop headerLength t) a
+unfoldable pub objectsGood : (most : ℕ) (t a : List ℕ) → Bool
+objectsGood most t a = good (List ℕ) (objectOk most) objectNext (headerAt t .objects) [] (drop headerLength t) a
 
-unfoldable pub uploadsGood : (t a : List ℕ) → Bool
-uploadsGood t a =
-    good Mark (entryOk (headerAt t .next)) entryNext (headerAt t .uploads + headerAt t .parts) start (uploadTables t a) (uploadArena t a)
+unfoldable pub uploadsGood : (most : ℕ) (t a : List ℕ) → Bool
+uploadsGood most t a =
+    good Mark (entryOk most (headerAt t .next)) entryNext (headerAt t .uploads + headerAt t .parts) start (uploadTables t a) (uploadArena t a)
 
--- the test "whole" of a layout whose tables have T bytes
-unfoldable pub wholeOf : (T : ℕ) (t a : List ℕ) → Bool
-wholeOf T t a =
+-- the test "whole" of a layout whose tables have T bytes and whose rows have at most `most` pairs
+unfoldable pub wholeOf : (T most : ℕ) (t a : List ℕ) → Bool
+wholeOf T most t a =
     all
     (headerOk T (length t) (length a) (headerAt t)
-    ∷ objectsGood t a
-    ∷ uploadsGood t a
+    ∷ objectsGood most t a
+    ∷ uploadsGood most t a
     ∷ eqb (uploadsAmong (uploadRowsAt t a)) (headerAt t .uploads)
     ∷ [])
 
 -- the test "whole"
 abbrev pub whole : (t a : List ℕ) → Bool
-whole = wholeOf tablesLength
+whole = wholeOf tablesLength pairsMost
+
+-- the former layout: the same test with the former length and no pairs
+abbrev pub formerWhole : (t a : List ℕ) → Bool
+formerWhole = wholeOf formerTablesLength 0
 
 -- Tables t of T bytes and arena a stand for s: they are the encoding of s, each followed by free bytes.
 pub record StandsOf (T : ℕ) (t a : List ℕ) (s : State) : Type 0 where

@@ -1,5 +1,5 @@
 -- The rules by which rows follow one another: objects ascend by path; uploads ascend by number, each with its parts after it,
--- ascending by part number. A field that a kind of row does not use is 0. Assumes nothing.
+-- ascending by part number. A field that a kind of row does not use is 0. `most` is how many pairs a row may have, by the layout. Assumes nothing.
 use Prim.Native.Nat.{ℕ, Ordering, Ordering·lt, Ordering·eq, Ordering·gt}
 use mathlib.Core.Bool.{Bool, true, false, _&&_, cond}
 use mathlib.Core.List.{List, [], _∷_}
@@ -7,6 +7,7 @@ use lib.Dec.{leb, ltb, eqb}
 use lib.ListN.{replicate}
 use Rattle.order.specs.Order.{byBytes, same}
 use Rattle.machine.specs.Names.{storedPathOk, storedPartOk}
+use Rattle.stored_pairs.specs.Stored.{sumOf, blockOk}
 use Rattle.row.specs.declared.Head.{Head}
 use Rattle.row.specs.Row.{Row, headOf}
 use Rattle.layout.specs.declared.Mark.{Mark}
@@ -48,9 +49,13 @@ isLess Ordering·gt = false
 abbrev pub noDigest : List ℕ
 noDigest = replicate 16 0
 
+-- E6: the pairs of a row, at most as many as it may have by the layout: its block begins with them, and they keep their rule
+unfoldable pub pairsRule : (most : ℕ) → Head → (lengths content : List ℕ) → Bool
+pairsRule most h lengths content = leb (h .pairs) most && blockOk lengths content
+
 -- an object's row, after one whose path is `last` ([] for none): a plain etag has no count, a joined one at most that of all parts
-unfoldable pub objectRule : (last : List ℕ) → Head → (path : List ℕ) → Bool
-objectRule last h path =
+unfoldable pub objectRule : (most : ℕ) (last : List ℕ) → Head → (path lengths content : List ℕ) → Bool
+objectRule most last h path lengths content =
     all
     (eqb (h .number) 0
     ∷ leb 1 (h .stamp)
@@ -58,25 +63,27 @@ objectRule last h path =
     ∷ leb (h .count) (cond (eqb (h .kind) plainKind) 0 partsMost)
     ∷ storedPathOk path
     ∷ isLess (byBytes last path)
+    ∷ pairsRule most h lengths content
     ∷ [])
 
-abbrev pub objectOk : (last : List ℕ) → Row → Bool
-objectOk last r = objectRule last (headOf r) (r .path)
+abbrev pub objectOk : (most : ℕ) (last : List ℕ) → Row → Bool
+objectOk most last r = objectRule most last (headOf r) (r .path) (r .lengths) (r .content)
 
 abbrev pub objectNext : (last : List ℕ) → Row → List ℕ
 objectNext last r = r .path
 
--- an upload's row, after upload m .upload (0 for none), with a number below N
-unfoldable pub uploadRule : (N : ℕ) → Mark → Head → (digest path : List ℕ) → Bool
-uploadRule N m h digest path =
+-- an upload's row, after upload m .upload (0 for none), with a number below N; its block is its pairs and no more
+unfoldable pub uploadRule : (most N : ℕ) → Mark → Head → (digest path lengths content : List ℕ) → Bool
+uploadRule most N m h digest path lengths content =
     all
-    (eqb (h .size) 0
-    ∷ eqb (h .count) 0
+    (eqb (h .count) 0
     ∷ leb 1 (h .stamp)
     ∷ ltb (m .upload) (h .number)
     ∷ ltb (h .number) N
     ∷ storedPathOk path
     ∷ same digest noDigest
+    ∷ pairsRule most h lengths content
+    ∷ eqb (h .size) (sumOf lengths)
     ∷ [])
 
 -- a part's row, after part m .part (0 for none) of upload m .upload
@@ -87,17 +94,19 @@ partRule m h =
     ∷ eqb (h .stamp) 0
     ∷ eqb (h .count) 0
     ∷ eqb (h .pathlen) 0
+    ∷ eqb (h .pairs) 0
     ∷ leb 1 (m .upload)
     ∷ ltb (m .part) (h .number)
     ∷ storedPartOk (h .number)
     ∷ [])
 
 -- a row after the objects: an upload's or a part's
-unfoldable pub entryRule : (N : ℕ) → Mark → Head → (digest path : List ℕ) → Bool
-entryRule N m h digest path = cond (eqb (h .kind) uploadKind) (uploadRule N m h digest path) (partRule m h)
+unfoldable pub entryRule : (most N : ℕ) → Mark → Head → (digest path lengths content : List ℕ) → Bool
+entryRule most N m h digest path lengths content =
+    cond (eqb (h .kind) uploadKind) (uploadRule most N m h digest path lengths content) (partRule m h)
 
-unfoldable pub entryOk : (N : ℕ) → Mark → Row → Bool
-entryOk N m r = entryRule N m (headOf r) (r .digest) (r .path)
+unfoldable pub entryOk : (most N : ℕ) → Mark → Row → Bool
+entryOk most N m r = entryRule most N m (headOf r) (r .digest) (r .path) (r .lengths) (r .content)
 
 unfoldable pub markAfter : Mark → Head → Mark
 markAfter m h = cond (eqb (h .kind) uploadKind) (record { upload = h .number; part = 0 }) (record { upload = m .upload; part = h .number })

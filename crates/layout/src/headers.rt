@@ -3,7 +3,7 @@ ghost use mathlib.Core.Path.{_≡_};
 ghost use Prim.Native.Nat.{_≤_};
 ghost use lib.ListN.{length};
 ghost use Rattle.layout.specs.Header.{headerLength, headerAt, headed};
-ghost use Rattle.layout.specs.Memory.{tablesLength, headerOk};
+ghost use Rattle.layout.specs.Memory.{headerOk};
 use crate::Header;
 
 // The header, as it stands in the first bytes.
@@ -32,11 +32,11 @@ pub fn write_header(tables: &mut [u8], h: Header)
     number::put_u16(tables, 16, h.parts);
 }
 
-// The header of a store whose tables and arena have these lengths.
-pub fn header_ok(h: Header, tables: usize, arena: usize) -> bool
-    ensures { λ r. ⌜ r ≡ headerOk tablesLength tables arena h ⌝ }
+// The header of a store whose tables and arena have these lengths, by a layout whose tables have `length` bytes.
+pub fn header_ok(h: Header, length: usize, tables: usize, arena: usize) -> bool
+    ensures { λ r. ⌜ r ≡ headerOk length tables arena h ⌝ }
 {
-    if tables != crate::TABLES_LENGTH {
+    if tables != length {
         return false;
     }
     if crate::ARENA_MOST < arena {

@@ -4,8 +4,12 @@ pub mod headers;
 // The header's length: the first row stands here.
 pub const HEADER_LENGTH: usize = 18;
 
-// The length of the tables: the header, rows of 256 objects and 16 uploads with paths of 128 bytes, rows of 256 parts.
-pub const TABLES_LENGTH: usize = 53842;
+// The length of the tables: the header, rows of 256 objects and 16 uploads with paths of 128 bytes and 8 pairs, rows of
+// 256 parts.
+pub const TABLES_LENGTH: usize = 58194;
+
+// The length of the tables of the former layout, which had no pairs.
+pub const FORMER_TABLES_LENGTH: usize = 53842;
 
 // The most bytes of an arena.
 pub const ARENA_MOST: usize = 1048576;

@@ -44,12 +44,17 @@ fn print_etag(name: &[u8], e: Etag) {
     }
 }
 
-fn print_metadata(m: Metadata) {
+// The metadata; the counts of pairs where they are asked for.
+fn print_metadata(m: Metadata, pairs: bool) {
     print_number(b": 0, length ", m.length as u64);
     let created = m.created;
     print_number(b", created ", created.0);
     let e = m.etag;
     print_etag(b", etag ", e);
+    if pairs {
+        print_number(b", pairs ", m.pairs as u64);
+        print_number(b", bytes ", m.bytes as u64);
+    }
 }
 
 fn print_counts(c: Counts) {
@@ -64,10 +69,10 @@ pub fn print_done(a: DoneAnswer) {
     }
 }
 
-pub fn print_found(a: GetAnswer) {
+pub fn print_found(a: GetAnswer, pairs: bool) {
     match a {
         GetAnswer::Refused(n) => print_result(n),
-        GetAnswer::Found(m) => print_metadata(m),
+        GetAnswer::Found(m) => print_metadata(m, pairs),
     }
 }
 

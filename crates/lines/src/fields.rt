@@ -153,3 +153,50 @@ pub fn list_bytes(list: &[u8], places: bool, out: &mut [u8]) -> usize
     }
     n
 }
+
+// A key or a value at index n: its length in a byte, then its bytes. Answers the index after it; n where it does not fit.
+fn put_counted(text: &[u8], out: &mut [u8], n: usize) -> usize
+    requires { ⌜ n ≤ length (now out) ⌝ }
+    ensures { λ r. ⌜ r ≤ length (now (out .entry)) ⌝ }
+{
+    let m = text.len();
+    if 255 < m {
+        return n;
+    }
+    if out.len() - n <= m {
+        return n;
+    }
+    out[n] = m as u8;
+    buffer::copy_at(out, n + 1, text);
+    n + 1 + m
+}
+
+// A pair, its key and its value separated by `=`, at index n. `+` is one odd byte. Answers the index after it.
+fn put_pair(text: &[u8], out: &mut [u8], n: usize) -> usize
+    requires { ⌜ n ≤ length (now out) ⌝ }
+    ensures { λ r. ⌜ r ≤ length (now (out .entry)) ⌝ }
+{
+    if text.len() == 1 {
+        if text[0] == b'+' {
+            return put_counted(b"", out, n);
+        }
+    }
+    let end = find(text, 0, b'=');
+    let rest = skip(text, end, b'=');
+    let value = put_counted(&text[0..end], out, n);
+    put_counted(&text[rest..], out, value)
+}
+
+// Pairs, separated by commas, in bytes as PUT and INITIATE take them. Answers how many bytes they have.
+pub fn pair_bytes(list: &[u8], out: &mut [u8]) -> usize
+    ensures { λ r. ⌜ Counts r (now (out .exit)) ⌝ }
+{
+    let mut at = 0;
+    let mut n: usize = 0;
+    while at < list.len() {
+        let end = find(list, at, b',');
+        n = put_pair(&list[at..end], out, n);
+        at = end + 1;
+    }
+    n
+}

@@ -52,13 +52,20 @@ pub fn word_of(line: &[u8]) -> usize {
     OTHER
 }
 
-// A length for the front of `space`: the line's number where it gives one, else as it was.
+// A length for the front of `space`: the number in field k.
+pub fn length_in(line: &[u8], k: usize, space: &[u8]) -> usize
+    ensures { λ r. ⌜ Counts r (now (space .entry)) ⌝ }
+{
+    number(line, k, space.len() as u64) as usize
+}
+
+// The same: the line's first number where it gives one, else as it was.
 pub fn front_len(given: bool, line: &[u8], before: usize, space: &[u8]) -> usize
     requires { ⌜ before ≤ length (now space) ⌝ }
     ensures { λ r. ⌜ Counts r (now (space .entry)) ⌝ }
 {
     if given {
-        return number(line, 1, space.len() as u64) as usize;
+        return length_in(line, 1, space);
     }
     before
 }

@@ -1,5 +1,5 @@
 -- The row of an object, and what LIST writes for it. Assumes nothing.
-use Prim.Native.Nat.{ℕ, _+_, _*_, _≤_, _<_}
+use Prim.Native.Nat.{ℕ, _+_, _-_, _*_, _≤_, _<_}
 use mathlib.Core.Path.{_≡_, refl, sym, ap, _∙_}
 use mathlib.Core.Bool.{Bool, true, false, cond}
 use mathlib.Core.List.{List, [], _∷_, _++_, append-nil}
@@ -11,6 +11,7 @@ use Rattle.number.specs.Number.{le}
 use Rattle.order.proofs.OrderLaws.{bytes}
 use Rattle.machine.specs.Map.{Map, records}
 use Rattle.machine.specs.Names.{Bytes}
+use Rattle.machine.specs.Pairs.{pairsHeld}
 use Rattle.machine.specs.Etags.{text}
 use Rattle.machine.specs.State.{Object, State}
 use Rattle.machine.specs.Steps.{isListed, listed, listRecord}
@@ -18,13 +19,16 @@ use Rattle.machine.specs.Valid.{ObjectOk}
 use Rattle.machine.proofs.MapKeep.{keep-suc, records-append}
 use Rattle.machine.proofs.MapScan.{lookup-key}
 use Rattle.machine.proofs.MapLaws.{every-lookup}
+use Rattle.stored_pairs.specs.Stored.{pairBytes, sumOf}
+use Rattle.stored_pairs.proofs.StoredLaws.{length-bytes}
 use Rattle.row.specs.declared.Head.{Head}
-use Rattle.row.specs.Row.{Row, encodeRows, headAt, digestAt, pathAt, headOf, span}
+use Rattle.row.specs.Row.{Row, encodeRows, headAt, digestAt, pathAt, lengthsAt, headOf, span}
 use Rattle.row.proofs.RowLaws.{path-back, digest-back}
 use Rattle.layout.specs.Header.{headerLength}
 use Rattle.layout.specs.Memory.{objectRows, Stands}
 use Rattle.layout.proofs.ObjectLaws.{object-back}
 use Rattle.find.proofs.RowsAt.{At, row-at}
+use Rattle.find.proofs.PairSizes.{object-pairs-size}
 use Rattle.find.proofs.ObjectAt.{blank, entry, row, front, rest, split, next-front}
 use Rattle.listing.specs.Rows.{textAt, recordAt, listedBytes}
 
@@ -38,12 +42,12 @@ module _ (t a : List ℕ) (s : State) (h : Stands t a s) (i at : ℕ) (here : at
 
   pub row-inside : at + span (headAt (drop at t)) ≤ length t
   unfolding front
-  row-inside = omega (arith, ap (λ (x : Head). x .pathlen) head-here, row-here .inside)
+  row-inside = omega (arith, ap (λ (x : Head). span x) head-here, row-here .inside)
 
   pub row-next : at + span (headAt (drop at t)) ≡ headerLength + length (encodeRows (objectRows (take (i + 1) (s .O))))
   unfolding front
   row-next =
-      let q : headerLength + length (encodeRows (front s i ++ (row s i ∷ []))) ≡ at + span (headAt (drop at t)) = omega (arith, row-here .next, ap (λ (x : Head). x .pathlen) head-here) in
+      let q : headerLength + length (encodeRows (front s i ++ (row s i ∷ []))) ≡ at + span (headAt (drop at t)) = omega (arith, row-here .next, ap (λ (x : Head). span x) head-here) in
       sym (ap (λ (rs : List Row). headerLength + length (encodeRows rs)) (next-front s i l) ∙ q)
 
   path-here : pathAt (drop at t) ≡ entry s i .0
@@ -54,13 +58,29 @@ module _ (t a : List ℕ) (s : State) (h : Stands t a s) (i at : ℕ) (here : at
   unfolding front
   digest-here = ap (λ (n : ℕ). digestAt (drop n t)) here ∙ ap digestAt (row-here .row) ∙ digest-back (row s i) (row-here .encodable) _ []
 
+  -- its block: the pairs, then the data
+  pairs-here : sumOf (lengthsAt (drop at t)) ≡ pairsHeld (entry s i .1 .pairs)
+  unfolding front
+  pairs-here = object-pairs-size t a s h (front s i) (rest s i) at here (entry s i .0) (entry s i .1) row-here
+
+  block-here : headAt (drop at t) .size ≡ pairsHeld (entry s i .1 .pairs) + length (entry s i .1 .content)
+  block-here =
+      let x = entry s i .1 in
+      ap (λ (y : Head). y .size) head-here ∙ length-append (pairBytes (x .pairs)) (x .content) ∙ ap (λ (n : ℕ). n + length (x .content)) (length-bytes (x .pairs))
+
+  pub pairs-inside : sumOf (lengthsAt (drop at t)) ≤ headAt (drop at t) .size
+  pairs-inside = omega (arith, pairs-here, block-here)
+
+  data-here : headAt (drop at t) .size - sumOf (lengthsAt (drop at t)) ≡ length (entry s i .1 .content)
+  data-here = omega (arith, pairs-here, block-here)
+
   ok : ObjectOk (entry s i .0) (entry s i .1)
   ok = every-lookup bytes ObjectOk (entry s i .0) (entry s i .1) (s .O) (h .valid .object) (lookup-key bytes blank i (s .O) (h .valid .objects) l)
 
   pub record-here : recordAt (drop at t) ≡ listRecord (entry s i .0) (entry s i .1)
   unfolding recordAt textAt listRecord
   record-here =
-      rw (head-here, path-here, digest-here)
+      rw (data-here, head-here, path-here, digest-here)
       (ap (λ (x : Object). length (entry s i .0) ∷ entry s i .0 ++ (le 4 (length (entry s i .1 .content)) ++ (le 8 (entry s i .1 .created) ++ length (text (x .etag)) ∷ text (x .etag)))) (object-back (entry s i .1) (ok .etag) (entry s i .0)))
 
   module _ (prefix suffix : Bytes) where

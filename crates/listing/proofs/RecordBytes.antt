@@ -16,8 +16,9 @@ use Rattle.number.proofs.Fields.{over, over-length}
 use Rattle.text.specs.Text.{hex, decimal}
 use Rattle.text.proofs.TextLaws.{length-hex}
 use Rattle.machine.specs.Etags.{plain, joined, text}
+use Rattle.stored_pairs.specs.Stored.{sumOf}
 use Rattle.row.specs.declared.Head.{Head}
-use Rattle.row.specs.Row.{headAt, digestAt, pathAt, numbersLength, headLength, span}
+use Rattle.row.specs.Row.{headAt, digestAt, pathAt, lengthsAt, numbersLength, headLength, span}
 use Rattle.layout.specs.Memory.{rowEtag}
 use Rattle.listing.specs.Rows.{textAt, recordAt}
 use Rattle.listing.proofs.RowLengths.{record-length, text-plain, text-joined}
@@ -112,8 +113,9 @@ module _ (t b b₁ : List ℕ) (at to kind count : ℕ) (inside : at + headLengt
 pieces : (n k : ℕ) (p s c e : List ℕ) → ((n ∷ p) ++ (s ++ (c ++ (k ∷ [])))) ++ e ≡ n ∷ p ++ (s ++ (c ++ k ∷ e))
 pieces n k p s c e = simp append-assoc
 
-module _ (t b : List ℕ) (at to : ℕ) (h : Head) (k : ℕ) (inside : at + span (headAt (drop at t)) ≤ length t) (read : h ≡ headAt (drop at t))
-    (measured : k ≡ length (text (rowEtag (h .kind) (digestAt (drop at t)) (h .count)))) where
+module _ (t b : List ℕ) (at to : ℕ) (h : Head) (k size : ℕ) (inside : at + span (headAt (drop at t)) ≤ length t) (read : h ≡ headAt (drop at t))
+    (measured : k ≡ length (text (rowEtag (h .kind) (digestAt (drop at t)) (h .count))))
+    (sized : size ≡ headAt (drop at t) .size - sumOf (lengthsAt (drop at t))) where
   abbrev told : Head → List ℕ
   told x = text (rowEtag (x .kind) (digestAt (drop at t)) (x .count))
 
@@ -124,15 +126,15 @@ module _ (t b : List ℕ) (at to : ℕ) (h : Head) (k : ℕ) (inside : at + span
   path = take (h .pathlen) (drop (at + headLength) t)
 
   abbrev numbers : List ℕ
-  numbers = le 4 (h .size) ++ (le 8 (h .stamp) ++ (k ∷ []))
+  numbers = le 4 size ++ (le 8 (h .stamp) ++ (k ∷ []))
 
   record-is : ((h .pathlen ∷ path) ++ numbers) ++ etagText ≡ recordAt (drop at t)
   unfolding recordAt textAt pathAt
   record-is =
-      ap (λ (i : ℕ). ((h .pathlen ∷ path) ++ (le 4 (h .size) ++ (le 8 (h .stamp) ++ (i ∷ [])))) ++ etagText) measured
-      ∙ ap (λ (x : Head). ((x .pathlen ∷ take (x .pathlen) (drop (at + headLength) t)) ++ (le 4 (x .size) ++ (le 8 (x .stamp) ++ (length (told x) ∷ [])))) ++ told x) read
-      ∙ pieces (headAt (drop at t) .pathlen) (length (textAt (drop at t))) (take (headAt (drop at t) .pathlen) (drop (at + headLength) t)) (le 4 (headAt (drop at t) .size)) (le 8 (headAt (drop at t) .stamp)) (textAt (drop at t))
-      ∙ rw (← (drop-drop headLength at t))
+      ap (λ (i : ℕ). ((h .pathlen ∷ path) ++ (le 4 size ++ (le 8 (h .stamp) ++ (i ∷ [])))) ++ etagText) measured
+      ∙ ap (λ (x : Head). ((x .pathlen ∷ take (x .pathlen) (drop (at + headLength) t)) ++ (le 4 size ++ (le 8 (x .stamp) ++ (length (told x) ∷ [])))) ++ told x) read
+      ∙ pieces (headAt (drop at t) .pathlen) (length (textAt (drop at t))) (take (headAt (drop at t) .pathlen) (drop (at + headLength) t)) (le 4 size) (le 8 (headAt (drop at t) .stamp)) (textAt (drop at t))
+      ∙ rw (← (drop-drop headLength at t), sized)
 
   path-length : length path ≡ h .pathlen
   path-length = length-take-le (h .pathlen) (drop (at + headLength) t) (simp length-drop (omega (arith, ap (λ (x : Head). x .pathlen) read)))
@@ -163,7 +165,7 @@ module _ (t b : List ℕ) (at to : ℕ) (h : Head) (k : ℕ) (inside : at + span
       let x = n ∷ path in
       let long = record-long in
       let lx : length x ≡ 1 + n = omega (arith, path-length) in
-      let ln : length numbers ≡ 13 = omega (arith, length-append (le 4 (h .size)) (le 8 (h .stamp) ++ (k ∷ [])), length-append (le 8 (h .stamp)) (k ∷ []), length-le 4 (h .size), length-le 8 (h .stamp)) in
+      let ln : length numbers ≡ 13 = omega (arith, length-append (le 4 size) (le 8 (h .stamp) ++ (k ∷ [])), length-append (le 8 (h .stamp)) (k ∷ []), length-le 4 size, length-le 8 (h .stamp)) in
       let lxn : length (x ++ numbers) ≡ 1 + n + 13 = omega (arith, length-append x numbers) in
       let p : to + 1 + n ≡ to + (1 + n) = omega arith in
       let q : to + 1 + n + 13 ≡ to + (1 + n + 13) = omega arith in

@@ -7,7 +7,8 @@ mod writing;
 use types::ListAnswer;
 ghost use mathlib.Core.Path.{_≡_};
 ghost use mathlib.Core.Bool.{true};
-ghost use Rattle.machine.specs.Calls.{LIST};
+ghost use mathlib.Core.List.{[]};
+ghost use Rattle.machine.specs.Calls.{LIST, buffers};
 ghost use Rattle.machine.specs.Steps.{replyOf};
 ghost use Rattle.layout.specs.Memory.{whole};
 ghost use Rattle.contract.specs.Answers.{listReply};
@@ -22,7 +23,9 @@ fn list_whole(
     answer: &mut [u8],
 ) -> ListAnswer
     requires { ⌜ whole (now tables) (now arena) ≡ true ⌝ }
-    ensures { λ r. ⌜ listReply r (now (answer .exit)) ≡ replyOf (now (answer .entry)) (outcome (LIST (now (prefix .entry)) (now (suffix .entry)) (now (answer .entry))) (memory (now (tables .entry)) (now (arena .entry)))) ⌝ }
+    ensures { λ r. ⌜ listReply r (now (answer .exit)) ≡ replyOf (buffers (now (answer .entry)) [])
+        (outcome (LIST (now (prefix .entry)) (now (suffix .entry)) (now (answer .entry)))
+        (memory (now (tables .entry)) (now (arena .entry)))) ⌝ }
 {
     let counts = measuring::measure_rows(tables, arena, prefix, suffix);
     if answer.len() < counts.bytes as usize {

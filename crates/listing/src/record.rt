@@ -1,12 +1,13 @@
 // LIST's record of a row: each function writes its bytes over the answer buffer from `to` on.
 ghost use mathlib.Core.Path.{_≡_};
-ghost use Prim.Native.Nat.{_+_, _≤_};
+ghost use Prim.Native.Nat.{_+_, _-_, _≤_};
 ghost use mathlib.Core.List.{[], _∷_, _++_};
 ghost use lib.ListN.{length, take, drop};
 ghost use Rattle.number.specs.Number.{le, over, written};
 ghost use Rattle.text.specs.Text.{decimal};
 ghost use Rattle.machine.specs.Etags.{text};
-ghost use Rattle.row.specs.Row.{headAt, digestAt, headLength, span};
+ghost use Rattle.stored_pairs.specs.Stored.{sumOf};
+ghost use Rattle.row.specs.Row.{headAt, digestAt, lengthsAt, headLength, span};
 ghost use Rattle.layout.specs.Memory.{rowEtag};
 ghost use Rattle.listing.specs.Rows.{recordAt};
 
@@ -56,19 +57,30 @@ fn write_text(tables: &[u8], at: usize, kind: u8, count: u16, answer: &mut [u8],
     }
 }
 
+// How many bytes of the block of the row at `at` are data, where the block has `size` bytes.
+fn data_length(tables: &[u8], at: usize, size: u32) -> u32
+    requires { ⌜ (at + span (headAt (drop at (now tables))) ≤ length (now tables))
+        × (sumOf (lengthsAt (drop at (now tables))) ≤ size) ⌝ }
+    ensures { λ r. ⌜ r ≡ size - sumOf (lengthsAt (drop at (now (tables .entry)))) ⌝ }
+{
+    size - find::pairs_size(tables, at) as u32
+}
+
 // The record of the row at `at`; the answer is where it ends.
 pub(crate) fn write_record(tables: &[u8], at: usize, answer: &mut [u8], to: usize) -> usize
     requires { ⌜ (at + span (headAt (drop at (now tables))) ≤ length (now tables))
-        × (to + length (recordAt (drop at (now tables))) ≤ length (now answer)) ⌝ }
+        × (to + length (recordAt (drop at (now tables))) ≤ length (now answer))
+        × (sumOf (lengthsAt (drop at (now tables))) ≤ headAt (drop at (now tables)) .size) ⌝ }
     ensures { λ r. ⌜ (r ≡ to + length (recordAt (drop at (now (tables .entry)))))
         × (now (answer .exit) ≡ written (now (answer .entry)) to (recordAt (drop at (now (tables .entry))))) ⌝ }
 {
     let h = row::read_head(tables, at);
     let k = crate::measuring::text_length(h.kind, h.count);
+    let size = data_length(tables, at, h.size);
     let numbers = to + 1 + h.pathlen as usize;
     let text = numbers + 13;
     write_path(tables, at, h.pathlen, answer, to);
-    write_numbers(answer, numbers, h.size, h.stamp, k as u8);
+    write_numbers(answer, numbers, size, h.stamp, k as u8);
     write_text(tables, at, h.kind, h.count, answer, text);
     text + k as usize
 }

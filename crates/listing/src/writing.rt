@@ -4,7 +4,8 @@ ghost use mathlib.Core.Bool.{true};
 ghost use Prim.Native.Nat.{_+_, _≤_};
 ghost use lib.ListN.{length, drop};
 ghost use Rattle.number.specs.Number.{written, fronted};
-ghost use Rattle.row.specs.Row.{headAt, span};
+ghost use Rattle.stored_pairs.specs.Stored.{sumOf};
+ghost use Rattle.row.specs.Row.{headAt, lengthsAt, span};
 ghost use Rattle.layout.specs.Memory.{whole, stateOf};
 ghost use Rattle.listing.specs.Rows.{listedBytes, listBytes};
 
@@ -18,7 +19,8 @@ fn write_row(
     to: usize,
 ) -> usize
     requires { ⌜ (at + span (headAt (drop at (now tables))) ≤ length (now tables))
-        × (to + length (listedBytes (now prefix) (now suffix) (drop at (now tables))) ≤ length (now answer)) ⌝ }
+        × (to + length (listedBytes (now prefix) (now suffix) (drop at (now tables))) ≤ length (now answer))
+        × (sumOf (lengthsAt (drop at (now tables))) ≤ headAt (drop at (now tables)) .size) ⌝ }
     ensures { λ r. ⌜ (let x = listedBytes (now (prefix .entry)) (now (suffix .entry)) (drop at (now (tables .entry))) in
         (r ≡ to + length x) × (now (answer .exit) ≡ written (now (answer .entry)) to x)) ⌝ }
 {

@@ -3,14 +3,15 @@
 use Prim.Native.Nat.{ℕ}
 use mathlib.Core.Path.{_≡_, refl, sym, ap, _∙_}
 use mathlib.Core.Bool.{Bool, true, false, _&&_, false≢true}
-use mathlib.Core.List.{[]}
+use mathlib.Core.List.{List}
 use mathlib.Core.Option.{Option, none, some}
 use Rattle.order.specs.Order.{byBytes}
 use Rattle.order.proofs.OrderLaws.{bytes}
-use Rattle.machine.specs.Map.{lookup, isSome}
+use Rattle.machine.specs.Map.{Map, lookup, isSome}
 use Rattle.machine.specs.Names.{Bytes, requestPathOk, newPathOk, stampOk}
+use Rattle.machine.specs.Pairs.{Pair, pairsOk, pairMap}
 use Rattle.machine.specs.State.{Object, State, withO}
-use Rattle.machine.specs.Calls.{Call, PUT, GET, HEAD, DELETE, COPY, LIST, INITIATE, PART, COMMIT, ABORT, UPLOADS, DELETE-OBJECTS, SWEEP, nothing, Refusal, badRequest, notFound, tableFull, arenaFull, Outcome, refuse, accept, _else_then_, given, lent}
+use Rattle.machine.specs.Calls.{Call, PUT, GET, HEAD, DELETE, COPY, LIST, INITIATE, PART, COMMIT, ABORT, UPLOADS, DELETE-OBJECTS, SWEEP, nothing, Buffers, noBuffers, Refusal, badRequest, notFound, tableFull, arenaFull, Outcome, refuse, accept, _else_then_, given, lent}
 use Rattle.machine.specs.Steps.{plainObject, putAt, deleteAt, act, replyOf, after, reply, next}
 use Rattle.machine.specs.Valid.{Valid}
 use Rattle.machine.specs.Swaps.{writes, reads, Apart, Roomy, EitherOrder, Commute}
@@ -25,7 +26,7 @@ data Plan : Type 0 where
 -- a plan's outcome, and the state after
 abbrev done : State → (path : Bytes) → Plan → Outcome
 done s p (refusing n) = refuse n
-done s p (setting x) = accept nothing [] (withO s (put byBytes p x (s .O)))
+done s p (setting x) = accept nothing noBuffers (withO s (put byBytes p x (s .O)))
 
 abbrev left : State → (path : Bytes) → Plan → State
 left s p (refusing n) = s
@@ -35,7 +36,7 @@ after-done : (s : State) (p : Bytes) (a : Plan) → after s (done s p a) ≡ lef
 after-done s p (refusing n) = refl
 after-done s p (setting x) = refl
 
-reply-done : (s s′ : State) (p b : Bytes) (a : Plan) → replyOf b (done s p a) ≡ replyOf b (done s′ p a)
+reply-done : (s s′ : State) (p : Bytes) (b : Buffers) (a : Plan) → replyOf b (done s p a) ≡ replyOf b (done s′ p a)
 reply-done s s′ p b (refusing n) = refl
 reply-done s s′ p b (setting x) = refl
 
@@ -58,35 +59,35 @@ found none k = refusing notFound
 found (some x) k = k x
 
 module _ (s : State) (p : Bytes) where
-  done-else : (b : Bool) (o : Outcome) (a : Plan) → (Room [] o → o ≡ done s p a) → Room [] (b else badRequest then o) → (b else badRequest then o) ≡ done s p (checked b a)
+  done-else : (b : Bool) (o : Outcome) (a : Plan) → (Room noBuffers o → o ≡ done s p a) → Room noBuffers (b else badRequest then o) → (b else badRequest then o) ≡ done s p (checked b a)
   unfolding _else_then_
   done-else true o a h r = h r
   done-else false o a h r = refl
 
-  done-given : (x : Option Object) (k : Object → Outcome) (f : Object → Plan) → ((y : Object) → Room [] (k y) → k y ≡ done s p (f y)) → Room [] (given x notFound k) → given x notFound k ≡ done s p (found x f)
+  done-given : (x : Option Object) (k : Object → Outcome) (f : Object → Plan) → ((y : Object) → Room noBuffers (k y) → k y ≡ done s p (f y)) → Room noBuffers (given x notFound k) → given x notFound k ≡ done s p (found x f)
   unfolding given
   done-given none k f h r = refl
   done-given (some y) k f h r = h y r
 
-  done-full : (b b′ : Bool) (o : Outcome) → Room [] (b else tableFull then b′ else arenaFull then o) → (b else tableFull then b′ else arenaFull then o) ≡ o
+  done-full : (b b′ : Bool) (o : Outcome) → Room noBuffers (b else tableFull then b′ else arenaFull then o) → (b else tableFull then b′ else arenaFull then o) ≡ o
   unfolding _else_then_
   done-full true true o r = refl
   done-full true false o r = absurd (r .1 refl)
   done-full false b′ o r = absurd (r .0 refl)
 
-  done-put : (A t : ℕ) (d : Bytes) → Room [] (putAt A s t p d) → putAt A s t p d ≡ done s p (setting (some (plainObject t d)))
+  done-put : (A t : ℕ) (d : Bytes) (m : Map Bytes Bytes) → Room noBuffers (putAt A s t p d m) → putAt A s t p d m ≡ done s p (setting (some (plainObject t d m)))
   unfolding putAt
-  done-put A t d r = done-full _ _ _ r
+  done-put A t d m r = done-full _ _ _ r
 
-put-write : (t : ℕ) (p d : Bytes) → Write (PUT t p d)
+put-write : (t : ℕ) (p d : Bytes) (ps : List Pair) → Write (PUT t p d ps)
 unfolding act
-put-write t p d = record {
+put-write t p d ps = record {
   looked = p;
   changed = p;
-  plan = λ x. checked (stampOk t && newPathOk p) (setting (some (plainObject t d)));
+  plan = λ x. checked (stampOk t && newPathOk p && pairsOk ps) (setting (some (plainObject t d (pairMap ps))));
   written = refl;
   touched = λ q w r e. w (ap some e);
-  acts = λ A s. done-else s p _ _ _ (done-put s p A t d);
+  acts = λ A s. done-else s p _ _ _ (done-put s p A t d (pairMap ps));
 }
 
 delete-write : (p : Bytes) → Write (DELETE p)
@@ -105,20 +106,20 @@ unfolding act
 copy-write t p q = record {
   looked = p;
   changed = q;
-  plan = λ x. checked (stampOk t && requestPathOk p && newPathOk q) (found x λ y. setting (some (plainObject t (y .content))));
+  plan = λ x. checked (stampOk t && requestPathOk p && newPathOk q) (found x λ y. setting (some (plainObject t (y .content) (y .pairs))));
   written = refl;
   touched = λ p′ w r e. r (ap some e);
-  acts = λ A s. done-else s q _ _ _ (done-given s q _ _ _ λ x. done-put s q A t (x .content));
+  acts = λ A s. done-else s q _ _ _ (done-given s q _ _ _ λ x. done-put s q A t (x .content) (x .pairs));
 }
 
 write : (c : Call) → isSome (writes c) ≡ true → Write c
-write (PUT t p d) h = put-write t p d
-write (GET p b) h = absurd (false≢true h)
-write (HEAD p) h = absurd (false≢true h)
+write (PUT t p d ps) h = put-write t p d ps
+write (GET p b m) h = absurd (false≢true h)
+write (HEAD p m) h = absurd (false≢true h)
 write (DELETE p) h = delete-write p
 write (COPY t p q) h = copy-write t p q
 write (LIST prefix suffix b) h = absurd (false≢true h)
-write (INITIATE t p) h = absurd (false≢true h)
+write (INITIATE t p ps) h = absurd (false≢true h)
 write (PART u n d) h = absurd (false≢true h)
 write (COMMIT u ns) h = absurd (false≢true h)
 write (ABORT u) h = absurd (false≢true h)

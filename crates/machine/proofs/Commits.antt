@@ -4,25 +4,26 @@
 use Prim.Native.Nat.{ℕ, _+_, _≤_, _<_}
 use mathlib.Core.Path.{_≡_, refl, sym, ap, _∙_, subst}
 use mathlib.Core.Bool.{true, _&&_, cond, false≢true}
-use mathlib.Core.List.{List, [], _∷_, _++_, map}
+use mathlib.Core.List.{List, [], _∷_, map}
 use mathlib.Core.Option.{Option, none, some}
 use native.Mathlib.Omega.{arith}
 use native.Mathlib.Decide.{ℕ-discrete}
 use borrow.Author.Tests.{le-leb, eq-eqb, ne-eqb}
 use lib.Dec.{eqb}
-use lib.ListN.{length, drop}
+use lib.ListN.{length}
 use Rattle.order.specs.Order.{byBytes}
 use Rattle.order.proofs.OrderLaws.{numbers, bytes}
 use Rattle.machine.specs.Map.{isSome, Map, byNumber, lookup, insert, remove, mapped, Ascending}
 use Rattle.machine.specs.Names.{Bytes, storedPathOk}
+use Rattle.machine.specs.Pairs.{encodePairs}
 use Rattle.machine.specs.Digest.{md5}
 use Rattle.machine.specs.State.{Object, Part, Upload, State, fresh, withObject, withoutUpload, withPart}
-use Rattle.machine.specs.Calls.{Call, GET, COMMIT, Answer, given, lent, _else_then_}
-use Rattle.machine.specs.Steps.{newUpload, newPart, joinedObject, about, contents, digests, fit, objectAt, act, reply, next}
+use Rattle.machine.specs.Calls.{Call, GET, COMMIT, Answer, buffers, noBuffers, given, lent, _else_then_}
+use Rattle.machine.specs.Steps.{newUpload, newPart, joinedObject, about, over, contents, digests, fit, objectAt, act, reply, next}
 use Rattle.machine.specs.Lists.{Trace, trace, final}
 use Rattle.machine.specs.Valid.{UploadOk, Valid}
 use Rattle.machine.specs.Fits.{allFound, listedParts}
-use Rattle.machine.specs.Demand3.{Kind, looks, initiates, sends, commits, other, accepted, _or_, carries, carried, lastPart, lastParts, opens, opened, startOf, concat, joinedFrom, Leaves, calls, CommitsJoin}
+use Rattle.machine.specs.Demand3.{Kind, looks, initiates, sends, commits, other, accepted, _or_, carries, carried, lastPart, lastParts, Start, opens, opened, startOf, concat, joinedFrom, Leaves, calls, CommitsJoin}
 use Rattle.machine.proofs.Options.{both}
 use Rattle.machine.proofs.MapLaws.{ascending-remove, every-lookup, lookup-insert, lookup-insert-other}
 use Rattle.machine.proofs.Fit.{lookup-kept, fit-listed, fit-once, fit-all}
@@ -32,23 +33,27 @@ use Rattle.machine.proofs.Outcome.{refused-not-accepted, Then, then-els
 use Rattle.machine.proofs.Effects.{Effects, stop, sets, removes, closes, Quiet, Does, opens-upload, sets-part, has-effects, step-does}
 use Rattle.machine.proofs.KeepsValid.{next-valid, fresh-valid, final-valid}
 
+-- what an upload has from its INITIATE
+abbrev pub startFrom : Upload → Start
+startFrom x = record { stamp = x .started; path = x .path; pairs = x .pairs }
+
 -- f tells what the last PART carried, and g the start, of each upload so far
-pub record Agrees (m : Map ℕ Upload) (N : ℕ) (f : ℕ → ℕ → Option Bytes) (g : ℕ → Option (ℕ × Bytes)) : Type 0 where
+pub record Agrees (m : Map ℕ Upload) (N : ℕ) (f : ℕ → ℕ → Option Bytes) (g : ℕ → Option Start) : Type 0 where
   pub parts : (u : ℕ) (x : Upload) → lookup byNumber u m ≡ some x → (n : ℕ) → lookup byNumber n (x .parts) ≡ mapped newPart (f u n)
-  pub start : (u : ℕ) (x : Upload) → lookup byNumber u m ≡ some x → g u ≡ some (x .started, x .path)
+  pub start : (u : ℕ) (x : Upload) → lookup byNumber u m ≡ some x → g u ≡ some (startFrom x)
   pub later : (u n : ℕ) → N ≤ u → f u n ≡ none
 
 -- INITIATE
-initiated : (m : Map ℕ Upload) (N : ℕ) (f : ℕ → ℕ → Option Bytes) (g : ℕ → Option (ℕ × Bytes)) (t : ℕ) (p : Bytes) → Agrees m N f g →
-    Agrees (insert byNumber N (newUpload t p) m) (N + 1) f (λ u. cond (eqb u N) (some (t, p)) none or g u)
-initiated m N f g t p a = record {
+initiated : (m : Map ℕ Upload) (N : ℕ) (f : ℕ → ℕ → Option Bytes) (g : ℕ → Option Start) (t : ℕ) (p : Bytes) (ps : Map Bytes Bytes) → Agrees m N f g →
+    Agrees (insert byNumber N (newUpload t p ps) m) (N + 1) f (λ u. cond (eqb u N) (some (startFrom (newUpload t p ps))) none or g u)
+initiated m N f g t p ps a = record {
   parts = λ u x h n. parts u x h n (ℕ-discrete u N);
   start = λ u x h. start u x h (ℕ-discrete u N);
   later = λ u n h. a .later u n (omega arith);
 }
   where
     new : Upload
-    new = newUpload t p
+    new = newUpload t p ps
 
     is-new : (x : Upload) → lookup byNumber N (insert byNumber N new m) ≡ some x → new ≡ x
     is-new x h = let e = lookup-insert numbers N new m in cc
@@ -57,7 +62,7 @@ initiated m N f g t p a = record {
     parts u x h n (yes e) = rw (← is-new x (rw e at h), a .later u n (omega arith))
     parts u x h n (no d) = a .parts u x (sym (lookup-insert-other numbers u N new m d) ∙ h) n
 
-    start : (u : ℕ) (x : Upload) → lookup byNumber u (insert byNumber N new m) ≡ some x → Dec (u ≡ N) → cond (eqb u N) (some (t, p)) none or g u ≡ some (x .started, x .path)
+    start : (u : ℕ) (x : Upload) → lookup byNumber u (insert byNumber N new m) ≡ some x → Dec (u ≡ N) → cond (eqb u N) (some (startFrom (newUpload t p ps))) none or g u ≡ some (startFrom x)
     start u x h (yes e) = rw (← is-new x (rw e at h), eq-eqb u N e)
     start u x h (no d) = rw (ne-eqb u N d) (a .start u x (sym (lookup-insert-other numbers u N new m d) ∙ h))
 
@@ -65,7 +70,7 @@ initiated m N f g t p a = record {
 abbrev sending : ℕ → ℕ → Bytes → (ℕ → ℕ → Option Bytes) → ℕ → ℕ → Option Bytes
 sending u n d f v k = cond (eqb v u && eqb k n) (some d) none or f v k
 
-sent-part : (m : Map ℕ Upload) (N : ℕ) (f : ℕ → ℕ → Option Bytes) (g : ℕ → Option (ℕ × Bytes)) (u n : ℕ) (d : Bytes) (x : Upload) →
+sent-part : (m : Map ℕ Upload) (N : ℕ) (f : ℕ → ℕ → Option Bytes) (g : ℕ → Option Start) (u n : ℕ) (d : Bytes) (x : Upload) →
     lookup byNumber u m ≡ some x → u < N → Agrees m N f g → Agrees (insert byNumber u (withPart x n (newPart d)) m) N (sending u n d f) g
 sent-part m N f g u n d x h l a = record {
   parts = λ v y q k. parts v y q k (ℕ-discrete v u) (ℕ-discrete k n);
@@ -88,12 +93,12 @@ sent-part m N f g u n d x h l a = record {
         rw (← is-new y (rw i at q), eq-eqb v u i, ne-eqb k n j, lookup-insert-other numbers k n part (x .parts) j) (a .parts v x (rw i h) k)
     parts v y q k (no i) _ = rw (ne-eqb v u i) (a .parts v y (sym (lookup-insert-other numbers v u new m i) ∙ q) k)
 
-    start : (v : ℕ) (y : Upload) → lookup byNumber v (insert byNumber u new m) ≡ some y → Dec (v ≡ u) → g v ≡ some (y .started, y .path)
+    start : (v : ℕ) (y : Upload) → lookup byNumber v (insert byNumber u new m) ≡ some y → Dec (v ≡ u) → g v ≡ some (startFrom y)
     start v y q (yes i) = rw (← is-new y (rw i at q)) (a .start v x (rw i h))
     start v y q (no i) = a .start v y (sym (lookup-insert-other numbers v u new m i) ∙ q)
 
 -- COMMIT and ABORT
-closed : (m : Map ℕ Upload) (N : ℕ) (f : ℕ → ℕ → Option Bytes) (g : ℕ → Option (ℕ × Bytes)) (u : ℕ) → Ascending byNumber m → Agrees m N f g → Agrees (remove byNumber u m) N f g
+closed : (m : Map ℕ Upload) (N : ℕ) (f : ℕ → ℕ → Option Bytes) (g : ℕ → Option Start) (u : ℕ) → Ascending byNumber m → Agrees m N f g → Agrees (remove byNumber u m) N f g
 closed m N f g u s a = record {
   parts = λ v x h. a .parts v x (lookup-kept v u m x s h);
   start = λ v x h. a .start v x (lookup-kept v u m x s h);
@@ -101,15 +106,15 @@ closed m N f g u s a = record {
 }
 
 -- a call that is neither INITIATE nor PART tells nothing new
-quiet-agrees : {m : Map ℕ Upload} {N : ℕ} {f : ℕ → ℕ → Option Bytes} {g : ℕ → Option (ℕ × Bytes)} (r : Answer) (k : Kind) → Quiet k →
+quiet-agrees : {m : Map ℕ Upload} {N : ℕ} {f : ℕ → ℕ → Option Bytes} {g : ℕ → Option Start} (r : Answer) (k : Kind) → Quiet k →
     Agrees m N f g → Agrees m N (λ u n. carries u n k or f u n) (λ u. opens u r k or g u)
 quiet-agrees r looks q a = a
-quiet-agrees r (initiates t p) q a = absurd q
+quiet-agrees r (initiates t p m) q a = absurd q
 quiet-agrees r (sends u n d) q a = absurd q
 quiet-agrees r (commits u) q a = a
 quiet-agrees r other q a = a
 
-module _ (A : ℕ) (s : State) (f : ℕ → ℕ → Option Bytes) (g : ℕ → Option (ℕ × Bytes)) where
+module _ (A : ℕ) (s : State) (f : ℕ → ℕ → Option Bytes) (g : ℕ → Option Start) where
   effects-agree : {b c : State} → Effects A s b c → Ascending byNumber (b .U) → Agrees (b .U) (b .N) f g → Agrees (c .U) (c .N) f g
   effects-agree stop o a = a
   effects-agree (sets p x h more) o a = effects-agree more o a
@@ -118,7 +123,7 @@ module _ (A : ℕ) (s : State) (f : ℕ → ℕ → Option Bytes) (g : ℕ → O
 
   does-agree : {k : Kind} {r : Answer} {s′ : State} → Valid A s → Agrees (s .U) (s .N) f g → Does A s k r s′ →
       Agrees (s′ .U) (s′ .N) (λ u n. carries u n k or f u n) (λ u. opens u r k or g u)
-  does-agree v a (opens-upload t p h c l) = initiated (s .U) (s .N) f g t p a
+  does-agree v a (opens-upload t p m h k c r l) = initiated (s .U) (s .N) f g t p m a
   does-agree v a (sets-part u x n d h e c r) = sent-part (s .U) (s .N) f g u n d x e (every-lookup numbers (UploadOk (s .N)) u x (s .U) (v .upload) e .high) a
   does-agree v a (has-effects {k} {r} q w more) = quiet-agrees r k q (effects-agree more (v .uploads) a)
 
@@ -136,14 +141,14 @@ pub or-none : {X : Type 0} (a : Option X) → a or none ≡ a
 or-none none = refl
 or-none (some x) = refl
 
-agrees-same : (m : Map ℕ Upload) (N : ℕ) (f h : ℕ → ℕ → Option Bytes) (g k : ℕ → Option (ℕ × Bytes)) → ((u n : ℕ) → f u n ≡ h u n) → ((u : ℕ) → g u ≡ k u) → Agrees m N f g → Agrees m N h k
+agrees-same : (m : Map ℕ Upload) (N : ℕ) (f h : ℕ → ℕ → Option Bytes) (g k : ℕ → Option Start) → ((u n : ℕ) → f u n ≡ h u n) → ((u : ℕ) → g u ≡ k u) → Agrees m N f g → Agrees m N h k
 agrees-same m N f h g k p q a = record {
   parts = λ u x e n. a .parts u x e n ∙ ap (mapped newPart) (p u n);
   start = λ u x e. sym (q u) ∙ a .start u x e;
   later = λ u n l. sym (p u n) ∙ a .later u n l;
 }
 
-run-agrees : (A : ℕ) (s : State) (cs : List Call) (f : ℕ → ℕ → Option Bytes) (g : ℕ → Option (ℕ × Bytes)) → Valid A s → Agrees (s .U) (s .N) f g →
+run-agrees : (A : ℕ) (s : State) (cs : List Call) (f : ℕ → ℕ → Option Bytes) (g : ℕ → Option Start) → Valid A s → Agrees (s .U) (s .N) f g →
     Agrees (final A s cs .U) (final A s cs .N) (λ u n. lastPart u n (trace A s cs) or f u n) (λ u. startOf u (trace A s cs) or g u)
 run-agrees A s [] f g v a = a
 run-agrees A s (c ∷ cs) f g v a =
@@ -169,7 +174,7 @@ length-new : (ds : List Bytes) → length (map newPart ds) ≡ length ds
 length-new [] = refl
 length-new (d ∷ ds) = rw (length-new ds)
 
-pub joined-new : (x : Upload) (ds : List Bytes) → joinedObject x (map newPart ds) ≡ joinedFrom (x .started) ds
+pub joined-new : (x : Upload) (ds : List Bytes) → joinedObject x (map newPart ds) ≡ joinedFrom (startFrom x) ds
 joined-new x ds = rw (contents-new ds, digests-new ds, length-new ds)
 
 -- what `fit` finds in parts that agree with the trace
@@ -187,38 +192,38 @@ sent u t m h (n ∷ ns) a = let b = both (isSome (lookup byNumber n m)) (allFoun
     go (some d) q i r = record { parts = d ∷ r .parts; told = rw (q, r .told); made = rw (h n, q, r .made) }
 
 -- GET of what is there
-got : (A : ℕ) (s : State) (p : Bytes) (x : Object) (b : Bytes) → storedPathOk p ≡ true → lookup byBytes p (s .O) ≡ some x → length (x .content) ≤ length b →
-    reply A s (GET p b) ≡ record { result = 0; answer = about x; buffer = x .content ++ drop (length (x .content)) b }
+got : (A : ℕ) (s : State) (p : Bytes) (x : Object) (b m : Bytes) → storedPathOk p ≡ true → lookup byBytes p (s .O) ≡ some x →
+    length (x .content) ≤ length b → length (encodePairs (x .pairs)) ≤ length m →
+    reply A s (GET p b m) ≡ record { result = 0; answer = about x; buffers = buffers (over (x .content) b) (over (encodePairs (x .pairs)) m) }
 unfolding act objectAt _else_then_ given
-got A s [] x b h e l = absurd (stored-not-root h)
-got A s (c ∷ p) x b h e l = rw (stored-requested (c ∷ p) h, e, le-leb (length (x .content)) (length b) l)
+got A s [] x b m h e l k = absurd (stored-not-root h)
+got A s (c ∷ p) x b m h e l k = rw (stored-requested (c ∷ p) h, e, le-leb (length (x .content)) (length b) l, le-leb (length (encodePairs (x .pairs))) (length m) k)
 
 commit-leaves : (A : ℕ) (s : State) (u : ℕ) (ns : List ℕ) (t : Trace) → Valid A s → Agrees (s .U) (s .N) (λ u n. lastPart u n t) (λ u. startOf u t) →
     accepted (reply A s (COMMIT u ns)) ≡ true → Leaves A t u ns (next A s (COMMIT u ns))
 unfolding act Then
 commit-leaves A s u ns t v a =
-    then-step (λ r out s′. Leaves A t u ns s′) (λ r s′. accepted r ≡ true → Leaves A t u ns s′) s [] (act A s (COMMIT u ns))
+    then-step (λ r out s′. Leaves A t u ns s′) (λ r s′. accepted r ≡ true → Leaves A t u ns s′) s noBuffers (act A s (COMMIT u ns))
     (then-given _ _ _ _ λ x e. then-given _ _ _ _ λ xs f. then-else _ _ _ _ λ _. go x e xs f)
-    (λ n ok. absurd (false≢true (sym (refused-not-accepted [] n) ∙ ok))) (λ r out s′ h ok. h)
+    (λ n ok. absurd (false≢true (sym (refused-not-accepted noBuffers n) ∙ ok))) (λ r out s′ h ok. h)
   where
     go : (x : Upload) → lookup byNumber u (s .U) ≡ some x → (xs : List Part) → fit ns (x .parts) ≡ some xs → Leaves A t u ns (withoutUpload (withObject s (x .path) (joinedObject x xs)) u)
     go x e xs f =
         let o = every-lookup numbers (UploadOk (s .N)) u x (s .U) (v .upload) e in
         let l = fit-listed ns (x .parts) xs (o .sorted) f in
         let w = sent u t (x .parts) (a .parts u x e) ns (l .0) in
-        let q : joinedObject x xs ≡ joinedFrom (x .started) (w .parts) = ap (joinedObject x) (l .1 ∙ w .made) ∙ joined-new x (w .parts) in
+        let q : joinedObject x xs ≡ joinedFrom (startFrom x) (w .parts) = ap (joinedObject x) (l .1 ∙ w .made) ∙ joined-new x (w .parts) in
         let s′ : State = withoutUpload (withObject s (x .path) (joinedObject x xs)) u in
-        let h : lookup byBytes (x .path) (s′ .O) ≡ some (joinedFrom (x .started) (w .parts)) = lookup-insert bytes (x .path) (joinedObject x xs) (s .O) ∙ ap some q in
+        let h : lookup byBytes (x .path) (s′ .O) ≡ some (joinedFrom (startFrom x) (w .parts)) = lookup-insert bytes (x .path) (joinedObject x xs) (s .O) ∙ ap some q in
         record {
-          stamp = x .started;
-          path = x .path;
+          start = startFrom x;
           parts = w .parts;
           of-upload = a .start u x e;
           sent = w .told;
           once = fit-once ns (x .parts) xs (o .sorted) f;
           all = λ n d q. fit-all ns (x .parts) xs (o .sorted) f n (newPart d) (a .parts u x e n ∙ ap (mapped newPart) q);
           there = h;
-          read = λ b g. got A s′ (x .path) (joinedFrom (x .started) (w .parts)) b (o .path) h g;
+          read = λ b m g k. got A s′ (x .path) (joinedFrom (startFrom x) (w .parts)) b m (o .path) h g k;
         }
 
 pub commits-join : (A : ℕ) (cs : List Call) → CommitsJoin A cs

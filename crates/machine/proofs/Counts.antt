@@ -10,7 +10,7 @@ use lib.Dec.{leb}
 use lib.ListN.{length}
 use Rattle.order.specs.Order.{byBytes}
 use Rattle.order.proofs.OrderLaws.{numbers, bytes}
-use Rattle.machine.specs.Map.{byNumber, lookup, insert, remove, total, owed}
+use Rattle.machine.specs.Map.{Map, byNumber, lookup, insert, remove, total, owed}
 use Rattle.machine.specs.Names.{Bytes}
 use Rattle.machine.specs.State.{Object, Part, Upload, State, withObject, withoutObject, withUpload, withoutUpload, withNext, withPart, objectLength, partLength, uploadLength, partsIn, held, counted}
 use Rattle.machine.specs.Steps.{fit, newUpload, joinedObject}
@@ -32,10 +32,10 @@ module _ (A : ℕ) (s : State) (v : Valid A s) where
       let b : total partsIn (remove byNumber u (s .U)) ≤ 256 = omega (arith, v .parts, total-remove numbers partsIn u (s .U)) in
       rw (le-leb _ _ a, le-leb _ _ b) (and-true _ ∙ and-true _)
 
-  pub initiate-counted : (u t : ℕ) (p : Bytes) → counted (withNext (withUpload s u (newUpload t p))) ≡ leb (length (insert byNumber u (newUpload t p) (s .U))) 16
+  pub initiate-counted : (u t : ℕ) (p : Bytes) (m : Map Bytes Bytes) → counted (withNext (withUpload s u (newUpload t p m))) ≡ leb (length (insert byNumber u (newUpload t p m) (s .U))) 16
   unfolding counted
-  initiate-counted u t p =
-      let b : total partsIn (insert byNumber u (newUpload t p) (s .U)) ≤ 256 = omega (arith, v .parts, total-insert numbers partsIn u (newUpload t p) (s .U)) in
+  initiate-counted u t p m =
+      let b : total partsIn (insert byNumber u (newUpload t p m) (s .U)) ≤ 256 = omega (arith, v .parts, total-insert numbers partsIn u (newUpload t p m) (s .U)) in
       rw (le-leb _ _ (v .paths), le-leb _ _ b) (and-true _)
 
   pub part-counted : (u : ℕ) (x y : Upload) → lookup byNumber u (s .U) ≡ some x → counted (withUpload s u y) ≡ leb (total partsIn (insert byNumber u y (s .U))) 256

@@ -3,13 +3,13 @@
 use Prim.Native.Nat.{ℕ, _+_}
 use mathlib.Core.Path.{_≡_, refl, sym, ap, ap₂, _∙_}
 use mathlib.Core.Bool.{Bool, true, false, cond, false≢true}
-use mathlib.Core.List.{List, [], _∷_, _++_}
+use mathlib.Core.List.{List, [], _∷_}
 use lib.Dec.{leb}
-use lib.ListN.{length, drop}
+use lib.ListN.{length}
 use Rattle.machine.specs.Names.{Bytes, pathOk, requestPathOk}
 use Rattle.machine.specs.State.{State, fresh}
-use Rattle.machine.specs.Calls.{Call, DELETE, DELETE-OBJECTS, NamePlace, nothing, badRequest, bufferShort, tooMany, accept, Outcome, _else_then_}
-use Rattle.machine.specs.Steps.{deleteAt, deletePlace, placeResults, afterPlaces, act, replyOf, after}
+use Rattle.machine.specs.Calls.{Call, DELETE, DELETE-OBJECTS, NamePlace, nothing, buffers, noBuffers, badRequest, bufferShort, tooMany, accept, Outcome, _else_then_}
+use Rattle.machine.specs.Steps.{deleteAt, deletePlace, placeResults, afterPlaces, act, over, replyOf, after}
 use Rattle.machine.specs.Lists.{trace, final}
 use Rattle.machine.specs.Demand3.{accepted}
 use Rattle.machine.specs.DeleteObjects.{nameAt, singleDeletes, resultsOf, AsDeletes, AmidAnyList}
@@ -35,15 +35,15 @@ module _ (A : ℕ) (names : Bytes) where
   places-trace : (s : State) (ps : List NamePlace) → placeResults s names ps ≡ resultsOf (trace A s (singleDeletes names ps))
   places-trace s [] = refl
   places-trace s (p ∷ ps) =
-      ap₂ (λ (n : ℕ) (l : List ℕ). n ∷ l) (ap (λ (o : Outcome). replyOf [] o .result) (place-is A s names p))
+      ap₂ (λ (n : ℕ) (l : List ℕ). n ∷ l) (ap (λ (o : Outcome). replyOf noBuffers o .result) (place-is A s names p))
       (places-trace (after s (deletePlace s names p)) ps
       ∙ ap (λ (o : Outcome). resultsOf (trace A (after s o) (singleDeletes names ps))) (place-is A s names p))
 
 -- the call's checks, one after the other: accepted, it leaves s′ and writes `out`; refused, it changes nothing
 checked : (s s′ : State) (b out : Bytes) (few whole room : Bool) →
-    let o : Outcome = few else tooMany then whole else badRequest then room else bufferShort then accept nothing out s′ in
-    (accepted (replyOf b o) ≡ true → (after s o ≡ s′) × (replyOf b o ≡ record { result = 0; answer = nothing; buffer = out ++ drop (length out) b }))
-    × (accepted (replyOf b o) ≡ false → (after s o ≡ s) × (replyOf b o .buffer ≡ b))
+    let o : Outcome = few else tooMany then whole else badRequest then room else bufferShort then accept nothing (buffers out []) s′ in
+    (accepted (replyOf (buffers b []) o) ≡ true → (after s o ≡ s′) × (replyOf (buffers b []) o ≡ record { result = 0; answer = nothing; buffers = buffers (over out b) [] }))
+    × (accepted (replyOf (buffers b []) o) ≡ false → (after s o ≡ s) × (replyOf (buffers b []) o .buffers ≡ buffers b []))
 unfolding _else_then_
 checked s s′ b out true true true = (λ _. (refl, refl), λ h. absurd (false≢true (sym h)))
 checked s s′ b out true true false = (λ h. absurd (false≢true h), λ _. (refl, refl))

@@ -10,13 +10,14 @@ use native.Mathlib.Omega.{arith}
 use borrow.Author.Tests.{leb-true}
 use lib.Dec.{leb}
 use lib.ListN.{length}
-use Rattle.order.proofs.OrderLaws.{numbers}
+use Rattle.order.proofs.OrderLaws.{numbers, bytes}
 use Rattle.machine.specs.Map.{Map, byNumber, lookup, total}
 use Rattle.machine.specs.Names.{Bytes, newPathOk, stampOk, requestPartOk, lastUploadNumber}
+use Rattle.machine.specs.Pairs.{pairMap, keptOk}
 use Rattle.machine.specs.Digest.{md5, length-md5}
 use Rattle.machine.specs.Etags.{plain}
 use Rattle.machine.specs.State.{Object, Part, Upload, State, withObject, withoutObject, withUpload, withoutUpload, withNext, withPart, partsIn, held, counted}
-use Rattle.machine.specs.Calls.{Call, PUT, GET, HEAD, DELETE, COPY, LIST, INITIATE, PART, COMMIT, ABORT, UPLOADS, DELETE-OBJECTS, SWEEP, NamePlace, Answer, nothing, etag, number, Reply, Refusal, badRequest, Outcome, refuse, accept, given, lent}
+use Rattle.machine.specs.Calls.{Call, PUT, GET, HEAD, DELETE, COPY, LIST, INITIATE, PART, COMMIT, ABORT, UPLOADS, DELETE-OBJECTS, SWEEP, NamePlace, Answer, nothing, Buffers, noBuffers, etag, number, Reply, Refusal, badRequest, Outcome, refuse, accept, given, lent}
 use Rattle.machine.specs.Steps.{newUpload, newPart, joinedObject, fit, putAt, deleteAt, deletePlace, afterPlaces, abortAt, toSweep, afterAborts, act, replyOf, after, reply, next}
 use Rattle.machine.specs.Valid.{ObjectOk, UploadOk, Valid}
 use Rattle.machine.specs.Demand3.{Kind, looks, initiates, sends, commits, other, kind, answers}
@@ -26,6 +27,7 @@ use Rattle.machine.proofs.MapSums.{total-remove}
 use Rattle.machine.proofs.Fit.{fit-length}
 use Rattle.machine.proofs.Counts.{held-commit}
 use Rattle.machine.proofs.Rules.{new-stored}
+use Rattle.machine.proofs.PairLaws.{taken-kept}
 use Rattle.machine.proofs.Outcome.{Then, then-else, then-given, then-object, then-put, then-step}
 use Rattle.machine.proofs.Places.{placed, then-place}
 
@@ -45,22 +47,22 @@ pub data Effects (A : ℕ) (s : State) : State → State → Type 0 where
 -- neither INITIATE nor PART
 abbrev pub Quiet : Kind → Type 0
 Quiet looks = Unit {0}
-Quiet (initiates t p) = ⊥
+Quiet (initiates t p m) = ⊥
 Quiet (sends u n d) = ⊥
 Quiet (commits u) = Unit {0}
 Quiet other = Unit {0}
 
 -- the state with a new upload, and with a part of an open one
-abbrev pub withOpened : State → (stamp : ℕ) (path : Bytes) → State
-withOpened s t p = withNext (withUpload s (s .N) (newUpload t p))
+abbrev pub withOpened : State → (stamp : ℕ) (path : Bytes) → Map Bytes Bytes → State
+withOpened s t p m = withNext (withUpload s (s .N) (newUpload t p m))
 
 abbrev pub withSent : State → (upload : ℕ) → Upload → (number : ℕ) (content : Bytes) → State
 withSent s u x n d = withUpload s u (withPart x n (newPart d))
 
 -- what an accepted call of a kind does over s, with its answer and the state after
 pub data Does (A : ℕ) (s : State) : Kind → Answer → State → Type 0 where
-  opens-upload : (t : ℕ) (p : Bytes) → stampOk t && newPathOk p ≡ true → counted (withOpened s t p) ≡ true → leb (s .N) lastUploadNumber ≡ true →
-      Does A s (initiates t p) (number (s .N)) (withOpened s t p)
+  opens-upload : (t : ℕ) (p : Bytes) (m : Map Bytes Bytes) → stampOk t && newPathOk p ≡ true → keptOk m ≡ true → counted (withOpened s t p m) ≡ true →
+      leb (held (withOpened s t p m)) A ≡ true → leb (s .N) lastUploadNumber ≡ true → Does A s (initiates t p m) (number (s .N)) (withOpened s t p m)
   sets-part : (u : ℕ) (x : Upload) (n : ℕ) (d : Bytes) → requestPartOk n ≡ true → lookup byNumber u (s .U) ≡ some x →
       counted (withSent s u x n d) ≡ true → leb (held (withSent s u x n d)) A ≡ true → Does A s (sends u n d) (etag (plain (md5 d))) (withSent s u x n d)
   has-effects : {k : Kind} {r : Answer} {s′ : State} → Quiet k → ((n : ℕ) → answers n r ≡ false) → Effects A s s s′ → Does A s k r s′
@@ -70,9 +72,10 @@ few : (m : Map ℕ Upload) (u : ℕ) (x : Upload) (ns : List ℕ) (xs : List Par
 few m u x ns xs h e f = omega (arith, h, rw e at (total-remove numbers partsIn u m), fit-length ns (x .parts) xs f)
 
 module _ (A : ℕ) (s : State) where
-  put-does : (t : ℕ) (p d : Bytes) → stampOk t ≡ true → newPathOk p ≡ true → Then (λ r out s′. Does A s other r s′) (putAt A s t p d)
-  put-does t p d ht hp = then-put _ A s t p d λ c r. has-effects tt (λ n. refl) (sets p _ (λ v. record {
-    object = record { path = new-stored p hp; stamp = ht; etag = length-md5 d };
+  put-does : (t : ℕ) (p d : Bytes) (m : Map Bytes Bytes) → stampOk t ≡ true → newPathOk p ≡ true → (Valid A s → keptOk m ≡ true) →
+      Then (λ r out s′. Does A s other r s′) (putAt A s t p d m)
+  put-does t p d m ht hp hm = then-put _ A s t p d m λ c r. has-effects tt (λ n. refl) (sets p _ (λ v. record {
+    object = record { path = new-stored p hp; stamp = ht; etag = length-md5 d; pairs = hm v };
     counts = c;
     room = leb-true _ _ r;
   }) stop)
@@ -82,7 +85,7 @@ module _ (A : ℕ) (s : State) where
   joined-sound u x ns xs e f c v =
       let o = every-lookup numbers (UploadOk (s .N)) u x (s .U) (v .upload) e in
       record {
-        object = record { path = o .path; stamp = o .stamp; etag = (length-md5 _, few (s .U) u x ns xs (v .parts) e f) };
+        object = record { path = o .path; stamp = o .stamp; etag = (length-md5 _, few (s .U) u x ns xs (v .parts) e f); pairs = o .pairs };
         counts = c;
         room = let h = held-commit s u x ns xs (x .path) e f in omega (arith, v .room);
       }
@@ -104,22 +107,30 @@ module _ (A : ℕ) (s : State) where
   aborts-do a [] = stop
   aborts-do a (u ∷ us) = go (lookup byNumber u (a .U)) refl (aborts-do (after a (abortAt a u)) us)
     where
-      go : (o : Option Upload) → lookup byNumber u (a .U) ≡ o → {b : State} → Effects A s (after a (given o badRequest λ x. accept nothing [] (withoutUpload a u))) b → Effects A s a b
+      go : (o : Option Upload) → lookup byNumber u (a .U) ≡ o → {b : State} → Effects A s (after a (given o badRequest λ x. accept nothing noBuffers (withoutUpload a u))) b → Effects A s a b
       go none e h = h
       go (some x) e h = closes u x e h
 
   act-does : (c : Call) → Then (λ r out s′. Does A s (kind c) r s′) (act A s c)
   unfolding act deleteAt abortAt Then
-  act-does (PUT t p d) = then-else _ _ _ _ λ h. let b = both _ _ h in put-does t p d (b .0) (b .1)
-  act-does (GET p b) = then-object _ s p _ λ x. then-else _ _ _ _ λ _. has-effects tt (λ n. refl) stop
-  act-does (HEAD p) = then-object _ s p _ λ x. has-effects tt (λ n. refl) stop
+  act-does (PUT t p d ps) =
+      then-else _ _ _ _ λ h. let a = both _ _ h in let b = both _ _ (a .0) in put-does t p d (pairMap ps) (b .0) (b .1) (λ v. taken-kept ps (a .1))
+  act-does (GET p b m) = then-object _ s p _ λ x. then-else _ _ _ _ λ _. then-else _ _ _ _ λ _. has-effects tt (λ n. refl) stop
+  act-does (HEAD p m) = then-object _ s p _ λ x. then-else _ _ _ _ λ _. has-effects tt (λ n. refl) stop
   act-does (DELETE p) = then-else _ _ _ _ λ _. then-given _ _ _ _ λ x _. has-effects tt (λ n. refl) (removes p stop)
   act-does (COPY t p q) =
       then-else _ _ _ _ λ h.
-      then-given _ _ _ _ λ x _.
-      let b = both _ _ h in let c = both _ _ (b .0) in put-does t q (x .content) (c .0) (b .1)
+      then-given _ _ _ _ λ x e.
+      let b = both _ _ h in
+      let c = both _ _ (b .0) in
+      put-does t q (x .content) (x .pairs) (c .0) (b .1) (λ v. every-lookup bytes ObjectOk p x (s .O) (v .object) e .pairs)
   act-does (LIST prefix suffix b) = then-else _ _ _ _ λ _. has-effects tt (λ n. refl) stop
-  act-does (INITIATE t p) = then-else _ _ _ _ λ h. then-else _ _ _ _ λ c. then-else _ _ _ _ λ l. opens-upload t p h c l
+  act-does (INITIATE t p ps) =
+      then-else _ _ _ _ λ h.
+      then-else _ _ _ _ λ c.
+      then-else _ _ _ _ λ r.
+      then-else _ _ _ _ λ l.
+      let a = both _ _ h in opens-upload t p (pairMap ps) (a .0) (taken-kept ps (a .1)) c r l
   act-does (PART u n d) = then-else _ _ _ _ λ h. then-given _ _ _ _ λ x e. then-else _ _ _ _ λ c. then-else _ _ _ _ λ r. sets-part u x n d h e c r
   act-does (COMMIT u ns) =
       then-given _ _ _ _ λ x e.
@@ -134,5 +145,5 @@ module _ (A : ℕ) (s : State) where
 
   -- what holds where a call is refused, and of whatever an accepted one does, holds of every call's reply and the state after it
   pub step-does : (P : Reply → State → Type 0) (c : Call) → ((n : Refusal) → P (replyOf (lent c) (refuse n)) s) →
-      ((r : Answer) (out : Bytes) (s′ : State) → Does A s (kind c) r s′ → P (replyOf (lent c) (accept r out s′)) s′) → P (reply A s c) (next A s c)
+      ((r : Answer) (out : Buffers) (s′ : State) → Does A s (kind c) r s′ → P (replyOf (lent c) (accept r out s′)) s′) → P (reply A s c) (next A s c)
   step-does P c h k = then-step _ P s (lent c) (act A s c) (act-does c) h k

@@ -12,16 +12,17 @@ use lib.ListN.{length}
 use Rattle.order.proofs.OrderLaws.{numbers, bytes}
 use Rattle.machine.specs.Map.{Map, byNumber, lookup, total, Every}
 use Rattle.machine.specs.Names.{Bytes, newPathOk, stampOk, requestPartOk, lastUploadNumber}
+use Rattle.machine.specs.Pairs.{keptOk}
 use Rattle.machine.specs.Digest.{length-md5}
-use Rattle.machine.specs.State.{Object, Upload, State, fresh, withObject, withoutObject, withoutUpload, withPart, uploadLength, partsIn, held, counted}
+use Rattle.machine.specs.State.{Object, Upload, State, fresh, withObject, withoutObject, withoutUpload, withPart, partsIn, held, counted}
 use Rattle.machine.specs.Calls.{Call, Answer}
-use Rattle.machine.specs.Steps.{newUpload, newPart, next}
+use Rattle.machine.specs.Steps.{newPart, next}
 use Rattle.machine.specs.Lists.{final}
 use Rattle.machine.specs.Valid.{ObjectOk, PartOk, UploadOk, Valid}
 use Rattle.machine.specs.Demand3.{Kind}
 use Rattle.machine.proofs.Options.{both}
 use Rattle.machine.proofs.MapLaws.{ascending-insert, ascending-remove, every-insert, every-remove, every-lookup}
-use Rattle.machine.proofs.MapSums.{total-insert, total-remove, length-remove}
+use Rattle.machine.proofs.MapSums.{total-remove, length-remove}
 use Rattle.machine.proofs.Counts.{held-delete, held-abort}
 use Rattle.machine.proofs.Rules.{new-stored, part-stored}
 use Rattle.machine.proofs.Effects.{Sound, Effects, stop, sets, removes, closes, withOpened, withSent, Does, opens-upload, sets-part, has-effects, step-does}
@@ -81,10 +82,6 @@ without-upload-valid A s u v = record {
   room = omega (arith, v .room, held-abort s u);
 }
 
-initiate-room : (A : ℕ) (s : State) (t : ℕ) (p : Bytes) → held s ≤ A → held (withOpened s t p) ≤ A
-unfolding held
-initiate-room A s t p h = omega (arith, h, total-insert numbers uploadLength (s .N) (newUpload t p) (s .U))
-
 every-change : {K X : Type 0} (P Q : K → X → Type 0) (m : Map K X) → ((k : K) (x : X) → P k x → Q k x) → Every P m → Every Q m
 every-change P Q [] f a = tt
 every-change P Q (e ∷ m) f a = (f (e .0) (e .1) (a .0), every-change P Q m f (a .1))
@@ -92,7 +89,7 @@ every-change P Q (e ∷ m) f a = (f (e .0) (e .1) (a .0), every-change P Q m f (
 upload-later : (N : ℕ) (m : Map ℕ Upload) → Every (UploadOk N) m → Every (UploadOk (N + 1)) m
 upload-later N m a =
     every-change (UploadOk N) (UploadOk (N + 1)) m
-    (λ k x o. record { low = o .low; high = let l = o .high in omega arith; path = o .path; stamp = o .stamp; sorted = o .sorted; each = o .each }) a
+    (λ k x o. record { low = o .low; high = let l = o .high in omega arith; path = o .path; stamp = o .stamp; pairs = o .pairs; sorted = o .sorted; each = o .each }) a
 
 pub part-ok : (N u n : ℕ) (x : Upload) (d : Bytes) → requestPartOk n ≡ true → UploadOk N u x → UploadOk N u (withPart x n (newPart d))
 part-ok N u n x d h o = record {
@@ -100,25 +97,26 @@ part-ok N u n x d h o = record {
   high = o .high;
   path = o .path;
   stamp = o .stamp;
+  pairs = o .pairs;
   sorted = ascending-insert numbers n _ (x .parts) (o .sorted);
   each = every-insert numbers PartOk n _ (x .parts) (record { number = part-stored n h; digest = length-md5 d }) (o .each);
 }
 
-opened-valid : (A : ℕ) (s : State) (t : ℕ) (p : Bytes) → stampOk t && newPathOk p ≡ true → counted (withOpened s t p) ≡ true →
-    leb (s .N) lastUploadNumber ≡ true → Valid A s → Valid A (withOpened s t p)
-opened-valid A s t p h c l v = let b = both _ _ h in let q = counts _ c in record {
+opened-valid : (A : ℕ) (s : State) (t : ℕ) (p : Bytes) (m : Map Bytes Bytes) → stampOk t && newPathOk p ≡ true → keptOk m ≡ true →
+    counted (withOpened s t p m) ≡ true → leb (held (withOpened s t p m)) A ≡ true → leb (s .N) lastUploadNumber ≡ true → Valid A s → Valid A (withOpened s t p m)
+opened-valid A s t p m h k c r l v = let b = both _ _ h in let q = counts _ c in record {
   objects = v .objects;
   object = v .object;
   uploads = ascending-insert numbers (s .N) _ (s .U) (v .uploads);
   upload = every-insert numbers (UploadOk (s .N + 1)) (s .N) _ (s .U)
-      (record { low = v .first; high = omega arith; path = new-stored p (b .1); stamp = b .0; sorted = tt; each = tt })
+      (record { low = v .first; high = omega arith; path = new-stored p (b .1); stamp = b .0; pairs = k; sorted = tt; each = tt })
       (upload-later (s .N) (s .U) (v .upload));
   first = let f = v .first in omega arith;
   last = let m = leb-true (s .N) lastUploadNumber l in omega arith;
   paths = q .paths;
   opens = q .opens;
   parts = q .parts;
-  room = initiate-room A s t p (v .room);
+  room = leb-true _ _ r;
 }
 
 sent-valid : (A : ℕ) (s : State) (u : ℕ) (x : Upload) (n : ℕ) (d : Bytes) → requestPartOk n ≡ true → lookup byNumber u (s .U) ≡ some x →
@@ -144,7 +142,7 @@ effects-valid v (removes p more) w = effects-valid v more (without-object-valid 
 effects-valid v (closes u x e more) w = effects-valid v more (without-upload-valid _ _ u w)
 
 does-valid : {A : ℕ} {s s′ : State} {k : Kind} {r : Answer} → Valid A s → Does A s k r s′ → Valid A s′
-does-valid v (opens-upload t p h c l) = opened-valid _ _ t p h c l v
+does-valid v (opens-upload t p m h k c r l) = opened-valid _ _ t p m h k c r l v
 does-valid v (sets-part u x n d h e c r) = sent-valid _ _ u x n d h e c r v
 does-valid v (has-effects q w more) = effects-valid v more v
 

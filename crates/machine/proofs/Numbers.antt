@@ -22,7 +22,7 @@ effects-number (closes u x e more) = effects-number more
 
 module _ (A : ℕ) (s : State) where
   does-kept : {k : Kind} {r : Answer} {s′ : State} → Does A s k r s′ → s .N ≤ s′ .N
-  does-kept (opens-upload t p h c l) = omega arith
+  does-kept (opens-upload t p m h k c r l) = omega arith
   does-kept (sets-part u x n d h e c r) = omega arith
   does-kept (has-effects q w more) = omega (arith, effects-number more)
 
@@ -31,7 +31,7 @@ module _ (A : ℕ) (s : State) where
 
   -- an accepted call answers no number, or answers N and adds 1 to it
   does-answered : (n : ℕ) {k : Kind} {r : Answer} {s′ : State} → Does A s k r s′ → r ≡ number n → (n ≡ s .N) × (s′ .N ≡ s .N + 1)
-  does-answered n (opens-upload t p h c l) e = ((cc), refl)
+  does-answered n (opens-upload t p m h k c r l) e = ((cc), refl)
   does-answered n (sets-part u x m d h i c r) e = absurd (let z : _≡_ {A = ℕ} 0 1 = cc in omega arith)
   does-answered n (has-effects q w more) e = absurd (false≢true (sym (w n) ∙ ap (answers n) e ∙ eq-eqb n n refl))
 

@@ -9,7 +9,7 @@ use lib.ListN.{length, take, drop}
 use Rattle.machine.specs.Map.{Map}
 use Rattle.machine.specs.Names.{Bytes}
 use Rattle.machine.specs.State.{Object, Upload, State, withU, withoutObject}
-use Rattle.machine.specs.Calls.{NamePlace, nothing, badRequest, notFound, Outcome, accept, _else_then_, given}
+use Rattle.machine.specs.Calls.{NamePlace, nothing, noBuffers, badRequest, notFound, Outcome, accept, _else_then_, given}
 use Rattle.machine.specs.Steps.{deleteAt, deletePlace, placeResults, afterPlaces, replyOf, after}
 use Rattle.machine.proofs.Outcome.{Then, then-accept, then-else, then-given}
 
@@ -39,23 +39,23 @@ after-more s names [] p = refl
 after-more s names (q ∷ ps) p = after-more (after s (deletePlace s names q)) names ps p
 
 pub results-more : (s : State) (names : Bytes) (ps : List NamePlace) (p : NamePlace) →
-    placeResults s names (ps ++ p ∷ []) ≡ placeResults s names ps ++ replyOf [] (deletePlace (afterPlaces s names ps) names p) .result ∷ []
+    placeResults s names (ps ++ p ∷ []) ≡ placeResults s names ps ++ replyOf noBuffers (deletePlace (afterPlaces s names ps) names p) .result ∷ []
 results-more s names [] p = refl
 results-more s names (q ∷ ps) p =
-    ap (λ (l : Bytes). replyOf [] (deletePlace s names q) .result ∷ l) (results-more (after s (deletePlace s names q)) names ps p)
+    ap (λ (l : Bytes). replyOf noBuffers (deletePlace s names q) .result ∷ l) (results-more (after s (deletePlace s names q)) names ps p)
 
 -- With other uploads ---------------------------------------------------------------------------------------------------
 
 -- the same result, and the state after with those uploads
 pub record SameBut (m : Map ℕ Upload) (s : State) (o o′ : Outcome) : Type 0 where
-  pub result : replyOf [] o′ .result ≡ replyOf [] o .result
+  pub result : replyOf noBuffers o′ .result ≡ replyOf noBuffers o .result
   pub state : after (withU s m) o′ ≡ withU (after s o) m
   pub uploads : after s o .U ≡ s .U
 
 module _ (m : Map ℕ Upload) (s : State) (names : Bytes) (p : NamePlace) where
   -- the checks of a place, one after the other
   checked : State → (inside ok : Bool) → Option Object → Outcome
-  checked t inside ok x = inside else badRequest then ok else badRequest then given x notFound λ _. accept nothing [] (withoutObject t (placed names p))
+  checked t inside ok x = inside else badRequest then ok else badRequest then given x notFound λ _. accept nothing noBuffers (withoutObject t (placed names p))
 
   same-checked : (inside ok : Bool) (x : Option Object) → SameBut m s (checked s inside ok x) (checked (withU s m) inside ok x)
   unfolding checked _else_then_ given

@@ -8,7 +8,7 @@ use lib.ListN.{take, length-take, length-map}
 use Rattle.order.proofs.OrderLaws.{numbers}
 use Rattle.machine.specs.Map.{Map, byNumber, Ascending}
 use Rattle.machine.specs.State.{Upload, State, fresh, withoutUpload}
-use Rattle.machine.specs.Calls.{Call, SWEEP, nothing, badRequest, Answer, accept, Outcome, _else_then_}
+use Rattle.machine.specs.Calls.{Call, SWEEP, nothing, noBuffers, badRequest, Answer, accept, Outcome, _else_then_}
 use Rattle.machine.specs.Steps.{abortAt, due, toSweep, afterAborts, act, replyOf, after}
 use Rattle.machine.specs.Lists.{trace, final}
 use Rattle.machine.specs.Demand3.{accepted}
@@ -38,10 +38,10 @@ module _ (A : ℕ) where
 
 -- the call's check: accepted, it leaves s′; refused, it changes nothing
 checked : (s s′ : State) (x : Answer) (ok : Bool) →
-    let o : Outcome = ok else badRequest then accept x [] s′ in
-    (accepted (replyOf [] o) ≡ true → (after s o ≡ s′) × (replyOf [] o ≡ record { result = 0; answer = x; buffer = [] }))
+    let o : Outcome = ok else badRequest then accept x noBuffers s′ in
+    (accepted (replyOf noBuffers o) ≡ true → (after s o ≡ s′) × (replyOf noBuffers o ≡ record { result = 0; answer = x; buffers = noBuffers }))
     × (s′ .O ≡ s .O → after s o .O ≡ s .O)
-    × (accepted (replyOf [] o) ≡ false → (after s o ≡ s) × (replyOf [] o ≡ record { result = 2; answer = nothing; buffer = [] }))
+    × (accepted (replyOf noBuffers o) ≡ false → (after s o ≡ s) × (replyOf noBuffers o ≡ record { result = 2; answer = nothing; buffers = noBuffers }))
 unfolding _else_then_
 checked s s′ x true = (λ _. (refl, refl), λ e. e, λ h. absurd (false≢true (sym h)))
 checked s s′ x false = (λ h. absurd (false≢true h), λ _. refl, λ _. (refl, refl))

@@ -11,7 +11,7 @@ use lib.ListN.{take}
 use Rattle.order.proofs.OrderLaws.{numbers}
 use Rattle.machine.specs.Map.{Map, byNumber, lookup, remove, Ascending}
 use Rattle.machine.specs.State.{Upload, State, withU, withoutUpload}
-use Rattle.machine.specs.Calls.{nothing, badRequest, accept, given}
+use Rattle.machine.specs.Calls.{nothing, noBuffers, badRequest, accept, given}
 use Rattle.machine.specs.Steps.{abortAt, due, toSweep, afterAborts, after}
 use Rattle.machine.specs.Fits.{member}
 use Rattle.machine.proofs.MapLaws.{lookup-remove, lookup-remove-other, remove-absent, ascending-remove}
@@ -22,7 +22,7 @@ pub abort-leaves : (s : State) (u : ℕ) → after s (abortAt s u) ≡ withoutUp
 unfolding abortAt given
 abort-leaves s u = go (lookup byNumber u (s .U)) refl
   where
-    go : (o : Option Upload) → lookup byNumber u (s .U) ≡ o → after s (given o badRequest λ x. accept nothing [] (withoutUpload s u)) ≡ withoutUpload s u
+    go : (o : Option Upload) → lookup byNumber u (s .U) ≡ o → after s (given o badRequest λ x. accept nothing noBuffers (withoutUpload s u)) ≡ withoutUpload s u
     go none e = ap (withU s) (sym (remove-absent numbers u (s .U) e))
     go (some x) e = refl
 
@@ -32,7 +32,7 @@ aborts-objects s [] = refl
 aborts-objects s (u ∷ us) = aborts-objects (after s (abortAt s u)) us ∙ ap (λ (z : State). z .O) (abort-leaves s u)
 
 -- an open upload's ABORT is accepted
-pub abort-accepted : (s : State) (u : ℕ) (x : Upload) → lookup byNumber u (s .U) ≡ some x → abortAt s u ≡ accept nothing [] (withoutUpload s u)
+pub abort-accepted : (s : State) (u : ℕ) (x : Upload) → lookup byNumber u (s .U) ≡ some x → abortAt s u ≡ accept nothing noBuffers (withoutUpload s u)
 unfolding abortAt given
 abort-accepted s u x e = rw e
 

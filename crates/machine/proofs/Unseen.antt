@@ -5,22 +5,21 @@ use Prim.Native.Nat.{ℕ}
 use mathlib.Core.Path.{_≡_, refl, sym, ap₂, _∙_}
 use mathlib.Core.Bool.{Bool, true, false, cond, false≢true}
 use mathlib.Core.List.{List, [], _∷_}
-use Rattle.machine.specs.Names.{Bytes}
 use Rattle.machine.specs.State.{State, fresh}
-use Rattle.machine.specs.Calls.{Call, Reply, Outcome, refuse, accept, lent}
+use Rattle.machine.specs.Calls.{Call, Buffers, Reply, Outcome, refuse, accept, lent}
 use Rattle.machine.specs.Steps.{act, replyOf, after, reply, next}
 use Rattle.machine.specs.Lists.{Trace, trace}
 use Rattle.machine.specs.Demand3.{Kind, kind, looks, initiates, sends, commits, other, accepted, partOf, commitOf, isLook, without, NeverCommitted, NoCommitAccepted, NeverFull, seen, PartsUnseen, PartsUnseenUnlessCommitted}
 use Rattle.machine.proofs.Alike.{Like, like-self, like-chain, Went, step-went, part-went}
 
 -- A refused COMMIT of the upload changes neither state
-refused-same : (s : State) (b : Bytes) (o : Outcome) → accepted (replyOf b o) ≡ false → after s o ≡ s
+refused-same : (s : State) (b : Buffers) (o : Outcome) → accepted (replyOf b o) ≡ false → after s o ≡ s
 refused-same s b (refuse n) h = refl
 refused-same s b (accept a out s′) h = absurd (false≢true (sym h))
 
 commit-no-look : (u : ℕ) (k : Kind) → commitOf u k ≡ true → isLook k ≡ true → ⊥
 commit-no-look u looks h l = false≢true h
-commit-no-look u (initiates t p) h l = false≢true h
+commit-no-look u (initiates t p m) h l = false≢true h
 commit-no-look u (sends v n d) h l = false≢true h
 commit-no-look u (commits v) h l = false≢true l
 commit-no-look u other h l = false≢true h

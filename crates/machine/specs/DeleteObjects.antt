@@ -7,7 +7,7 @@ use lib.Dec.{leb}
 use lib.ListN.{length, take, drop}
 use Rattle.machine.specs.Names.{Bytes}
 use Rattle.machine.specs.State.{State, fresh}
-use Rattle.machine.specs.Calls.{Call, DELETE, DELETE-OBJECTS, NamePlace, nothing, Reply}
+use Rattle.machine.specs.Calls.{Call, DELETE, DELETE-OBJECTS, NamePlace, nothing, buffers, Reply}
 use Rattle.machine.specs.Steps.{reply, next}
 use Rattle.machine.specs.Lists.{Trace, trace, final}
 use Rattle.machine.specs.Demand3.{accepted}
@@ -31,10 +31,10 @@ pub record AsDeletes (A : ℕ) (s : State) (names : Bytes) (ps : List NamePlace)
   pub state : accepted (reply A s (DELETE-OBJECTS names ps over results)) ≡ true → next A s (DELETE-OBJECTS names ps over results) ≡ final A s (singleDeletes names ps)
   -- "One result number per place, a byte each, goes into a lent buffer"; bytes past them do not change
   pub replies : accepted (reply A s (DELETE-OBJECTS names ps over results)) ≡ true → reply A s (DELETE-OBJECTS names ps over results)
-      ≡ record { result = 0; answer = nothing; buffer = resultsOf (trace A s (singleDeletes names ps)) ++ drop (length ps) results }
+      ≡ record { result = 0; answer = nothing; buffers = buffers (resultsOf (trace A s (singleDeletes names ps)) ++ drop (length ps) results) [] }
   -- "refused, it changes nothing"
   pub refused : accepted (reply A s (DELETE-OBJECTS names ps over results)) ≡ false →
-      (next A s (DELETE-OBJECTS names ps over results) ≡ s) × (reply A s (DELETE-OBJECTS names ps over results) .buffer ≡ results)
+      (next A s (DELETE-OBJECTS names ps over results) ≡ s) × (reply A s (DELETE-OBJECTS names ps over results) .buffers ≡ buffers results [])
 
 -- "The lists of calls that demand 3 speaks of now include this call": where it is accepted amid a list, its single deletes may stand in its
 -- place.

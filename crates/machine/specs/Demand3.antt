@@ -5,34 +5,35 @@ use mathlib.Core.Bool.{Bool, true, false, _&&_, cond}
 use mathlib.Core.List.{List, [], _∷_, _++_, map}
 use mathlib.Core.Option.{Option, none, some}
 use lib.Dec.{eqb}
-use lib.ListN.{length, drop}
+use lib.ListN.{length}
 use Rattle.order.specs.Order.{byBytes}
-use Rattle.machine.specs.Map.{lookup, also, mapped}
+use Rattle.machine.specs.Map.{Map, lookup, also, mapped}
 use Rattle.machine.specs.Names.{Bytes}
+use Rattle.machine.specs.Pairs.{pairMap, encodePairs}
 use Rattle.machine.specs.Digest.{md5}
 use Rattle.machine.specs.Etags.{joined}
 use Rattle.machine.specs.State.{Object, State, fresh}
-use Rattle.machine.specs.Calls.{Call, PUT, GET, HEAD, DELETE, COPY, LIST, INITIATE, PART, COMMIT, ABORT, UPLOADS, DELETE-OBJECTS, SWEEP, Answer, nothing, metadata, etag, number, counts, swept, Reply}
+use Rattle.machine.specs.Calls.{Call, PUT, GET, HEAD, DELETE, COPY, LIST, INITIATE, PART, COMMIT, ABORT, UPLOADS, DELETE-OBJECTS, SWEEP, Answer, nothing, metadata, etag, number, counts, swept, buffers, Reply}
 use Rattle.machine.specs.Fits.{member, distinct}
-use Rattle.machine.specs.Steps.{about, reply}
+use Rattle.machine.specs.Steps.{about, over, reply}
 use Rattle.machine.specs.Lists.{Trace, trace, final}
 
 -- what a call is to the two claims
 pub data Kind : Type 0 where
   looks : Kind
-  initiates : (stamp : ℕ) (path : Bytes) → Kind
+  initiates : (stamp : ℕ) (path : Bytes) (pairs : Map Bytes Bytes) → Kind
   sends : (upload number : ℕ) (content : Bytes) → Kind
   commits : (upload : ℕ) → Kind
   other : Kind
 
 abbrev pub kind : Call → Kind
-kind (PUT t p d) = other
-kind (GET p b) = looks
-kind (HEAD p) = looks
+kind (PUT t p d ps) = other
+kind (GET p b m) = looks
+kind (HEAD p m) = looks
 kind (DELETE p) = other
 kind (COPY t p q) = other
 kind (LIST prefix suffix b) = looks
-kind (INITIATE t p) = initiates t p
+kind (INITIATE t p ps) = initiates t p (pairMap ps)
 kind (PART u n d) = sends u n d
 kind (COMMIT u ns) = commits u
 kind (ABORT u) = other
@@ -55,7 +56,7 @@ some x or y = some x
 -- what a PART with that upload and part number carries
 abbrev pub carries : (upload number : ℕ) → Kind → Option Bytes
 carries u n looks = none
-carries u n (initiates t p) = none
+carries u n (initiates t p m) = none
 carries u n (sends v m d) = cond (eqb u v && eqb n m) (some d) none
 carries u n (commits v) = none
 carries u n other = none
@@ -77,26 +78,32 @@ lastParts u t (n ∷ ns) = also (lastPart u n t) (λ d. mapped (λ (ds : List By
 -- the answer is this upload number
 abbrev pub answers : (upload : ℕ) → Answer → Bool
 answers u nothing = false
-answers u (metadata l c e) = false
+answers u (metadata l c e n k) = false
 answers u (etag e) = false
 answers u (number n) = eqb u n
 answers u (counts r b) = false
 answers u (swept c m) = false
 
--- the stamp and the path of an INITIATE that answers this upload number
-abbrev pub opens : (upload : ℕ) → Answer → Kind → Option (ℕ × Bytes)
+-- what an INITIATE says of its upload
+pub record Start : Type 0 where
+  pub stamp : ℕ
+  pub path : Bytes
+  pub pairs : Map Bytes Bytes
+
+-- the same of one that answers this upload number
+abbrev pub opens : (upload : ℕ) → Answer → Kind → Option Start
 opens u a looks = none
-opens u a (initiates t p) = cond (answers u a) (some (t, p)) none
+opens u a (initiates t p m) = cond (answers u a) (some (record { stamp = t; path = p; pairs = m })) none
 opens u a (sends v m d) = none
 opens u a (commits v) = none
 opens u a other = none
 
 -- the same, if it was accepted
-abbrev pub opened : (upload : ℕ) → Call × Reply → Option (ℕ × Bytes)
+abbrev pub opened : (upload : ℕ) → Call × Reply → Option Start
 opened u e = cond (accepted (e .1)) (opens u (e .1 .answer) (kind (e .0))) none
 
--- the start stamp and the path of an upload: those of the accepted INITIATE that answered its number
-abbrev pub startOf : (upload : ℕ) → Trace → Option (ℕ × Bytes)
+-- the start stamp, the path and the pairs of an upload: those of the accepted INITIATE that answered its number
+abbrev pub startOf : (upload : ℕ) → Trace → Option Start
 startOf u [] = none
 startOf u (e ∷ t) = startOf u t or opened u e
 
@@ -105,24 +112,28 @@ abbrev pub concat : List Bytes → Bytes
 concat [] = []
 concat (d ∷ ds) = d ++ concat ds
 
--- the object that COMMIT makes of the parts' bytes, in listed order
-abbrev pub joinedFrom : (stamp : ℕ) → List Bytes → Object
-joinedFrom t ds = record { content = concat ds; created = t; etag = joined (md5 (concat (map md5 ds))) (length ds) }
+-- the object that COMMIT makes of the parts' bytes, in listed order; E6: COMMIT carries the upload's pairs
+abbrev pub joinedFrom : Start → List Bytes → Object
+joinedFrom x ds = record { content = concat ds; created = x .stamp; etag = joined (md5 (concat (map md5 ds))) (length ds); pairs = x .pairs }
 
 -- What an accepted COMMIT after these calls and replies leaves in a state. Demand 3: at the upload's path, "joined in listed order, for each
 -- part the bytes of the last accepted PART before it with that upload and part number"; and so a GET of that path answers.
 pub record Leaves (A : ℕ) (before : Trace) (u : ℕ) (ns : List ℕ) (s : State) : Type 0 where
-  pub stamp : ℕ
-  pub path : Bytes
+  pub start : Start
   pub parts : List Bytes
-  pub of-upload : startOf u before ≡ some (stamp, path)
+  pub of-upload : startOf u before ≡ some start
   pub sent : lastParts u before ns ≡ some parts
   -- "the list must name every part of the upload exactly one time"
   pub once : distinct ns ≡ true
   pub all : (n : ℕ) (content : Bytes) → lastPart u n before ≡ some content → member n ns ≡ true
-  pub there : lookup byBytes path (s .O) ≡ some (joinedFrom stamp parts)
-  pub read : (buffer : Bytes) → length (concat parts) ≤ length buffer →
-      reply A s (GET path buffer) ≡ record { result = 0; answer = about (joinedFrom stamp parts); buffer = concat parts ++ drop (length (concat parts)) buffer }
+  pub there : lookup byBytes (start .path) (s .O) ≡ some (joinedFrom start parts)
+  pub read : (buffer pairsBuffer : Bytes) → length (concat parts) ≤ length buffer → length (encodePairs (start .pairs)) ≤ length pairsBuffer →
+      reply A s (GET (start .path) buffer pairsBuffer)
+      ≡ record {
+        result = 0;
+        answer = about (joinedFrom start parts);
+        buffers = buffers (over (concat parts) buffer) (over (encodePairs (start .pairs)) pairsBuffer);
+      }
 
 -- the calls of a trace
 abbrev pub calls : Trace → List Call
@@ -139,21 +150,21 @@ CommitsJoin A cs =
 -- "PART and COMMIT name the upload that is their first argument, accepted or not."
 abbrev pub partOf : (upload : ℕ) → Kind → Bool
 partOf u looks = false
-partOf u (initiates t p) = false
+partOf u (initiates t p m) = false
 partOf u (sends v n d) = eqb u v
 partOf u (commits v) = false
 partOf u other = false
 
 abbrev pub commitOf : (upload : ℕ) → Kind → Bool
 commitOf u looks = false
-commitOf u (initiates t p) = false
+commitOf u (initiates t p m) = false
 commitOf u (sends v n d) = false
 commitOf u (commits v) = eqb u v
 commitOf u other = false
 
 abbrev pub isLook : Kind → Bool
 isLook looks = true
-isLook (initiates t p) = false
+isLook (initiates t p m) = false
 isLook (sends v n d) = false
 isLook (commits v) = false
 isLook other = false

@@ -18,5 +18,6 @@ pub mod Sweep
 pub mod Marked
 pub mod Unmarked
 pub mod Cases
+pub mod PairSteps
 pub mod Swaps
 pub mod SwapCases

@@ -7,23 +7,26 @@ use lib.ListN.{length}
 use Rattle.order.specs.Order.{byBytes}
 use Rattle.machine.specs.Map.{Map, byNumber, insert, remove, total}
 use Rattle.machine.specs.Names.{Bytes}
+use Rattle.machine.specs.Pairs.{pairsHeld}
 use Rattle.machine.specs.Etags.{Etag}
 
--- "O maps paths to (data, created, etag)"
+-- "O maps paths to (data, created, etag)"; E6: and pairs of key and value
 pub record Object : Type 0 where
   pub content : Bytes
   pub created : ℕ
   pub etag : Etag
+  pub pairs : Map Bytes Bytes
 
 -- "parts maps part numbers to (data, plain etag)"
 pub record Part : Type 0 where
   pub content : Bytes
   pub digest : Bytes
 
--- "U maps upload numbers to (path, started, parts)"
+-- "U maps upload numbers to (path, started, parts)"; E6: and pairs
 pub record Upload : Type 0 where
   pub path : Bytes
   pub started : ℕ
+  pub pairs : Map Bytes Bytes
   pub parts : Map ℕ Part
 
 -- "N is the number that the coming upload gets"
@@ -61,23 +64,24 @@ withoutUpload s u = withU s (remove byNumber u (s .U))
 abbrev pub withNext : State → State
 withNext s = record { O = s .O; U = s .U; N = s .N + 1 }
 
--- the upload with a part set; "path, start and other parts remain"
+-- the upload with a part set; "path, start and other parts remain", E6: and pairs
 abbrev pub withPart : Upload → ℕ → Part → Upload
-withPart x n y = record { path = x .path; started = x .started; parts = insert byNumber n y (x .parts) }
+withPart x n y = record { path = x .path; started = x .started; pairs = x .pairs; parts = insert byNumber n y (x .parts) }
 
+-- E6: "Key and value bytes count as held."
 abbrev pub objectLength : Object → ℕ
-objectLength x = length (x .content)
+objectLength x = pairsHeld (x .pairs) + length (x .content)
 
 abbrev pub partLength : Part → ℕ
 partLength y = length (y .content)
 
 abbrev pub uploadLength : Upload → ℕ
-uploadLength x = total partLength (x .parts)
+uploadLength x = pairsHeld (x .pairs) + total partLength (x .parts)
 
 abbrev pub partsIn : Upload → ℕ
 partsIn x = length (x .parts)
 
--- ""Held" is the sum of the lengths of all data in O and in all parts of U"
+-- ""Held" is the sum of the lengths of all data in O and in all parts of U"; E6: and of the pairs of both
 unfoldable pub held : State → ℕ
 held s = total objectLength (s .O) + total uploadLength (s .U)
 

@@ -14,13 +14,13 @@ use Rattle.machine.specs.Lists.{Trace, trace, final}
 
 -- the path that a call "among PUT, DELETE and COPY" writes: "DELETE writes its path"; no other call changes places
 abbrev pub writes : Call → Option Bytes
-writes (PUT t p d) = some p
-writes (GET p b) = none
-writes (HEAD p) = none
+writes (PUT t p d ps) = some p
+writes (GET p b m) = none
+writes (HEAD p m) = none
 writes (DELETE p) = some p
 writes (COPY t p q) = some q
 writes (LIST prefix suffix b) = none
-writes (INITIATE t p) = none
+writes (INITIATE t p ps) = none
 writes (PART u n d) = none
 writes (COMMIT u ns) = none
 writes (ABORT u) = none
@@ -30,13 +30,13 @@ writes (SWEEP t n) = none
 
 -- the path that such a call reads beside: COPY its source
 abbrev pub reads : Call → Option Bytes
-reads (PUT t p d) = none
-reads (GET p b) = none
-reads (HEAD p) = none
+reads (PUT t p d ps) = none
+reads (GET p b m) = none
+reads (HEAD p m) = none
 reads (DELETE p) = none
 reads (COPY t p q) = some p
 reads (LIST prefix suffix b) = none
-reads (INITIATE t p) = none
+reads (INITIATE t p ps) = none
 reads (PART u n d) = none
 reads (COMMIT u ns) = none
 reads (ABORT u) = none

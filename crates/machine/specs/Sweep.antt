@@ -6,7 +6,7 @@ use mathlib.Core.List.{List, [], _∷_, map}
 use lib.Dec.{ltb}
 use lib.ListN.{length}
 use Rattle.machine.specs.State.{State, fresh}
-use Rattle.machine.specs.Calls.{Call, ABORT, SWEEP, nothing, swept}
+use Rattle.machine.specs.Calls.{Call, ABORT, SWEEP, nothing, swept, noBuffers}
 use Rattle.machine.specs.Steps.{due, toSweep, reply, next}
 use Rattle.machine.specs.Lists.{Trace, trace, final}
 use Rattle.machine.specs.Valid.{Valid}
@@ -28,14 +28,14 @@ pub record AsAborts (A : ℕ) (s : State) (t n : ℕ) : Type 0 where
   pub state : accepted (reply A s (SWEEP t n)) ≡ true → next A s (SWEEP t n) ≡ final A s (singleAborts (toSweep t n (s .U)))
   -- "It answers how many it aborted and whether more are due. The count is the smaller of n and the number due"
   pub replies : accepted (reply A s (SWEEP t n)) ≡ true
-      → reply A s (SWEEP t n) ≡ record { result = 0; answer = swept (min n (length (due t (s .U)))) (ltb n (length (due t (s .U)))); buffer = [] }
+      → reply A s (SWEEP t n) ≡ record { result = 0; answer = swept (min n (length (due t (s .U)))) (ltb n (length (due t (s .U)))); buffers = noBuffers }
   -- it aborts so many: there are so many single ABORTs, and in a valid state each is accepted
   pub count : length (toSweep t n (s .U)) ≡ min n (length (due t (s .U)))
   pub each-accepted : Valid A s → AllAccepted (trace A s (singleAborts (toSweep t n (s .U))))
   -- "a reader sees no object change"
   pub objects : next A s (SWEEP t n) .O ≡ s .O
   -- "A stamp of 0 is a bad request": refused, it changes nothing
-  pub refused : accepted (reply A s (SWEEP t n)) ≡ false → (next A s (SWEEP t n) ≡ s) × (reply A s (SWEEP t n) ≡ record { result = 2; answer = nothing; buffer = [] })
+  pub refused : accepted (reply A s (SWEEP t n)) ≡ false → (next A s (SWEEP t n) ≡ s) × (reply A s (SWEEP t n) ≡ record { result = 2; answer = nothing; buffers = noBuffers })
 
 -- "also amid any list of calls": where it is accepted, its single ABORTs may stand in its place
 abbrev pub SweptAmidAnyList : (A : ℕ) (before : List Call) (t n : ℕ) (later : List Call) → Type 0

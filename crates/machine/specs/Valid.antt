@@ -6,6 +6,7 @@ use lib.ListN.{length}
 use Rattle.order.specs.Order.{byBytes}
 use Rattle.machine.specs.Map.{byNumber, Ascending, Every, total}
 use Rattle.machine.specs.Names.{Bytes, storedPathOk, stampOk, storedPartOk}
+use Rattle.machine.specs.Pairs.{keptOk}
 use Rattle.machine.specs.Etags.{Etag, absent, plain, joined}
 use Rattle.machine.specs.State.{Object, Part, Upload, State, held, partsIn}
 
@@ -19,6 +20,7 @@ pub record ObjectOk (p : Bytes) (x : Object) : Type 0 where
   pub path : storedPathOk p ≡ true
   pub stamp : stampOk (x .created) ≡ true
   pub etag : EtagOk (x .etag)
+  pub pairs : keptOk (x .pairs) ≡ true
 
 pub record PartOk (n : ℕ) (x : Part) : Type 0 where
   pub number : storedPartOk n ≡ true
@@ -30,6 +32,7 @@ pub record UploadOk (N u : ℕ) (x : Upload) : Type 0 where
   pub high : u < N
   pub path : storedPathOk (x .path) ≡ true
   pub stamp : stampOk (x .started) ≡ true
+  pub pairs : keptOk (x .pairs) ≡ true
   pub sorted : Ascending byNumber (x .parts)
   pub each : Every PartOk (x .parts)
 

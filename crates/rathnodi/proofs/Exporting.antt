@@ -17,7 +17,7 @@ use Rattle.types.specs.declared.ListAnswer.the-variants as list
 use Rattle.types.specs.declared.SweepAnswer.{SweepAnswer}
 use Rattle.types.specs.declared.SweepAnswer.the-variants as sweep
 use Rattle.machine.specs.Names.{Bytes}
-use Rattle.machine.specs.Calls.{Call, Reply, lent}
+use Rattle.machine.specs.Calls.{Call, Buffers, buffers, noBuffers, Reply, lent}
 use Rattle.contract.specs.Answers.{doneReply, resultsReply, getReply, partReply, initiateReply, listReply, sweepReply}
 use Rattle.contract.specs.Made.{Memory, meantReply, Made}
 use Rattle.reply.specs.Reply.{replyOver}
@@ -30,7 +30,7 @@ numbered-made k m m′ (done.Refused x) n made e = rw e made
 numbered-made k m m′ done.Done n made e = rw e made
 
 -- a call that answers its number and fills a result buffer
-pub results-made : (k : Call) (m m′ : Memory) (a : DoneAnswer) (n : ℕ) (b : Bytes) → Made k m (resultsReply a b) m′ → n ≡ doneReply a .result → Made k m (numberedWith n b) m′
+pub results-made : (k : Call) (m m′ : Memory) (a : DoneAnswer) (n : ℕ) (b : Bytes) → Made k m (resultsReply a b) m′ → n ≡ doneReply a .result → Made k m (numberedWith n (buffers b [])) m′
 results-made k m m′ (done.Refused x) n b made e = rw e made
 results-made k m m′ done.Done n b made e = rw e made
 
@@ -48,35 +48,35 @@ another-length k m o h =
 
 -- a reply slice of 48 bytes
 module _ (k : Call) (tells : Telling k) (m m′ : Memory) (o o′ : Bytes) (n : ℕ) (fits : length o ≡ 48) where
-  with-reply : (r : Reply) → Made k m r m′ → n ≡ r .result → o′ ≡ replyOver (r .answer) o → Exported k m o n (r .buffer) o′ m′
+  with-reply : (r : Reply) → Made k m r m′ → n ≡ r .result → o′ ≡ replyOver (r .answer) o → Exported k m o n (r .buffers) o′ m′
   unfolding answerWith
   with-reply r made n-is o-is =
       let is : answerWith k m o ≡ meantReply k m = rw (eq-eqb _ _ fits) in
       let same : r ≡ answerWith k m o = made .answers ∙ sym is in
       record {
         number = n-is ∙ ap (λ (x : Reply). x .result) same;
-        buffer = ap (λ (x : Reply). x .buffer) same;
+        buffer = ap (λ (x : Reply). x .buffers) same;
         reply = o-is ∙ ap (λ (x : Reply). replyOver (x .answer) o) (made .answers) ∙ meant-over k tells m o ∙ ap (λ (x : Reply). replyAfter x o) (sym is);
         made = λ _. rw (made .answers) at made;
         kept = λ h. absurd (h fits);
       }
 
-  pub got : (a : GetAnswer) (b : Bytes) → Made k m (getReply a b) m′ → n ≡ getReply a [] .result → o′ ≡ replyOver (getReply a [] .answer) o → Exported k m o n b o′ m′
+  pub got : (a : GetAnswer) (b : Buffers) → Made k m (getReply a b) m′ → n ≡ getReply a noBuffers .result → o′ ≡ replyOver (getReply a noBuffers .answer) o → Exported k m o n b o′ m′
   got (get.Refused x) b made n-is o-is = with-reply _ made n-is o-is
   got (get.Found x) b made n-is o-is = with-reply _ made n-is o-is
 
-  pub listed : (a : ListAnswer) (b : Bytes) → Made k m (listReply a b) m′ → n ≡ listReply a [] .result → o′ ≡ replyOver (listReply a [] .answer) o → Exported k m o n b o′ m′
+  pub listed : (a : ListAnswer) (b : Bytes) → Made k m (listReply a b) m′ → n ≡ listReply a [] .result → o′ ≡ replyOver (listReply a [] .answer) o → Exported k m o n (buffers b []) o′ m′
   listed (list.Refused x) b made n-is o-is = with-reply _ made n-is o-is
   listed (list.Written x) b made n-is o-is = with-reply _ made n-is o-is
 
-  pub initiated : (a : InitiateAnswer) → Made k m (initiateReply a) m′ → n ≡ initiateReply a .result → o′ ≡ replyOver (initiateReply a .answer) o → Exported k m o n [] o′ m′
+  pub initiated : (a : InitiateAnswer) → Made k m (initiateReply a) m′ → n ≡ initiateReply a .result → o′ ≡ replyOver (initiateReply a .answer) o → Exported k m o n noBuffers o′ m′
   initiated (initiate.Refused x) made n-is o-is = with-reply _ made n-is o-is
   initiated (initiate.Opened x) made n-is o-is = with-reply _ made n-is o-is
 
-  pub part-stored : (a : PartAnswer) → Made k m (partReply a) m′ → n ≡ partReply a .result → o′ ≡ replyOver (partReply a .answer) o → Exported k m o n [] o′ m′
+  pub part-stored : (a : PartAnswer) → Made k m (partReply a) m′ → n ≡ partReply a .result → o′ ≡ replyOver (partReply a .answer) o → Exported k m o n noBuffers o′ m′
   part-stored (part.Refused x) made n-is o-is = with-reply _ made n-is o-is
   part-stored (part.Stored x) made n-is o-is = with-reply _ made n-is o-is
 
-  pub swept-out : (a : SweepAnswer) → Made k m (sweepReply a) m′ → n ≡ sweepReply a .result → o′ ≡ replyOver (sweepReply a .answer) o → Exported k m o n [] o′ m′
+  pub swept-out : (a : SweepAnswer) → Made k m (sweepReply a) m′ → n ≡ sweepReply a .result → o′ ≡ replyOver (sweepReply a .answer) o → Exported k m o n noBuffers o′ m′
   swept-out (sweep.Refused x) made n-is o-is = with-reply _ made n-is o-is
   swept-out (sweep.Swept x) made n-is o-is = with-reply _ made n-is o-is

@@ -2,12 +2,13 @@
 use crate::REPLY_LEN;
 use types::Stamp;
 ghost use mathlib.Core.List.{[]};
-ghost use Rattle.machine.specs.Calls.{PUT, GET, HEAD, DELETE, COPY, LIST, DELETE-OBJECTS};
+ghost use Rattle.machine.specs.Calls.{PUT, GET, HEAD, DELETE, COPY, LIST, DELETE-OBJECTS, buffers};
+ghost use Rattle.machine.specs.Pairs.{pairList};
 ghost use Rattle.contract.specs.Answers.{placesIn, leftOver};
 ghost use Rattle.contract.specs.Made.{memory, Made};
 ghost use Rattle.rathnodi.specs.Exported.{numbered, numberedWith, Exported};
 
-// PUT: the object at path becomes the content, with this stamp.
+// PUT: the object at path becomes the content, with this stamp and these pairs.
 #[no_mangle]
 pub extern "C" fn rathnodi_put(
     tables: &mut [u8],
@@ -15,55 +16,63 @@ pub extern "C" fn rathnodi_put(
     stamp: u64,
     path: &[u8],
     content: &[u8],
+    pairs: &[u8],
 ) -> u32
-    ensures { λ r. ⌜ Made (PUT stamp (now (path .entry)) (now (content .entry)))
+    ensures { λ r. ⌜ Made (PUT stamp (now (path .entry)) (now (content .entry)) (pairList (now (pairs .entry))))
         (memory (now (tables .entry)) (now (arena .entry)))
         (numbered r)
         (memory (now (tables .exit)) (now (arena .exit))) ⌝ }
 {
-    let put = store::put(tables, arena, Stamp(stamp), path, content);
+    let put = store::put(tables, arena, Stamp(stamp), path, content, pairs);
     reply::done(put)
 }
 
-// GET: the object's data to the front of the answer buffer, and its metadata to the reply.
+// GET: the object's data to the front of the answer buffer, its pairs to that of the second one, and its metadata to the reply.
 #[no_mangle]
 pub extern "C" fn rathnodi_get(
     tables: &[u8],
     arena: &[u8],
     path: &[u8],
     answer: &mut [u8],
+    pairs: &mut [u8],
     reply: &mut [u8],
 ) -> u32
-    ensures { λ r. ⌜ Exported (GET (now (path .entry)) (now (answer .entry)))
+    ensures { λ r. ⌜ Exported (GET (now (path .entry)) (now (answer .entry)) (now (pairs .entry)))
         (memory (now (tables .entry)) (now (arena .entry)))
         (now (reply .entry))
         r
-        (now (answer .exit))
+        (buffers (now (answer .exit)) (now (pairs .exit)))
         (now (reply .exit))
         (memory (now (tables .entry)) (now (arena .entry))) ⌝ }
 {
     if reply.len() != REPLY_LEN {
         return 1;
     }
-    let got = store::get(tables, arena, path, answer);
+    let got = store::get(tables, arena, path, answer, pairs);
     reply::found(got, reply)
 }
 
-// HEAD: the object's metadata to the reply.
+// HEAD: the object's pairs to the front of the second answer buffer, and its metadata to the reply.
 #[no_mangle]
-pub extern "C" fn rathnodi_head(tables: &[u8], arena: &[u8], path: &[u8], reply: &mut [u8]) -> u32
-    ensures { λ r. ⌜ Exported (HEAD (now (path .entry)))
+pub extern "C" fn rathnodi_head(
+    tables: &[u8],
+    arena: &[u8],
+    path: &[u8],
+    pairs: &mut [u8],
+    reply: &mut [u8],
+) -> u32
+    ensures { λ r. ⌜ Exported (HEAD (now (path .entry)) (now (pairs .entry)))
         (memory (now (tables .entry)) (now (arena .entry)))
         (now (reply .entry))
         r
-        []
+        (buffers [] (now (pairs .exit)))
         (now (reply .exit))
         (memory (now (tables .entry)) (now (arena .entry))) ⌝ }
 {
     if reply.len() != REPLY_LEN {
         return 1;
     }
-    let head = store::head(tables, arena, path);
+    let head = store::head(tables, arena, path, pairs);
     reply::found(head, reply)
 }
 
@@ -93,7 +102,7 @@ pub extern "C" fn rathnodi_delete_objects(
         (DELETE-OBJECTS (now (names .entry)) (placesIn (now (places .entry))) (leftOver (now (places .entry)))
         (now (results .entry)))
         (memory (now (tables .entry)) (now (arena .entry)))
-        (numberedWith r (now (results .exit)))
+        (numberedWith r (buffers (now (results .exit)) []))
         (memory (now (tables .exit)) (now (arena .exit))) ⌝ }
 {
     let answer = store::delete_packed(tables, arena, names, places, results);
@@ -132,7 +141,7 @@ pub extern "C" fn rathnodi_list(
         (memory (now (tables .entry)) (now (arena .entry)))
         (now (reply .entry))
         r
-        (now (answer .exit))
+        (buffers (now (answer .exit)) [])
         (now (reply .exit))
         (memory (now (tables .entry)) (now (arena .entry))) ⌝ }
 {

@@ -4,32 +4,34 @@ use types::PartNumber;
 use types::Stamp;
 use types::UploadNumber;
 ghost use mathlib.Core.List.{[]};
-ghost use Rattle.machine.specs.Calls.{INITIATE, PART, COMMIT, ABORT, UPLOADS, SWEEP};
+ghost use Rattle.machine.specs.Calls.{INITIATE, PART, COMMIT, ABORT, UPLOADS, SWEEP, buffers, noBuffers};
+ghost use Rattle.machine.specs.Pairs.{pairList};
 ghost use Rattle.contract.specs.Answers.{partList};
 ghost use Rattle.contract.specs.Made.{memory, Made};
 ghost use Rattle.rathnodi.specs.Exported.{numbered, Exported};
 
-// INITIATE: an upload to path is opened, its number to the reply.
+// INITIATE: an upload to path is opened with these pairs, its number to the reply.
 #[no_mangle]
 pub extern "C" fn rathnodi_initiate(
     tables: &mut [u8],
     arena: &mut [u8],
     stamp: u64,
     path: &[u8],
+    pairs: &[u8],
     reply: &mut [u8],
 ) -> u32
-    ensures { λ r. ⌜ Exported (INITIATE stamp (now (path .entry)))
+    ensures { λ r. ⌜ Exported (INITIATE stamp (now (path .entry)) (pairList (now (pairs .entry))))
         (memory (now (tables .entry)) (now (arena .entry)))
         (now (reply .entry))
         r
-        []
+        noBuffers
         (now (reply .exit))
         (memory (now (tables .exit)) (now (arena .exit))) ⌝ }
 {
     if reply.len() != REPLY_LEN {
         return 1;
     }
-    let opened = store::initiate(tables, arena, Stamp(stamp), path);
+    let opened = store::initiate(tables, arena, Stamp(stamp), path, pairs);
     reply::opened(opened, reply)
 }
 
@@ -47,7 +49,7 @@ pub extern "C" fn rathnodi_part(
         (memory (now (tables .entry)) (now (arena .entry)))
         (now (reply .entry))
         r
-        []
+        noBuffers
         (now (reply .exit))
         (memory (now (tables .exit)) (now (arena .exit))) ⌝ }
 {
@@ -107,7 +109,7 @@ pub extern "C" fn rathnodi_sweep(
         (memory (now (tables .entry)) (now (arena .entry)))
         (now (reply .entry))
         r
-        []
+        noBuffers
         (now (reply .exit))
         (memory (now (tables .exit)) (now (arena .exit))) ⌝ }
 {
@@ -131,7 +133,7 @@ pub extern "C" fn rathnodi_uploads(
         (memory (now (tables .entry)) (now (arena .entry)))
         (now (reply .entry))
         r
-        (now (answer .exit))
+        (buffers (now (answer .exit)) [])
         (now (reply .exit))
         (memory (now (tables .entry)) (now (arena .entry))) ⌝ }
 {

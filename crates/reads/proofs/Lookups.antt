@@ -1,11 +1,11 @@
 -- What a path of GET or HEAD names is what the machine finds at it. Assumes nothing.
-use Prim.Native.Nat.{ℕ, _+_, _≤_}
+use Prim.Native.Nat.{ℕ}
 use mathlib.Core.Path.{_≡_, refl, sym, ap, ap₂, _∙_}
 use mathlib.Core.Bool.{Bool, true, false, cond}
 use mathlib.Core.List.{List, [], _∷_}
 use mathlib.Core.Option.{Option, none, some}
 use native.Mathlib.Omega.{arith}
-use lib.ListN.{length, drop}
+use lib.ListN.{length, take, drop}
 use Rattle.number.specs.Number.{AreBytes}
 use Rattle.order.specs.Order.{byBytes}
 use Rattle.order.proofs.OrderLaws.{bytes}
@@ -13,12 +13,13 @@ use Rattle.machine.specs.Map.{isSome, lookup}
 use Rattle.machine.specs.Names.{Bytes, requestPathOk}
 use Rattle.machine.specs.Etags.{absent}
 use Rattle.machine.specs.State.{Object, State}
-use Rattle.machine.specs.Calls.{Outcome, badRequest, notFound, given, _else_then_}
+use Rattle.machine.specs.Calls.{Buffers, Outcome, badRequest, notFound, given, _else_then_}
 use Rattle.machine.specs.Steps.{objectAt, replyOf, after}
 use Rattle.machine.specs.Valid.{ObjectOk}
 use Rattle.machine.proofs.MapLaws.{every-lookup}
+use Rattle.stored_pairs.proofs.Blocks.{kept-block}
 use Rattle.row.specs.declared.Head.{Head}
-use Rattle.row.specs.Row.{headAt, rowAt, headLength}
+use Rattle.row.specs.Row.{Row, headAt, rowAt}
 use Rattle.row.proofs.RowLaws.{row-back}
 use Rattle.layout.specs.Memory.{whole, stateOf, objectRow, objectOf, Stands}
 use Rattle.layout.proofs.ObjectLaws.{object-back}
@@ -27,9 +28,10 @@ use Rattle.find.specs.declared.Lookup.{Lookup}
 use Rattle.find.specs.Places.{placeAfter, beforeObject, afterObject, objectPlace}
 use Rattle.find.proofs.RowsAt.{At, row-at}
 use Rattle.find.proofs.Splits.{object-found}
+use Rattle.find.proofs.PairSizes.{row-span, row-lengths}
 use Rattle.contract.specs.Answers.{refused}
 use Rattle.reads.specs.declared.Named.the-variants as named
-use Rattle.reads.specs.Named.{namedIn, storedAt}
+use Rattle.reads.specs.Named.{namedIn, storedAt, Holds}
 
 -- the answers of `look_up` ------------------------------------------------------------------------------------------------
 
@@ -60,7 +62,7 @@ is-object s (c ∷ p) not ok x e f = rw (ok, found-is s (c ∷ p) x e, f) (ap (�
 -- what the machine finds at the path ---------------------------------------------------------------------------------------
 
 -- a refusal
-pub named-refused : (s : State) (p : Bytes) (n : ℕ) (b : Bytes) (k : Object → Outcome) → namedIn s p ≡ named.Refused n → refused n b ≡ replyOf b (objectAt s p k)
+pub named-refused : (s : State) (p : Bytes) (n : ℕ) (b : Buffers) (k : Object → Outcome) → namedIn s p ≡ named.Refused n → refused n b ≡ replyOf b (objectAt s p k)
 unfolding namedIn objectAt _else_then_ given
 named-refused s [] n b k e = let z : _≡_ {A = ℕ} 0 1 = cc in absurd (omega arith)
 named-refused s (c ∷ p) n b k e = go (requestPathOk (c ∷ p)) (lookup byBytes (c ∷ p) (s .O)) e
@@ -73,7 +75,7 @@ named-refused s (c ∷ p) n b k e = go (requestPathOk (c ∷ p)) (lookup byBytes
     go false o q = let z : n ≡ 2 = cc in rw z
 
 -- the root
-pub named-root : (s : State) (p : Bytes) (k : Object → Outcome) → namedIn s p ≡ named.Root → objectAt s p k ≡ k (record { content = []; created = 0; etag = absent })
+pub named-root : (s : State) (p : Bytes) (k : Object → Outcome) → namedIn s p ≡ named.Root → objectAt s p k ≡ k (record { content = []; created = 0; etag = absent; pairs = [] })
 unfolding namedIn objectAt
 named-root s [] k e = refl
 named-root s (c ∷ p) k e = absurd (go (requestPathOk (c ∷ p)) (isSome (lookup byBytes (c ∷ p) (s .O))) e)
@@ -128,14 +130,22 @@ module _ (t a : List ℕ) (b : AreBytes t) (w : whole t a ≡ true) (p : Bytes) 
   row-here : At t a s stands (beforeObject s p) (objectRow p x) (afterObject s p)
   row-here = row-at t a s stands (beforeObject s p) (objectRow p x) (afterObject s p) (object-found s p x (k .found))
 
-  pub here-inside : at + headLength ≤ length t
-  here-inside = let n = k .at-is in omega (arith, row-here .inside)
+  object-ok : ObjectOk p x
+  object-ok = every-lookup bytes ObjectOk p x (s .O) (stands .valid .object) (k .found)
 
-  pub here-data : base + headAt (drop at t) .size ≤ length a
-  here-data =
-      let n = k .base-is in
-      let m : headAt (drop at t) .size ≡ length (x .content) = ap (λ (i : ℕ). headAt (drop i t) .size) (k .at-is) ∙ ap (λ (h : Head). h .size) (row-here .head) in
-      omega (arith, row-here .arena-inside)
+  -- its row and its block
+  pub here-holds : Holds t a at base
+  here-holds =
+      let r : Row = objectRow p x in
+      let f = k .base-is in
+      let size : headAt (drop at t) .size ≡ length (r .content) = ap (λ (i : ℕ). headAt (drop i t) .size) (k .at-is) ∙ ap (λ (h : Head). h .size) (row-here .head) in
+      let content : take (headAt (drop at t) .size) (drop base a) ≡ r .content = ap₂ (λ (n m : ℕ). take n (drop m a)) size f ∙ row-here .content in
+      let lengths = row-lengths t a s stands (beforeObject s p) r (afterObject s p) row-here at (k .at-is) in
+      record {
+        row = row-span t a s stands (beforeObject s p) r (afterObject s p) row-here at (k .at-is);
+        block = omega (arith, row-here .arena-inside);
+        pairs = rw (lengths, content) (kept-block (x .pairs) (x .content) (object-ok .pairs));
+      }
 
   pub here-stored : storedAt t a at base ≡ x
   unfolding storedAt
@@ -143,4 +153,4 @@ module _ (t a : List ℕ) (b : AreBytes t) (w : whole t a ≡ true) (p : Bytes) 
       ap₂ (λ (i j : ℕ). objectOf (rowAt (drop i t) (drop j a))) (k .at-is) (k .base-is)
       ∙ ap₂ (λ (r c : List ℕ). objectOf (rowAt r c)) (row-here .row) (row-here .arena)
       ∙ ap objectOf (row-back (objectRow p x) (row-here .encodable) _ _)
-      ∙ object-back x (every-lookup bytes ObjectOk p x (s .O) (stands .valid .object) (k .found) .etag) p
+      ∙ object-back x (object-ok .etag) p

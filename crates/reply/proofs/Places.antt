@@ -10,12 +10,12 @@ use Rattle.number.proofs.Fields.{over, front-next}
 use Rattle.md5.specs.Md5.{bytesOf}
 use Rattle.reply.specs.Reply.{fieldBytes}
 
-module _ (b : List ℕ) (room : length b ≡ 48) (created size upload records bytes kind more count : ℕ) (digest : List ℕ) where
+module _ (b : List ℕ) (room : length b ≡ 48) (created size upload records bytes kind more count : ℕ) (digest : List ℕ) (pairs pairsBytes : ℕ) where
   -- the nine calls of `write_fields`
   pub written : (pair : ℕ) {b₁ b₂ b₃ b₄ b₅ b₆ b₇ b₈ b₉ : List ℕ} → pair ≡ kind + 256 * more → kind < 256 → more < 256 → length digest ≡ 16
       → b₁ ≡ over b 0 (le 8 created) 8 → b₂ ≡ over b₁ 8 (le 4 size) 4 → b₃ ≡ over b₂ 12 (le 4 upload) 4 → b₄ ≡ over b₃ 16 (le 4 records) 4
       → b₅ ≡ over b₄ 20 (le 4 bytes) 4 → b₆ ≡ over b₅ 24 (le 2 pair) 2 → b₇ ≡ over b₆ 26 (le 2 count) 2 → b₈ ≡ over b₇ 28 digest 16
-      → b₉ ≡ over b₈ 44 (le 4 0) 4 → b₉ ≡ fieldBytes created size upload records bytes kind more count digest
+      → b₉ ≡ over b₈ 44 (le 2 pairs ++ le 2 pairsBytes) 4 → b₉ ≡ fieldBytes created size upload records bytes kind more count digest pairs pairsBytes
   unfolding fieldBytes
   written pair {b₁} {b₂} {b₃} {b₄} {b₅} {b₆} {b₇} {b₈} {b₉} is small small′ l e₁ e₂ e₃ e₄ e₅ e₆ e₇ e₈ e₉ =
       let x₁ = le 8 created in
@@ -42,9 +42,9 @@ module _ (b : List ℕ) (room : length b ≡ 48) (created size upload records by
       let q₆ = front-next b b₅ b₆ x₅ (le 2 pair) 24 2 q₅ l₅ e₆ in
       let q₇ = front-next b b₆ b₇ x₆ (le 2 count) 26 2 q₆ l₆ e₇ in
       let q₈ = front-next b b₇ b₈ x₇ digest 28 16 q₇ l₇ e₈ in
-      let q₉ = front-next b b₈ b₉ x₈ (le 4 0) 44 4 q₈ l₈ e₉ in
+      let q₉ = front-next b b₈ b₉ x₈ (le 2 pairs ++ le 2 pairsBytes) 44 4 q₈ l₈ e₉ in
       let apart : x₆ ≡ x₅ ++ le 1 kind ++ le 1 more = rw (is, pair-bytes kind more small small′) (sym (append-assoc x₅ (le 1 kind) (le 1 more))) in
-      q₉ ∙ rw (drop-of-length-le b {i = 48} (omega arith), append-nil) (ap (λ (x : List ℕ). x ++ le 2 count ++ digest ++ le 4 0) apart)
+      q₉ ∙ rw (drop-of-length-le b {i = 48} (omega arith), append-nil) (ap (λ (x : List ℕ). x ++ le 2 count ++ digest ++ (le 2 pairs ++ le 2 pairsBytes)) apart)
 
 -- the digest's place where an etag is absent
 pub zero-digest : le 16 0 ≡ bytesOf (record { a = 0; b = 0; c = 0; d = 0 })

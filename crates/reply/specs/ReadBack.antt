@@ -20,9 +20,9 @@ etagFrom kind count digest = cond (eqb kind 0) absent (cond (eqb kind 1) (plain 
 unfoldable pub etagIn : Bytes → Etag
 etagIn o = etagFrom (numberAt 24 1 o) (numberAt 26 2 o) (take 16 (drop 28 o))
 
--- the metadata of GET and HEAD: length, created, etag
+-- the metadata of GET and HEAD: length, created, etag; E6: how many pairs and bytes of them were written
 unfoldable pub metadataIn : Bytes → Answer
-metadataIn o = metadata (numberAt 8 4 o) (numberAt 0 8 o) (etagIn o)
+metadataIn o = metadata (numberAt 8 4 o) (numberAt 0 8 o) (etagIn o) (numberAt 44 2 o) (numberAt 46 2 o)
 
 -- the number of INITIATE
 unfoldable pub numberIn : Bytes → Answer
@@ -38,13 +38,13 @@ sweptIn o = swept (numberAt 16 4 o) (eqb (numberAt 25 1 o) 1)
 
 -- what call k answered, as a reply with bytes o tells it
 abbrev pub answerIn : Call → (o : Bytes) → Answer
-answerIn (PUT t p d) o = nothing
-answerIn (GET p b) o = metadataIn o
-answerIn (HEAD p) o = metadataIn o
+answerIn (PUT t p d ps) o = nothing
+answerIn (GET p b m) o = metadataIn o
+answerIn (HEAD p m) o = metadataIn o
 answerIn (DELETE p) o = nothing
 answerIn (COPY t p q) o = nothing
 answerIn (LIST prefix suffix b) o = countsIn o
-answerIn (INITIATE t p) o = numberIn o
+answerIn (INITIATE t p ps) o = numberIn o
 answerIn (PART u n d) o = etag (etagIn o)
 answerIn (COMMIT u ns) o = nothing
 answerIn (ABORT u) o = nothing

@@ -11,6 +11,7 @@ use types::SweepAnswer;
 ghost use mathlib.Core.Path.{_≡_};
 ghost use mathlib.Core.List.{[]};
 ghost use lib.ListN.{length};
+ghost use Rattle.machine.specs.Calls.{noBuffers};
 ghost use Rattle.contract.specs.Answers.{doneReply, getReply, partReply, initiateReply, listReply, sweepReply};
 ghost use Rattle.reply.specs.Reply.{replyOver};
 
@@ -27,14 +28,14 @@ pub fn done(a: DoneAnswer) -> u32
 // GET and HEAD: the metadata.
 pub fn found(a: GetAnswer, reply: &mut [u8]) -> u32
     requires { ⌜ length (now reply) ≡ 48 ⌝ }
-    ensures { λ r. ⌜ (r ≡ getReply a [] .result) × (now (reply .exit) ≡ replyOver (getReply a [] .answer) (now (reply .entry))) ⌝ }
+    ensures { λ r. ⌜ (r ≡ getReply a noBuffers .result) × (now (reply .exit) ≡ replyOver (getReply a noBuffers .answer) (now (reply .entry))) ⌝ }
 {
     match a {
         GetAnswer::Refused(n) => n as u32,
         GetAnswer::Found(m) => {
             let created = m.created;
             let etag = m.etag;
-            fields::write(reply, created.0, m.length, 0, 0, 0, etag);
+            fields::write(reply, created.0, m.length, 0, 0, 0, etag, m.pairs, m.bytes);
             0
         }
     }
@@ -48,7 +49,7 @@ pub fn stored(a: PartAnswer, reply: &mut [u8]) -> u32
     match a {
         PartAnswer::Refused(n) => n as u32,
         PartAnswer::Stored(etag) => {
-            fields::write(reply, 0, 0, 0, 0, 0, etag);
+            fields::write(reply, 0, 0, 0, 0, 0, etag, 0, 0);
             0
         }
     }
@@ -62,7 +63,7 @@ pub fn opened(a: InitiateAnswer, reply: &mut [u8]) -> u32
     match a {
         InitiateAnswer::Refused(n) => n as u32,
         InitiateAnswer::Opened(upload) => {
-            fields::write(reply, 0, 0, upload.0, 0, 0, Etag::Absent);
+            fields::write(reply, 0, 0, upload.0, 0, 0, Etag::Absent, 0, 0);
             0
         }
     }
@@ -76,7 +77,7 @@ pub fn written(a: ListAnswer, reply: &mut [u8]) -> u32
     match a {
         ListAnswer::Refused(n) => n as u32,
         ListAnswer::Written(c) => {
-            fields::write(reply, 0, 0, 0, c.records, c.bytes, Etag::Absent);
+            fields::write(reply, 0, 0, 0, c.records, c.bytes, Etag::Absent, 0, 0);
             0
         }
     }

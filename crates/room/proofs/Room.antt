@@ -9,13 +9,16 @@ use lib.Dec.{leb}
 use lib.ListN.{length, drop}
 use Rattle.number.specs.Number.{AreBytes}
 use Rattle.order.specs.Order.{byBytes}
-use Rattle.machine.specs.Map.{isSome, lookup}
+use Rattle.machine.specs.Map.{Map, isSome, lookup}
+use Rattle.machine.specs.Names.{Bytes}
+use Rattle.machine.specs.Pairs.{pairsHeld}
 use Rattle.machine.specs.State.{Object, State, objectLength, held}
 use Rattle.machine.specs.Steps.{putAt}
 use Rattle.row.specs.declared.Head.{Head}
 use Rattle.row.specs.Row.{encodeRows, headAt, numbersLength}
 use Rattle.layout.specs.Header.{headerLength}
 use Rattle.layout.specs.Memory.{objectRow, whole, stateOf, Stands}
+use Rattle.layout.proofs.RowCounts.{length-block}
 use Rattle.layout.proofs.WholeLaws.{whole-stands}
 use Rattle.find.specs.declared.Lookup.{Lookup}
 use Rattle.find.specs.Places.{beforeObject, afterObject, objectPlace}
@@ -61,26 +64,27 @@ module _ (t a : List ℕ) (b : AreBytes t) (w : whole t a ≡ true) (p : List �
       size-is =
           ap (λ (h : Head). h .size)
           (head-is ∙ ap (λ (n : ℕ). headAt (drop n t)) at-is ∙ row-at t a s stands (beforeObject s p) (objectRow p x) (afterObject s p) (object-found s p x found) .head)
+          ∙ length-block x
 
       pub old-inside : head .size ≤ bytes
       old-inside = omega (arith, size-is, bytes-are, object-share s p x found)
 
       pub judged-old : (r n : ℕ) → r ≡ cond (leb (bytes - head .size + n) (length a)) 0 5
-          → (stamp : ℕ) (content : List ℕ) → length content ≡ n → r ≡ resultOf (putAt (length a) s stamp p content)
-      judged-old r n is stamp content l =
-          let q : bytes - head .size + n ≡ held s - objectLength x + length content = omega (arith, size-is, bytes-are) in
-          rw (is, q) (sym (room-old (length a) s stamp p content (stands .valid) x found))
+          → (stamp : ℕ) (content : List ℕ) (m : Map Bytes Bytes) → pairsHeld m + length content ≡ n → r ≡ resultOf (putAt (length a) s stamp p content m)
+      judged-old r n is stamp content m l =
+          let q : bytes - head .size + n ≡ held s - objectLength x + (pairsHeld m + length content) = omega (arith, size-is, bytes-are) in
+          rw (is, q) (sym (room-old (length a) s stamp p content m (stands .valid) x found))
 
   -- at a path that has none
   module _ (e : place .found ≡ false) (objects : ℕ) (objects-are : objects ≡ length (stateOf t a .O)) where
     absent : lookup byBytes p (s .O) ≡ none
     absent = is-none _ (place-found s p place false place-is e)
 
-    pub judged-full : 256 ≤ objects → (stamp : ℕ) (content : List ℕ) → 4 ≡ resultOf (putAt (length a) s stamp p content)
-    judged-full l stamp content = sym (room-none (length a) s stamp p content (stands .valid) absent (omega (arith, objects-are)))
+    pub judged-full : 256 ≤ objects → (stamp : ℕ) (content : List ℕ) (m : Map Bytes Bytes) → 4 ≡ resultOf (putAt (length a) s stamp p content m)
+    judged-full l stamp content m = sym (room-none (length a) s stamp p content m (stands .valid) absent (omega (arith, objects-are)))
 
     pub judged-new : objects < 256 → (r n : ℕ) → r ≡ cond (leb (bytes + n) (length a)) 0 5
-        → (stamp : ℕ) (content : List ℕ) → length content ≡ n → r ≡ resultOf (putAt (length a) s stamp p content)
-    judged-new m r n is stamp content l =
-        let q : bytes + n ≡ held s + length content = omega (arith, bytes-are) in
-        rw (is, q) (sym (room-new (length a) s stamp p content (stands .valid) absent (omega (arith, objects-are))))
+        → (stamp : ℕ) (content : List ℕ) (m : Map Bytes Bytes) → pairsHeld m + length content ≡ n → r ≡ resultOf (putAt (length a) s stamp p content m)
+    judged-new few r n is stamp content m l =
+        let q : bytes + n ≡ held s + (pairsHeld m + length content) = omega (arith, bytes-are) in
+        rw (is, q) (sym (room-new (length a) s stamp p content m (stands .valid) absent (omega (arith, objects-are))))

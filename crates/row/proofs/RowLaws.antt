@@ -1,5 +1,5 @@
 -- The laws of rows: what is read was written so (sound), and what is written is read back (complete), for every rule. Assumes nothing.
-use Prim.Native.Nat.{ℕ, zero, suc, _+_, _≤_}
+use Prim.Native.Nat.{ℕ, zero, suc, _+_, _*_, _%_, _/_, _≤_, _<_}
 use mathlib.Core.Path.{_≡_, refl, sym, ap, ap₂, _∙_, subst}
 use mathlib.Core.Bool.{Bool, true, false, _&&_, false≢true}
 use mathlib.Core.List.{List, [], _∷_, _++_, append-assoc}
@@ -12,7 +12,8 @@ use Rattle.number.proofs.NumberLaws.{bytes-drop}
 use Rattle.number.specs.Number.{AreBytes}
 use Rattle.row.specs.Fields.{fields, numbersAt, Fit}
 use Rattle.row.proofs.FieldLaws.{length-fields, fields-numbers, numbers-fit, numbers-fields}
-use Rattle.row.specs.Row.{Row, widths, numbersOf, numbersLength, headLength, span, rowBytes, encodeRow, encodeRows, contentsOf, headFrom, headAt, digestAt, pathAt, spanAt, rowAt, inside, headOf, rowsAt, pastRows, pastData, good, Encodable, EncodableAll}
+use Rattle.row.specs.declared.Head.{Head}
+use Rattle.row.specs.Row.{Row, widths, numbersOf, numbersLength, headLength, span, rowBytes, encodeRow, encodeRows, contentsOf, headFrom, headAt, digestAt, pathAt, lengthsAt, spanAt, rowAt, inside, headOf, rowsAt, pastRows, pastData, good, Encodable, EncodableAll}
 
 pub and-left : (a b : Bool) → (a && b) ≡ true → a ≡ true
 and-left true b e = refl
@@ -70,7 +71,29 @@ encodable-right (x ∷ xs) ys a = encodable-right xs ys (a .1)
 
 pub length-row : (r : Row) → Encodable r → length (encodeRow r) ≡ span (headOf r)
 unfolding rowBytes
-length-row r f = rw (length-append, length-append, length-fields widths (numbersOf (headOf r)) (f .fits), f .digest) (omega arith)
+length-row r f = simp (length-append, length-fields widths (numbersOf (headOf r)) (f .fits), f .digest, f .lengths) (omega arith)
+
+-- kind and pairs share one byte
+low-bits : (k p : ℕ) → k < 4 → (k + 4 * p) % 4 ≡ k
+low-bits k p h = omega arith
+
+high-bits : (k p : ℕ) → k < 4 → (k + 4 * p) / 4 ≡ p
+high-bits k p h = omega arith
+
+all-bits : (n : ℕ) → n % 4 + 4 * (n / 4) ≡ n
+all-bits n = omega arith
+
+head-from : (h : Head) → h .kind < 4 → headFrom (numbersOf h) ≡ h
+head-from h l =
+    λ i. record {
+      size = h .size;
+      number = h .number;
+      stamp = h .stamp;
+      kind = low-bits (h .kind) (h .pairs) l i;
+      pairs = high-bits (h .kind) (h .pairs) l i;
+      pathlen = h .pathlen;
+      count = h .count;
+    }
 
 -- Sound ------------------------------------------------------------------------------------------------------------------
 
@@ -79,35 +102,63 @@ module _ (t a : List ℕ) (b : AreBytes t) (h : Inside t a) where
   unfolding pathAt spanAt
   length-pathAt = rw (length-take, length-drop) (omega (arith, h .row))
 
+  length-lengthsAt : length (lengthsAt t) ≡ 2 * headAt t .pairs
+  unfolding lengthsAt spanAt
+  length-lengthsAt = rw (length-take, length-drop) (omega (arith, h .row))
+
   length-content : length (rowAt t a .content) ≡ headAt t .size
   unfolding rowAt
   length-content = length-take-le (headAt t .size) a (h .content)
 
   pub numbers-at : numbersOf (headOf (rowAt t a)) ≡ numbersAt widths t
   unfolding rowAt headAt numbersAt
-  numbers-at = rw (length-content, length-pathAt)
+  numbers-at = rw (length-content, length-pathAt, all-bits)
 
   pub head-at : headOf (rowAt t a) ≡ headAt t
-  unfolding headAt
-  head-at = ap headFrom numbers-at
+  unfolding rowAt
+  head-at =
+      λ i. record {
+        size = length-content i;
+        number = headAt t .number;
+        stamp = headAt t .stamp;
+        kind = headAt t .kind;
+        pairs = headAt t .pairs;
+        pathlen = length-pathAt i;
+        count = headAt t .count;
+      }
 
   length-digestAt : length (rowAt t a .digest) ≡ 16
   unfolding rowAt digestAt
   length-digestAt = length-take-le 16 (drop numbersLength t) (rw length-drop (omega (arith, h .head)))
 
   pub encodable-at : Encodable (rowAt t a)
-  encodable-at = record { fits = subst (Fit widths) (sym numbers-at) (numbers-fit widths t b (omega (arith, h .head))); digest = length-digestAt }
+  unfolding rowAt headAt
+  encodable-at =
+      record {
+        fits = subst (Fit widths) (sym numbers-at) (numbers-fit widths t b (omega (arith, h .head)));
+        digest = length-digestAt;
+        kind = omega arith;
+        lengths = length-lengthsAt;
+      }
 
-  past-numbers-at : rowAt t a .digest ++ (rowAt t a .path ++ drop (spanAt t) t) ≡ drop numbersLength t
-  unfolding rowAt digestAt pathAt spanAt
-  past-numbers-at =
-      rw (← (drop-drop (headAt t .pathlen) headLength t), take-append-drop (headAt t .pathlen) (drop headLength t), ← (drop-drop 16 numbersLength t))
-      (take-append-drop 16 (drop numbersLength t))
+  past-path-at : rowAt t a .lengths ++ drop (spanAt t) t ≡ drop (headLength + headAt t .pathlen) t
+  unfolding rowAt lengthsAt spanAt
+  past-path-at =
+      rw (← (drop-drop (2 * headAt t .pairs) (headLength + headAt t .pathlen) t))
+      (take-append-drop (2 * headAt t .pairs) (drop (headLength + headAt t .pathlen) t))
+
+  past-digest-at : rowAt t a .path ++ (rowAt t a .lengths ++ drop (spanAt t) t) ≡ drop headLength t
+  unfolding rowAt pathAt
+  past-digest-at = rw (past-path-at, ← (drop-drop (headAt t .pathlen) headLength t)) (take-append-drop (headAt t .pathlen) (drop headLength t))
+
+  past-numbers-at : rowAt t a .digest ++ (rowAt t a .path ++ (rowAt t a .lengths ++ drop (spanAt t) t)) ≡ drop numbersLength t
+  unfolding rowAt digestAt
+  past-numbers-at = rw (past-digest-at, ← (drop-drop 16 numbersLength t)) (take-append-drop 16 (drop numbersLength t))
 
   pub row-sound : encodeRow (rowAt t a) ++ drop (spanAt t) t ≡ t
   unfolding rowBytes
   row-sound =
-      rw (numbers-at, append-assoc (fields widths (numbersAt widths t)), append-assoc (rowAt t a .digest))
+      rw (numbers-at, append-assoc (fields widths (numbersAt widths t)), append-assoc (rowAt t a .digest), append-assoc (rowAt t a .path))
       (ap (λ (l : List ℕ). fields widths (numbersAt widths t) ++ l) past-numbers-at ∙ fields-numbers widths t b (omega (arith, h .head)))
 
   pub content-sound : rowAt t a .content ++ drop (headAt t .size) a ≡ a
@@ -123,27 +174,37 @@ module _ (r : Row) (f : Encodable r) (rest rest′ : List ℕ) where
   abbrev a : List ℕ
   a = r .content ++ rest′
 
-  split : t ≡ fields widths (numbersOf (headOf r)) ++ (r .digest ++ (r .path ++ rest))
+  abbrev past : List ℕ
+  past = r .digest ++ (r .path ++ (r .lengths ++ rest))
+
+  split : t ≡ fields widths (numbersOf (headOf r)) ++ past
   unfolding rowBytes
-  split = append-assoc (fields widths (numbersOf (headOf r))) (r .digest ++ r .path) rest ∙ ap (λ (l : List ℕ). fields widths (numbersOf (headOf r)) ++ l) (append-assoc (r .digest) (r .path) rest)
+  split = simp append-assoc
 
   pub head-back : headAt t ≡ headOf r
   unfolding headAt
-  head-back = ap headFrom (ap (numbersAt widths) split ∙ numbers-fields widths (numbersOf (headOf r)) (r .digest ++ (r .path ++ rest)) (f .fits))
+  head-back = ap headFrom (ap (numbersAt widths) split ∙ numbers-fields widths (numbersOf (headOf r)) past (f .fits)) ∙ head-from (headOf r) (f .kind)
 
-  past-numbers : drop numbersLength t ≡ r .digest ++ (r .path ++ rest)
-  past-numbers = ap (drop numbersLength) split ∙ drop-at (fields widths (numbersOf (headOf r))) (r .digest ++ (r .path ++ rest)) numbersLength (length-fields widths (numbersOf (headOf r)) (f .fits))
+  past-numbers : drop numbersLength t ≡ past
+  past-numbers = ap (drop numbersLength) split ∙ drop-at (fields widths (numbersOf (headOf r))) past numbersLength (length-fields widths (numbersOf (headOf r)) (f .fits))
 
-  past-digest : drop headLength t ≡ r .path ++ rest
-  past-digest = sym (drop-drop 16 numbersLength t) ∙ ap (drop 16) past-numbers ∙ drop-at (r .digest) (r .path ++ rest) 16 (f .digest)
+  past-digest : drop headLength t ≡ r .path ++ (r .lengths ++ rest)
+  past-digest = sym (drop-drop 16 numbersLength t) ∙ ap (drop 16) past-numbers ∙ drop-at (r .digest) (r .path ++ (r .lengths ++ rest)) 16 (f .digest)
+
+  past-path : drop (headLength + length (r .path)) t ≡ r .lengths ++ rest
+  past-path = sym (drop-drop (length (r .path)) headLength t) ∙ ap (drop (length (r .path))) past-digest ∙ drop-at (r .path) (r .lengths ++ rest) (length (r .path)) refl
 
   pub digest-back : digestAt t ≡ r .digest
   unfolding digestAt
-  digest-back = ap (take 16) past-numbers ∙ take-at (r .digest) (r .path ++ rest) 16 (f .digest)
+  digest-back = ap (take 16) past-numbers ∙ take-at (r .digest) (r .path ++ (r .lengths ++ rest)) 16 (f .digest)
 
   pub path-back : pathAt t ≡ r .path
   unfolding pathAt
-  path-back = rw (head-back, past-digest) (take-at (r .path) rest (length (r .path)) refl)
+  path-back = rw (head-back, past-digest) (take-at (r .path) (r .lengths ++ rest) (length (r .path)) refl)
+
+  pub lengths-back : lengthsAt t ≡ r .lengths
+  unfolding lengthsAt
+  lengths-back = rw (head-back, past-path) (take-at (r .lengths) rest (2 * r .pairs) (f .lengths))
 
   pub span-back : spanAt t ≡ span (headOf r)
   unfolding spanAt
@@ -154,10 +215,12 @@ module _ (r : Row) (f : Encodable r) (rest rest′ : List ℕ) where
 
   pub row-back : rowAt t a ≡ r
   unfolding rowAt
-  row-back = rw (head-back, digest-back, path-back, take-at (r .content) rest′ (length (r .content)) refl)
+  row-back = rw (head-back, digest-back, path-back, lengths-back, take-at (r .content) rest′ (length (r .content)) refl)
 
   pub rest-back : drop (spanAt t) t ≡ rest
-  rest-back = rw span-back (sym (drop-drop (length (r .path)) headLength t) ∙ ap (drop (length (r .path))) past-digest ∙ drop-at (r .path) rest (length (r .path)) refl)
+  rest-back =
+      rw span-back
+      (sym (drop-drop (2 * r .pairs) (headLength + length (r .path)) t) ∙ ap (drop (2 * r .pairs)) past-path ∙ drop-at (r .lengths) rest (2 * r .pairs) (f .lengths))
 
   pub content-back : drop (headAt t .size) a ≡ rest′
   content-back = rw size-back (drop-at (r .content) rest′ (length (r .content)) refl)

@@ -3,16 +3,16 @@ use Prim.Native.Nat.{ℕ, zero, suc, _+_, _≤_, _<_}
 use mathlib.Core.Path.{_≡_, refl, sym, ap, _∙_}
 use mathlib.Core.Bool.{Bool, true, false, not, _&&_, cond, and-true}
 use mathlib.Core.List.{List, []}
-use native.Mathlib.Nat.{add-assoc, zero-add}
+use native.Mathlib.Nat.{zero-add}
 use native.Mathlib.Omega.{arith}
 use borrow.Author.Tests.{ne-eqb, not-true, not-false}
 use lib.ListN.{length, drop, length-drop}
 use lib.Seq.{drop-drop}
-use Rattle.row.specs.Row.{Row, headAt, spanAt, rowAt, pastRows, pastData, good}
+use Rattle.row.specs.Row.{Row, headAt, span, spanAt, rowAt, pastRows, pastData, good}
 use Rattle.row.proofs.RowLaws.{here-inside, rest-good}
 use Rattle.layout.specs.declared.Header.{Header}
 use Rattle.layout.specs.Rules.{all, objectOk, objectNext, start}
-use Rattle.layout.specs.Memory.{tablesLength, headerOk, uploadTables, uploadArena, uploadRowsAt, objectsGood, uploadsGood, wholeOf, whole}
+use Rattle.layout.specs.Memory.{headerOk, uploadTables, uploadArena, uploadRowsAt, objectsGood, uploadsGood, wholeOf}
 use Rattle.scan.specs.declared.Offset.{Offset}
 use Rattle.layout.specs.Header.{headerAt, headerLength}
 use Rattle.scan.specs.declared.Scan.{Scan}
@@ -21,7 +21,10 @@ use Rattle.scan.specs.Scan.{past, pastAll, objectScan, entriesOk, first,
 
 rest-tables : (t : List ℕ) (o : Offset) → drop (past o (headAt (drop (o .at) t)) .at) t ≡ drop (spanAt (drop (o .at) t)) (drop (o .at) t)
 unfolding spanAt
-rest-tables t o = rw (add-assoc, drop-drop)
+rest-tables t o =
+    let h = headAt (drop (o .at) t) in
+    let n : past o h .at ≡ o .at + span h = omega arith in
+    rw (n, drop-drop)
 
 rest-arena : (t a : List ℕ) (o : Offset) → drop (past o (headAt (drop (o .at) t)) .base) a ≡ drop (headAt (drop (o .at) t) .size) (drop (o .base) a)
 rest-arena t a o = rw drop-drop
@@ -54,11 +57,11 @@ module _ (S : Type 0) (ok : S → Row → Bool) (next : S → Row → S) where
       (omega (arith, length-drop (o .base) a))
 
 -- what the scan of objects says of all rows
-module _ (h : Header) (t a : List ℕ) (r : Scan) (e : r ≡ objectScan (h .objects) [] first t a) where
+module _ (most : ℕ) (h : Header) (t a : List ℕ) (r : Scan) (e : r ≡ objectScan most (h .objects) [] first t a) where
   abbrev objects : Bool
-  objects = good (List ℕ) objectOk objectNext (h .objects) [] (drop headerLength t) a
+  objects = good (List ℕ) (objectOk most) objectNext (h .objects) [] (drop headerLength t) a
 
-  pub rows-bad : r ≡ Bad → rowsOk h t a ≡ false
+  pub rows-bad : r ≡ Bad → rowsOk most h t a ≡ false
   unfolding objectScan rowsOk
   rows-bad q = rw (pick objects (sym e ∙ q))
     where
@@ -76,28 +79,29 @@ module _ (h : Header) (t a : List ℕ) (r : Scan) (e : r ≡ objectScan (h .obje
         pick false q = (cc, cc)
 
     pub rows-end : headerLength ≤ length t → (p .at ≤ length t) × (p .base ≤ length a)
-    rows-end l = rw (found .1) (past-inside (List ℕ) objectOk objectNext (h .objects) [] first t a (found .0) l (omega arith))
+    rows-end l = rw (found .1) (past-inside (List ℕ) (objectOk most) objectNext (h .objects) [] first t a (found .0) l (omega arith))
 
-    pub rows-good : (x : Bool) → x ≡ entriesOk (h .next) (h .uploads) 0 (h .uploads + h .parts) start p t a → x ≡ rowsOk h t a
+    pub rows-good : (x : Bool) → x ≡ entriesOk most (h .next) (h .uploads) 0 (h .uploads + h .parts) start p t a → x ≡ rowsOk most h t a
     unfolding rowsOk
     rows-good x y = rw (found .0) (rw (found .1) at y)
 
--- the test "whole", by the header and the scans
-whole-is : (t a : List ℕ) → whole t a ≡ (headerOk tablesLength (length t) (length a) (headerAt t) && rowsOk (headerAt t) t a)
-unfolding wholeOf all rowsOk entriesOk objectsGood uploadsGood uploadRowsAt uploadTables uploadArena
-whole-is t a =
-    rw (and-true, zero-add, past-tables (headerAt t .objects) first t, past-arena (headerAt t .objects) first t a)
+-- the test "whole" of a layout, by the header and the scans
+module _ (T most : ℕ) (t a : List ℕ) where
+  whole-is : wholeOf T most t a ≡ (headerOk T (length t) (length a) (headerAt t) && rowsOk most (headerAt t) t a)
+  unfolding wholeOf all rowsOk entriesOk objectsGood uploadsGood uploadRowsAt uploadTables uploadArena
+  whole-is =
+      rw (and-true, zero-add, past-tables (headerAt t .objects) first t, past-arena (headerAt t .objects) first t a)
 
-pub too-short : (t a : List ℕ) → length t < headerLength → whole t a ≡ false
-unfolding wholeOf all headerOk
-too-short t a l = rw (ne-eqb (length t) tablesLength (λ e. omega arith))
+  pub too-short : length t < headerLength → headerLength ≤ T → wholeOf T most t a ≡ false
+  unfolding wholeOf all headerOk
+  too-short l room = rw (ne-eqb (length t) T (λ e. omega arith))
 
-module _ (t a : List ℕ) (h : Header) (e : h ≡ headerAt t) (b : Bool) (q : b ≡ headerOk tablesLength (length t) (length a) h) where
-  judged : headerOk tablesLength (length t) (length a) (headerAt t) ≡ b
-  judged = ap (headerOk tablesLength (length t) (length a)) (sym e) ∙ sym q
+  module _ (h : Header) (e : h ≡ headerAt t) (b : Bool) (q : b ≡ headerOk T (length t) (length a) h) where
+    judged : headerOk T (length t) (length a) (headerAt t) ≡ b
+    judged = ap (headerOk T (length t) (length a)) (sym e) ∙ sym q
 
-  pub header-bad : not b ≡ true → whole t a ≡ false
-  header-bad n = whole-is t a ∙ rw (judged, not-true b n)
+    pub header-bad : not b ≡ true → wholeOf T most t a ≡ false
+    header-bad n = whole-is ∙ rw (judged, not-true b n)
 
-  pub header-good : not b ≡ false → whole t a ≡ rowsOk h t a
-  header-good n = whole-is t a ∙ rw (judged, not-false b n, e)
+    pub header-good : not b ≡ false → wholeOf T most t a ≡ rowsOk most h t a
+    header-good n = whole-is ∙ rw (judged, not-false b n, e)

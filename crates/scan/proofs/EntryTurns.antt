@@ -1,6 +1,6 @@
 -- A turn of the test of uploads and parts. Assumes nothing.
 use Prim.Native.Nat.{ℕ, _+_, _-_, _≤_, _<_}
-use mathlib.Core.Path.{_≡_, sym, ap, ap₂, _∙_}
+use mathlib.Core.Path.{_≡_, sym, ap, _∙_}
 use mathlib.Core.Bool.{Bool, true, false, not, cond}
 use mathlib.Core.List.{List}
 use native.Mathlib.Nat.{add-zero, add-assoc}
@@ -17,7 +17,7 @@ use Rattle.layout.specs.Rules.{entryRule, uploadKind, entryOk, entryNext, markA
 use Rattle.layout.specs.Memory.{uploadsAmong}
 use Rattle.scan.specs.Scan.{readingOf, past, opensOne, entriesOk}
 use borrow.Author.Tests.{not-true, not-false}
-use Rattle.scan.proofs.Turns.{digestPart, pathPart, head-of, digest-of, path-of, rest-tables, rest-arena, more, good-end, good-short, good-wrong, good-next}
+use Rattle.scan.proofs.Turns.{digestPart, pathPart, lengthsPart, contentPart, head-of, digest-of, path-of, lengths-of, content-of, rest-tables, rest-arena, more, good-end, good-short, good-wrong, good-next}
 
 pub opens-small : (h : Head) → opensOne h ≤ 1
 unfolding opensOne
@@ -27,17 +27,17 @@ opens-small h = small (eqb (h .kind) uploadKind)
     small true = lit≤ tt
     small false = lit≤ tt
 
-module _ (t a : List ℕ) (N uploads opened n i : ℕ) (m : Mark) (o : Offset) where
-  pub entries-end : n ≤ i → entriesOk N uploads opened (n - i) m o t a ≡ eqb opened uploads
+module _ (t a : List ℕ) (most N uploads opened n i : ℕ) (m : Mark) (o : Offset) where
+  pub entries-end : n ≤ i → entriesOk most N uploads opened (n - i) m o t a ≡ eqb opened uploads
   unfolding entriesOk rowsAt uploadsAmong
   entries-end l =
       let z : n - i ≡ 0 = omega arith in
-      rw (good-end Mark (entryOk N) entryNext t a n i m o l, z, add-zero)
+      rw (good-end Mark (entryOk most N) entryNext t a n i m o l, z, add-zero)
 
   module _ (l : i < n) where
-    pub entries-short : readingOf (drop (o .at) t) (drop (o .base) a) ≡ Short → entriesOk N uploads opened (n - i) m o t a ≡ false
+    pub entries-short : readingOf (drop (o .at) t) (drop (o .base) a) ≡ Short → entriesOk most N uploads opened (n - i) m o t a ≡ false
     unfolding entriesOk
-    entries-short e = rw (good-short Mark (entryOk N) entryNext t a n i m o l e)
+    entries-short e = rw (good-short Mark (entryOk most N) entryNext t a n i m o l e)
 
     module _ (bytes : AreBytes t) (h : Head) (f : readingOf (drop (o .at) t) (drop (o .base) a) ≡ Fits h) where
       -- the row at o
@@ -48,30 +48,29 @@ module _ (t a : List ℕ) (N uploads opened n i : ℕ) (m : Mark) (o : Offset) w
       unfolding rowsAt uploadsAmong opensOne
       opens-next =
           rw (
-            more Mark (entryOk N) entryNext t a n i m o l,
+            more Mark (entryOk most N) entryNext t a n i m o l,
             rest-tables t a o h f,
             rest-arena t a o h f,
             ap opensOne (head-of t a o h f bytes),
           )
 
-      module _ (r : Bool) (e : r ≡ entryRule N m h (digestPart t o) (pathPart t o h)) where
-        judged : entryOk N m here ≡ r
-        unfolding entryOk entryRule
+      module _ (r : Bool) (e : r ≡ entryRule most N m h (digestPart t o) (pathPart t o h) (lengthsPart t o h) (contentPart a o h)) where
+        judged : entryOk most N m here ≡ r
+        unfolding entryOk
         judged =
-            ap (λ (x : Head). entryRule N m x (here .digest) (here .path)) (head-of t a o h f bytes)
-            ∙ ap₂ (entryRule N m h) (digest-of t a o h f bytes) (path-of t a o h f bytes)
-            ∙ sym e
+            rw (head-of t a o h f bytes, digest-of t a o h f bytes, path-of t a o h f bytes, lengths-of t a o h f bytes, content-of t a o h f bytes)
+            (sym e)
 
-        pub entries-wrong : not r ≡ true → entriesOk N uploads opened (n - i) m o t a ≡ false
+        pub entries-wrong : not r ≡ true → entriesOk most N uploads opened (n - i) m o t a ≡ false
         unfolding entriesOk
-        entries-wrong q = rw (good-wrong Mark (entryOk N) entryNext t a n i m o l h f (judged ∙ not-true r q))
+        entries-wrong q = rw (good-wrong Mark (entryOk most N) entryNext t a n i m o l h f (judged ∙ not-true r q))
 
         pub entries-next : not r ≡ false
-            → entriesOk N uploads opened (n - i) m o t a ≡ entriesOk N uploads (opened + opensOne h) (n - (i + 1)) (markAfter m h) (past o h) t a
+            → entriesOk most N uploads opened (n - i) m o t a ≡ entriesOk most N uploads (opened + opensOne h) (n - (i + 1)) (markAfter m h) (past o h) t a
         unfolding entriesOk
         entries-next q =
             rw (
-              good-next Mark (entryOk N) entryNext t a n i m o l h f (judged ∙ not-false r q),
+              good-next Mark (entryOk most N) entryNext t a n i m o l h f (judged ∙ not-false r q),
               opens-next,
               head-of t a o h f bytes,
               add-assoc opened,

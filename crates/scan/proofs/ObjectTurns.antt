@@ -1,6 +1,6 @@
 -- A turn of the scan of objects. Assumes nothing.
 use Prim.Native.Nat.{ℕ, _+_, _-_, _≤_, _<_}
-use mathlib.Core.Path.{_≡_, sym, ap₂, _∙_}
+use mathlib.Core.Path.{_≡_, sym, _∙_}
 use mathlib.Core.Bool.{Bool, true, false, not}
 use mathlib.Core.List.{List}
 use lib.ListN.{drop}
@@ -13,31 +13,32 @@ use Rattle.scan.specs.declared.Scan.the-variants.{Bad, Good}
 use Rattle.layout.specs.Rules.{objectRule, objectOk, objectNext}
 use Rattle.scan.specs.Scan.{readingOf, past, objectScan}
 use borrow.Author.Tests.{not-true, not-false}
-use Rattle.scan.proofs.Turns.{pathPart, head-of, path-of, good-end, past-end, good-short, good-wrong, good-next, past-next}
+use Rattle.scan.proofs.Turns.{pathPart, lengthsPart, contentPart, head-of, path-of, lengths-of, content-of, good-end, past-end, good-short, good-wrong, good-next, past-next}
 
-module _ (t a : List ℕ) (n i : ℕ) (last : List ℕ) (o : Offset) where
-  pub objects-end : n ≤ i → objectScan (n - i) last o t a ≡ Good o
+module _ (t a : List ℕ) (most n i : ℕ) (last : List ℕ) (o : Offset) where
+  pub objects-end : n ≤ i → objectScan most (n - i) last o t a ≡ Good o
   unfolding objectScan
-  objects-end l = rw (good-end (List ℕ) objectOk objectNext t a n i last o l, past-end (List ℕ) objectOk objectNext t a n i last o l)
+  objects-end l = rw (good-end (List ℕ) (objectOk most) objectNext t a n i last o l, past-end (List ℕ) (objectOk most) objectNext t a n i last o l)
 
   module _ (l : i < n) where
-    pub objects-short : readingOf (drop (o .at) t) (drop (o .base) a) ≡ Short → objectScan (n - i) last o t a ≡ Bad
+    pub objects-short : readingOf (drop (o .at) t) (drop (o .base) a) ≡ Short → objectScan most (n - i) last o t a ≡ Bad
     unfolding objectScan
-    objects-short e = rw (good-short (List ℕ) objectOk objectNext t a n i last o l e)
+    objects-short e = rw (good-short (List ℕ) (objectOk most) objectNext t a n i last o l e)
 
-    module _ (bytes : AreBytes t) (h : Head) (f : readingOf (drop (o .at) t) (drop (o .base) a) ≡ Fits h) (r : Bool) (e : r ≡ objectRule last h (pathPart t o h)) where
-      judged : objectOk last (rowAt (drop (o .at) t) (drop (o .base) a)) ≡ r
-      judged = ap₂ (objectRule last) (head-of t a o h f bytes) (path-of t a o h f bytes) ∙ sym e
+    module _ (bytes : AreBytes t) (h : Head) (f : readingOf (drop (o .at) t) (drop (o .base) a) ≡ Fits h) (r : Bool)
+        (e : r ≡ objectRule most last h (pathPart t o h) (lengthsPart t o h) (contentPart a o h)) where
+      judged : objectOk most last (rowAt (drop (o .at) t) (drop (o .base) a)) ≡ r
+      judged = rw (head-of t a o h f bytes, path-of t a o h f bytes, lengths-of t a o h f bytes, content-of t a o h f bytes) (sym e)
 
-      pub objects-wrong : not r ≡ true → objectScan (n - i) last o t a ≡ Bad
+      pub objects-wrong : not r ≡ true → objectScan most (n - i) last o t a ≡ Bad
       unfolding objectScan
-      objects-wrong q = rw (good-wrong (List ℕ) objectOk objectNext t a n i last o l h f (judged ∙ not-true r q))
+      objects-wrong q = rw (good-wrong (List ℕ) (objectOk most) objectNext t a n i last o l h f (judged ∙ not-true r q))
 
-      pub objects-next : not r ≡ false → objectScan (n - i) last o t a ≡ objectScan (n - (i + 1)) (pathPart t o h) (past o h) t a
+      pub objects-next : not r ≡ false → objectScan most (n - i) last o t a ≡ objectScan most (n - (i + 1)) (pathPart t o h) (past o h) t a
       unfolding objectScan
       objects-next q =
           rw (
-            good-next (List ℕ) objectOk objectNext t a n i last o l h f (judged ∙ not-false r q),
-            past-next (List ℕ) objectOk objectNext t a n i last o l h f,
+            good-next (List ℕ) (objectOk most) objectNext t a n i last o l h f (judged ∙ not-false r q),
+            past-next (List ℕ) (objectOk most) objectNext t a n i last o l h f,
             path-of t a o h f bytes,
           )

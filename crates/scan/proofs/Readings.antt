@@ -1,5 +1,5 @@
 -- What is read at a place of the tables, on plain lists. Assumes nothing.
-use Prim.Native.Nat.{ℕ, zero, suc, _+_, _-_, _*_, _^_, Ordering, Ordering·lt, Ordering·eq, Ordering·gt}
+use Prim.Native.Nat.{ℕ, zero, suc, _+_, _-_, _*_, _^_, _≤_, Ordering, Ordering·lt, Ordering·eq, Ordering·gt}
 use mathlib.Core.Path.{_≡_, refl, sym, ap, _∙_}
 use mathlib.Core.Bool.{Bool, true, false, _&&_, cond}
 use mathlib.Core.List.{List}
@@ -16,10 +16,13 @@ use Rattle.order.proofs.OrderLaws.{same-self, same-false}
 use Rattle.order.specs.Compared.{orderOf}
 use Rattle.order.specs.declared.Order.{Order}
 use Rattle.order.specs.declared.Order.the-variants.{Less, Equal, Greater}
+use Rattle.machine.proofs.Options.{both}
+use Rattle.stored_pairs.specs.Stored.{blockOk}
+use Rattle.stored_pairs.proofs.Blocks.{block}
 use Rattle.row.specs.declared.Head.{Head}
 use Rattle.row.specs.Row.{headAt, spanAt, inside, headLength, span}
 use Rattle.scan.specs.declared.Reading.the-variants.{Short, Fits}
-use Rattle.layout.specs.Rules.{isLess, noDigest}
+use Rattle.layout.specs.Rules.{isLess, noDigest, pairsRule}
 use Rattle.scan.specs.Scan.{readingOf}
 
 -- the tests of `read_row`
@@ -68,3 +71,8 @@ module _ (d : List ℕ) (lo hi : ℕ) (b : AreBytes d) (n : length d ≡ 16) (l 
       pick : (x : Bool) → eqb hi 0 ≡ x → x ≡ same d noDigest
       pick true e = sym (all-zero p (eqb-true hi 0 e))
       pick false e = sym (not-zero (λ z. eqb-false hi 0 e (omega arith)))
+
+-- a row that may have its pairs has few lengths
+pub lengths-few : (most : ℕ) (h : Head) (lengths content : List ℕ) → pairsRule most h lengths content ≡ true → length lengths ≤ 16
+unfolding pairsRule
+lengths-few most h lengths content e = block lengths content (both (leb (h .pairs) most) (blockOk lengths content) e .1) .few

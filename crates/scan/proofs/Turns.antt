@@ -1,5 +1,5 @@
 -- A turn of a scan: what is said of the rows from an offset on, said of those after the first. Assumes nothing.
-use Prim.Native.Nat.{ℕ, suc, _+_, _-_, _≤_, _<_}
+use Prim.Native.Nat.{ℕ, suc, _+_, _-_, _*_, _≤_, _<_}
 use mathlib.Core.Path.{_≡_, refl, sym, ap, _∙_}
 use mathlib.Core.Bool.{Bool, true, false, cond}
 use mathlib.Core.List.{List}
@@ -10,7 +10,7 @@ use lib.Seq.{drop-drop, length-take-le}
 use Rattle.number.proofs.NumberLaws.{bytes-drop}
 use Rattle.number.specs.Number.{AreBytes}
 use Rattle.row.specs.declared.Head.{Head}
-use Rattle.row.specs.Row.{Row, headAt, digestAt, pathAt, spanAt, rowAt, inside, headOf, good, numbersLength, headLength, span}
+use Rattle.row.specs.Row.{Row, headAt, digestAt, pathAt, lengthsAt, spanAt, rowAt, inside, headOf, good, numbersLength, headLength, span}
 use Rattle.row.proofs.RowLaws.{Inside, inside-true, head-at}
 use Rattle.scan.specs.declared.Offset.{Offset}
 use Rattle.scan.specs.declared.Reading.the-variants.{Short, Fits}
@@ -32,12 +32,19 @@ reading-fits t a h e = pick (inside t a) e
     pick true q = (refl, cc)
     pick false q = (cc, cc)
 
--- the parts of t that hold the digest and the path of a row at o, as the code takes them
+-- the parts of t that hold the digest, the path and the lengths of a row at o, and its part of a, as the code takes them
 abbrev pub digestPart : (t : List ℕ) → Offset → List ℕ
 digestPart t o = take (o .at + headLength - (o .at + numbersLength)) (drop (o .at + numbersLength) t)
 
 abbrev pub pathPart : (t : List ℕ) → Offset → Head → List ℕ
 pathPart t o h = take (o .at + headLength + h .pathlen - (o .at + headLength)) (drop (o .at + headLength) t)
+
+abbrev pub lengthsPart : (t : List ℕ) → Offset → Head → List ℕ
+lengthsPart t o h =
+    take (o .at + headLength + h .pathlen + 2 * h .pairs - (o .at + headLength + h .pathlen)) (drop (o .at + headLength + h .pathlen) t)
+
+abbrev pub contentPart : (a : List ℕ) → Offset → Head → List ℕ
+contentPart a o h = take (o .base + h .size - o .base) (drop (o .base) a)
 
 -- a row that fits at o
 module _ (t a : List ℕ) (o : Offset) (h : Head) (f : readingOf (drop (o .at) t) (drop (o .base) a) ≡ Fits h) where
@@ -59,12 +66,15 @@ module _ (t a : List ℕ) (o : Offset) (h : Head) (f : readingOf (drop (o .at) t
   same-length : h .pathlen ≡ headAt s .pathlen
   same-length = ap (λ (x : Head). x .pathlen) head-is
 
+  same-pairs : h .pairs ≡ headAt s .pairs
+  same-pairs = ap (λ (x : Head). x .pairs) head-is
+
   same-size : h .size ≡ headAt s .size
   same-size = ap (λ (x : Head). x .size) head-is
 
   pub row-in : o .at + span h ≤ length t
   unfolding spanAt
-  row-in = let r = room .row in omega (arith, length-drop (o .at) t, same-length)
+  row-in = let r = room .row in omega (arith, length-drop (o .at) t, same-length, same-pairs)
 
   pub data-in : o .base ≤ length a → o .base + h .size ≤ length a
   data-in l = let r = room .content in omega (arith, length-drop (o .base) a, same-size)
@@ -82,9 +92,18 @@ module _ (t a : List ℕ) (o : Offset) (h : Head) (f : readingOf (drop (o .at) t
   unfolding pathAt
   path-part = rw (add-sub-cancel-left, drop-drop, same-length)
 
-  pub rest-tables : drop (o .at + headLength + h .pathlen) t ≡ drop (spanAt s) s
+  pub lengths-part : lengthsPart t o h ≡ lengthsAt s
+  unfolding lengthsAt
+  lengths-part = rw (add-sub-cancel-left, drop-drop, same-length, same-pairs, add-assoc)
+
+  pub content-part : contentPart a o h ≡ take (headAt s .size) b
+  content-part = rw (add-sub-cancel-left, same-size)
+
+  pub rest-tables : drop (past o h .at) t ≡ drop (spanAt s) s
   unfolding spanAt
-  rest-tables = rw (add-assoc, drop-drop, same-length)
+  rest-tables =
+      let n : past o h .at ≡ o .at + (headLength + headAt s .pathlen + 2 * headAt s .pairs) = omega (arith, same-length, same-pairs) in
+      rw (n, drop-drop)
 
   pub rest-arena : drop (o .base + h .size) a ≡ drop (headAt s .size) b
   rest-arena = rw (drop-drop, same-size)
@@ -100,6 +119,14 @@ module _ (t a : List ℕ) (o : Offset) (h : Head) (f : readingOf (drop (o .at) t
     pub path-of : rowAt s b .path ≡ pathPart t o h
     unfolding rowAt
     path-of = sym path-part
+
+    pub lengths-of : rowAt s b .lengths ≡ lengthsPart t o h
+    unfolding rowAt
+    lengths-of = sym lengths-part
+
+    pub content-of : rowAt s b .content ≡ contentPart a o h
+    unfolding rowAt
+    content-of = sym content-part
 
 -- n rows by a rule, i of them passed
 module _ (S : Type 0) (ok : S → Row → Bool) (next : S → Row → S) (t a : List ℕ) (n i : ℕ) (σ : S) (o : Offset) where

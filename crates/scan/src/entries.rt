@@ -23,13 +23,20 @@ fn is_zero(d: &[u8]) -> bool
 }
 
 // Whether the row of an upload may stand after m, where `next` is the number of the next upload.
-fn upload_ok(next: u64, m: Mark, h: Head, digest: &[u8], path: &[u8]) -> bool
+fn upload_ok(
+    most: u8,
+    next: u64,
+    m: Mark,
+    h: Head,
+    digest: &[u8],
+    path: &[u8],
+    lengths: &[u8],
+    content: &[u8],
+) -> bool
     requires { ⌜ length (now digest) ≡ 16 ⌝ }
-    ensures { λ r. ⌜ r ≡ uploadRule next m h (now (digest .entry)) (now (path .entry)) ⌝ }
+    ensures { λ r. ⌜ r ≡ uploadRule most next m h (now (digest .entry)) (now (path .entry)) (now (lengths .entry))
+        (now (content .entry)) ⌝ }
 {
-    if h.size != 0 {
-        return false;
-    }
     if h.count != 0 {
         return false;
     }
@@ -45,7 +52,13 @@ fn upload_ok(next: u64, m: Mark, h: Head, digest: &[u8], path: &[u8]) -> bool
     if !names::stored_path_ok(path) {
         return false;
     }
-    is_zero(digest)
+    if !is_zero(digest) {
+        return false;
+    }
+    if !rows::pairs_ok(most, h, lengths, content) {
+        return false;
+    }
+    h.size as usize == stored_pairs::sum_of(lengths)
 }
 
 // Whether the row of a part may stand after m.
@@ -64,6 +77,9 @@ fn part_ok(m: Mark, h: Head) -> bool
     if h.pathlen != 0 {
         return false;
     }
+    if h.pairs != 0 {
+        return false;
+    }
     if m.upload < 1 {
         return false;
     }
@@ -74,12 +90,22 @@ fn part_ok(m: Mark, h: Head) -> bool
 }
 
 // Whether the row of an upload or a part may stand after m.
-fn entry_ok(next: u64, m: Mark, h: Head, digest: &[u8], path: &[u8]) -> bool
+fn entry_ok(
+    most: u8,
+    next: u64,
+    m: Mark,
+    h: Head,
+    digest: &[u8],
+    path: &[u8],
+    lengths: &[u8],
+    content: &[u8],
+) -> bool
     requires { ⌜ length (now digest) ≡ 16 ⌝ }
-    ensures { λ r. ⌜ r ≡ entryRule next m h (now (digest .entry)) (now (path .entry)) ⌝ }
+    ensures { λ r. ⌜ r ≡ entryRule most next m h (now (digest .entry)) (now (path .entry)) (now (lengths .entry))
+        (now (content .entry)) ⌝ }
 {
     if h.kind == layout::UPLOAD_KIND {
-        upload_ok(next, m, h, digest, path)
+        upload_ok(most, next, m, h, digest, path, lengths, content)
     } else {
         part_ok(m, h)
     }
@@ -117,9 +143,10 @@ pub(crate) fn entries_ok(
     uploads: u16,
     parts: u16,
     next: u64,
+    most: u8,
 ) -> bool
     requires { ⌜ (from .at ≤ length (now t)) × (from .base ≤ length (now arena)) ⌝ }
-    ensures { λ r. ⌜ r ≡ entriesOk next uploads 0 (uploads + parts) start from (now (t .entry)) (now (arena .entry)) ⌝ }
+    ensures { λ r. ⌜ r ≡ entriesOk most next uploads 0 (uploads + parts) start from (now (t .entry)) (now (arena .entry)) ⌝ }
 {
     let rows = uploads as usize + parts as usize;
     let mut at = from.at;
@@ -134,13 +161,24 @@ pub(crate) fn entries_ok(
         let digest = at + row::NUMBERS_LENGTH;
         let path = at + row::HEAD_LENGTH;
         let end = path + h.pathlen as usize;
-        if !entry_ok(next, m, h, &t[digest..path], &t[path..end]) {
+        let after = end + 2 * h.pairs as usize;
+        let data_end = base + h.size as usize;
+        if !entry_ok(
+            most,
+            next,
+            m,
+            h,
+            &t[digest..path],
+            &t[path..end],
+            &t[end..after],
+            &arena[base..data_end],
+        ) {
             return false;
         }
         m = mark_after(m, h);
         opened += opening(h);
-        at = end;
-        base += h.size as usize;
+        at = after;
+        base = data_end;
         i += 1;
     }
     opened == uploads as usize

@@ -38,9 +38,19 @@ fn ascend(a: &[u8], b: &[u8]) -> bool
 }
 
 // Whether the row of an object, with its path from `path` to `end`, may stand after one whose path is `last`.
-fn object_ok(last: &[u8], h: Head, t: &[u8], path: usize, end: usize) -> bool
+fn object_ok(
+    most: u8,
+    last: &[u8],
+    h: Head,
+    t: &[u8],
+    path: usize,
+    end: usize,
+    lengths: &[u8],
+    content: &[u8],
+) -> bool
     requires { ⌜ (33 ≤ path) × (path ≤ end) × (end ≤ length (now t)) ⌝ }
-    ensures { λ r. ⌜ r ≡ objectRule (now (last .entry)) h (take (end - path) (drop path (now (t .entry)))) ⌝ }
+    ensures { λ r. ⌜ r ≡ objectRule most (now (last .entry)) h (take (end - path) (drop path (now (t .entry))))
+        (now (lengths .entry)) (now (content .entry)) ⌝ }
 {
     if h.number != 0 {
         return false;
@@ -57,18 +67,22 @@ fn object_ok(last: &[u8], h: Head, t: &[u8], path: usize, end: usize) -> bool
     if !names::stored_path_ok_at(t, path, end) {
         return false;
     }
-    ascend(last, &t[path..end])
+    if !ascend(last, &t[path..end]) {
+        return false;
+    }
+    rows::pairs_ok(most, h, lengths, content)
 }
 
-// Whether the rows of objects stand from `from` on, and where they end. The path of the row passed stands just before
-// `at`.
-pub(crate) fn scan_objects(t: &[u8], arena: &[u8], from: Offset, rows: u16) -> Scan
+// Whether the rows of objects stand from `from` on, and where they end. The path of the row passed stands from `last` to
+// `last_end`.
+pub(crate) fn scan_objects(t: &[u8], arena: &[u8], from: Offset, rows: u16, most: u8) -> Scan
     requires { ⌜ (from .at ≤ length (now t)) × (from .base ≤ length (now arena)) ⌝ }
-    ensures { λ r. ⌜ r ≡ objectScan rows [] from (now (t .entry)) (now (arena .entry)) ⌝ }
+    ensures { λ r. ⌜ r ≡ objectScan most rows [] from (now (t .entry)) (now (arena .entry)) ⌝ }
 {
     let mut at = from.at;
     let mut base = from.base;
     let mut last = at;
+    let mut last_end = at;
     let mut i: u16 = 0;
     while i < rows {
         let Reading::Fits(h) = rows::read_row(t, at, arena, base) else {
@@ -76,12 +90,24 @@ pub(crate) fn scan_objects(t: &[u8], arena: &[u8], from: Offset, rows: u16) -> S
         };
         let path = at + row::HEAD_LENGTH;
         let end = path + h.pathlen as usize;
-        if !object_ok(&t[last..at], h, t, path, end) {
+        let next = end + 2 * h.pairs as usize;
+        let data_end = base + h.size as usize;
+        if !object_ok(
+            most,
+            &t[last..last_end],
+            h,
+            t,
+            path,
+            end,
+            &t[end..next],
+            &arena[base..data_end],
+        ) {
             return Scan::Bad;
         }
         last = path;
-        at = end;
-        base += h.size as usize;
+        last_end = end;
+        at = next;
+        base = data_end;
         i += 1;
     }
     Scan::Good(Offset { at, base })

@@ -2,8 +2,10 @@
 ghost use mathlib.Core.Path.{_≡_};
 ghost use Prim.Native.Nat.{_≤_};
 ghost use lib.ListN.{length, drop};
+ghost use Rattle.layout.specs.Rules.{pairsRule};
 ghost use Rattle.scan.specs.Scan.{readingOf};
 use crate::Reading;
+use row::Head;
 
 // The head of the row at `at`, with its data at `base`, where the row is all in t and its data all in the arena.
 pub(crate) fn read_row(t: &[u8], at: usize, arena: &[u8], base: usize) -> Reading
@@ -22,4 +24,14 @@ pub(crate) fn read_row(t: &[u8], at: usize, arena: &[u8], base: usize) -> Readin
         return Reading::Short;
     }
     Reading::Fits(h)
+}
+
+// Whether a row may have its pairs, by a layout whose rows have at most `most`: its block begins with them.
+pub(crate) fn pairs_ok(most: u8, h: Head, lengths: &[u8], content: &[u8]) -> bool
+    ensures { λ r. ⌜ r ≡ pairsRule most h (now (lengths .entry)) (now (content .entry)) ⌝ }
+{
+    if most < h.pairs {
+        return false;
+    }
+    stored_pairs::block_ok(lengths, content)
 }

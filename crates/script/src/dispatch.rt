@@ -11,6 +11,7 @@ use lines::answers::print_written;
 use lines::fields::field;
 use lines::fields::list_bytes;
 use lines::fields::number;
+use lines::fields::pair_bytes;
 use lines::fields::part_number;
 use lines::words::ABORT;
 use lines::words::ARENA;
@@ -29,6 +30,7 @@ use lines::words::SWEEP;
 use lines::words::TABLES;
 use lines::words::UPLOADS;
 use lines::words::front_len;
+use lines::words::length_in;
 use types::DoneAnswer;
 use types::InitiateAnswer;
 use types::PartAnswer;
@@ -46,8 +48,8 @@ fn commit(tables: &mut [u8], arena: &mut [u8], upload: u32, text: &[u8]) -> Done
     store::commit(tables, arena, UploadNumber(upload), &list[..n])
 }
 
-// GET, LIST or UPLOADS, over an answer buffer.
-fn get_list_or_uploads(
+// LIST or UPLOADS.
+fn list_or_uploads(
     tables: &[u8],
     arena: &[u8],
     word: usize,
@@ -56,16 +58,37 @@ fn get_list_or_uploads(
     answer: &mut [u8],
 ) {
     match word {
-        GET => print_found(store::get(tables, arena, a, answer)),
         LIST => print_written(store::list(tables, arena, a, b, answer)),
         _ => print_written(store::uploads(tables, arena, a, answer)),
     }
 }
 
-// The same, and the buffer after the answer: GET's as text.
-fn call_and_show(tables: &[u8], arena: &[u8], word: usize, line: &[u8], answer: &mut [u8]) {
-    get_list_or_uploads(tables, arena, word, field(line, 2), field(line, 3), answer);
-    print_buffer(answer, word == GET);
+// The same, and the answer buffer after it.
+fn list_and_show(tables: &[u8], arena: &[u8], word: usize, line: &[u8], answer: &mut [u8]) {
+    list_or_uploads(tables, arena, word, field(line, 2), field(line, 3), answer);
+    print_buffer(answer, false);
+}
+
+// The second answer buffer after GET or HEAD, where the line gives one.
+fn show_pairs(pairs: &[u8]) {
+    if 0 < pairs.len() {
+        print_buffer(pairs, false);
+    }
+}
+
+// GET, and both answer buffers after it, the first as text.
+fn get_and_show(tables: &[u8], arena: &[u8], path: &[u8], answer: &mut [u8], pairs: &mut [u8]) {
+    let given = 0 < pairs.len();
+    print_found(store::get(tables, arena, path, answer, pairs), given);
+    print_buffer(answer, true);
+    show_pairs(pairs);
+}
+
+// HEAD, and the second answer buffer after it.
+fn head_and_show(tables: &[u8], arena: &[u8], path: &[u8], pairs: &mut [u8]) {
+    let given = 0 < pairs.len();
+    print_found(store::head(tables, arena, path, pairs), given);
+    show_pairs(pairs);
 }
 
 // An answer buffer of dots.
@@ -75,11 +98,33 @@ fn dots() -> [u8; 512]
     [b'.'; 512]
 }
 
-// The same, over a buffer as long as the line says.
-fn call_with_buffer(tables: &[u8], arena: &[u8], word: usize, line: &[u8]) {
+// LIST or UPLOADS, over a buffer as long as the line says.
+fn list_with_buffer(tables: &[u8], arena: &[u8], word: usize, line: &[u8]) {
     let mut space = dots();
     let n = front_len(true, line, 0, &space);
-    call_and_show(tables, arena, word, line, &mut space[..n]);
+    list_and_show(tables, arena, word, line, &mut space[..n]);
+}
+
+// GET, over buffers as long as the line says.
+fn get_with_buffers(tables: &[u8], arena: &[u8], line: &[u8]) {
+    let mut space = dots();
+    let mut second = dots();
+    let n = front_len(true, line, 0, &space);
+    let m = length_in(line, 3, &second);
+    get_and_show(
+        tables,
+        arena,
+        field(line, 2),
+        &mut space[..n],
+        &mut second[..m],
+    );
+}
+
+// HEAD, over a second buffer as long as the line says.
+fn head_with_buffer(tables: &[u8], arena: &[u8], line: &[u8]) {
+    let mut second = dots();
+    let m = length_in(line, 2, &second);
+    head_and_show(tables, arena, field(line, 1), &mut second[..m]);
 }
 
 // The words that change nothing.
@@ -87,22 +132,40 @@ fn reading_call(tables: &[u8], arena: &[u8], word: usize, line: &[u8]) {
     match word {
         TABLES => print_front(tables, line),
         ARENA => print_front(arena, line),
-        HEAD => print_found(store::head(tables, arena, field(line, 1))),
-        _ => call_with_buffer(tables, arena, word, line),
+        HEAD => head_with_buffer(tables, arena, line),
+        GET => get_with_buffers(tables, arena, line),
+        _ => list_with_buffer(tables, arena, word, line),
     }
 }
 
-// PUT and COPY.
-fn put_or_copy(
+// Room for the pairs of a line.
+fn pairs_room() -> [u8; 1024]
+    ensures { λ r. ⌜ length r ≡ 1024 ⌝ }
+{
+    [0u8; 1024]
+}
+
+// PUT of the pairs that the text says.
+fn put(
     tables: &mut [u8],
     arena: &mut [u8],
-    word: usize,
     n: u64,
-    a: &[u8],
-    b: &[u8],
+    path: &[u8],
+    content: &[u8],
+    text: &[u8],
 ) -> DoneAnswer {
+    let mut pairs = pairs_room();
+    let m = pair_bytes(text, &mut pairs);
+    store::put(tables, arena, Stamp(n), path, content, &pairs[..m])
+}
+
+// PUT and COPY.
+fn put_or_copy(tables: &mut [u8], arena: &mut [u8], word: usize, line: &[u8]) -> DoneAnswer {
+    let n = stamp(line);
+    let a = field(line, 2);
+    let b = field(line, 3);
     if word == PUT {
-        store::put(tables, arena, Stamp(n), a, b)
+        put(tables, arena, n, a, b, field(line, 4))
     } else {
         store::copy(tables, arena, Stamp(n), a, b)
     }
@@ -131,8 +194,16 @@ fn upload(line: &[u8]) -> u32 {
     number(line, 1, 4294967295) as u32
 }
 
-fn initiate(tables: &mut [u8], arena: &[u8], line: &[u8]) -> InitiateAnswer {
-    store::initiate(tables, arena, Stamp(stamp(line)), field(line, 2))
+fn initiate(tables: &mut [u8], arena: &mut [u8], line: &[u8]) -> InitiateAnswer {
+    let mut pairs = pairs_room();
+    let m = pair_bytes(field(line, 3), &mut pairs);
+    store::initiate(
+        tables,
+        arena,
+        Stamp(stamp(line)),
+        field(line, 2),
+        &pairs[..m],
+    )
 }
 
 fn part(tables: &mut [u8], arena: &mut [u8], line: &[u8]) -> PartAnswer {
@@ -156,14 +227,7 @@ fn done_call(tables: &mut [u8], arena: &mut [u8], word: usize, line: &[u8]) -> D
     if word == DELETE {
         store::delete(tables, arena, field(line, 1))
     } else if word <= COPY {
-        put_or_copy(
-            tables,
-            arena,
-            word,
-            stamp(line),
-            field(line, 2),
-            field(line, 3),
-        )
+        put_or_copy(tables, arena, word, line)
     } else {
         commit_or_abort(tables, arena, word, upload(line), field(line, 2))
     }

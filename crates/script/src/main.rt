@@ -2,11 +2,12 @@
 // The file stdin has the cases of documents 01 and 02; tools/script.py makes the file stdout of it, by a store of Python's own.
 //
 // A line is a word and its fields, separated by one space; `~` is an empty field:
-//   FRESH arena, PUT stamp path data, COPY stamp source destination, DELETE path, HEAD path, GET buffer path, LIST buffer prefix suffix,
-//   INITIATE stamp path, PART upload number data, COMMIT upload numbers, ABORT upload, UPLOADS buffer prefix,
+//   FRESH arena, PUT stamp path data pairs, COPY stamp source destination, DELETE path, HEAD path second, GET buffer path second,
+//   LIST buffer prefix suffix, INITIATE stamp path pairs, PART upload number data, COMMIT upload numbers, ABORT upload, UPLOADS buffer prefix,
 //   DELETE_OBJECTS buffer names places, SWEEP stamp most,
 //   TABLES length and ARENA length, which print so many of the first bytes.
-// A list's entries are separated by commas, and `+` there is an odd byte; a place is start:length, and `*n` is n places 0:0. An arena has
+// A list's entries are separated by commas, and `+` there is an odd byte; a place is start:length, and `*n` is n places 0:0; a pair is
+// key=value. Pairs may be left out, and so may `second`, the length of the second answer buffer. An arena has
 // at most 4,096 bytes, a buffer at most 512; it starts as dots. A line that begins with another word is a comment.
 mod dispatch;
 
@@ -19,10 +20,10 @@ ghost use mathlib.Core.Path.{_≡_};
 ghost use lib.ListN.{length};
 
 // Tables. The contract spares the caller's proof the length of the list, which is too long to compute.
-fn tables_room() -> [u8; 53842]
-    ensures { λ r. ⌜ length r ≡ 53842 ⌝ }
+fn tables_room() -> [u8; 58194]
+    ensures { λ r. ⌜ length r ≡ 58194 ⌝ }
 {
-    [0u8; 53842]
+    [0u8; 58194]
 }
 
 // One line, over the first `before` bytes of the arena. Answers how many it is over now.

@@ -1,5 +1,7 @@
 // The store's calls: FRESH, document 01's eleven, and document 02's DELETE_OBJECTS, which also takes its places as bytes,
-// and SWEEP. Each promises `Made` (crate `contract`), FRESH `MadeFresh`, and none has a precondition.
+// SWEEP and CARRY_OVER. Each promises `Made` (crate `contract`), FRESH `MadeFresh`, CARRY_OVER `Carried` (crate
+// `carries`), and none has a precondition.
+pub use carries::carry_over;
 pub use commits::commit;
 pub use copies::copy;
 pub use deletes::delete_objects;

@@ -3,3 +3,4 @@ pub mod Storing
 pub mod Encoding
 pub mod Picking
 pub mod Arranging
+pub mod Blocks

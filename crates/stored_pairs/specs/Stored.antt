@@ -36,3 +36,7 @@ pairsAt (k ∷ (v ∷ ls)) bs = (take k bs, take v (drop k bs)) ∷ pairsAt ls (
 -- lengths and bytes are the pairs of an object or an upload
 unfoldable pub storedOk : (lengths bytes : Bytes) → Bool
 storedOk ls bs = eqb (sumOf ls) (length bs) && keptOk (pairsAt ls bs)
+
+-- a block of the arena: the bytes of pairs with these lengths, then data
+unfoldable pub blockOk : (lengths block : Bytes) → Bool
+blockOk ls bs = storedOk ls (take (sumOf ls) bs)

@@ -13,7 +13,7 @@ use lib.Seq.{take-nil}
 use Rattle.number.specs.Number.{AreBytes}
 use Rattle.machine.specs.Map.{Map, byNumber, lookup}
 use Rattle.machine.specs.State.{Upload, State, withoutUpload}
-use Rattle.machine.specs.Calls.{ABORT, Reply, Outcome, nothing, accept}
+use Rattle.machine.specs.Calls.{ABORT, Reply, Outcome, nothing, noBuffers, accept}
 use Rattle.machine.specs.Steps.{due, toSweep, afterAborts, act, replyOf, after}
 use Rattle.machine.proofs.Sweeping.{abort-leaves, abort-accepted, first-due, one-swept}
 use Rattle.layout.specs.Memory.{Stands}
@@ -50,9 +50,9 @@ after-one : (m m′ : Memory) (u : ℕ) (x : Upload) (r : Reply) → lookup byNu
     → Stands (m′ .tables) (m′ .arena) (withoutUpload (stateIn m) u)
 unfolding outcome act
 after-one m m′ u x r e made =
-    let is : outcome (ABORT u) m ≡ accept nothing [] (withoutUpload (stateIn m) u) = abort-accepted (stateIn m) u x e in
+    let is : outcome (ABORT u) m ≡ accept nothing noBuffers (withoutUpload (stateIn m) u) = abort-accepted (stateIn m) u x e in
     subst (λ (o : Outcome). Stands (m′ .tables) (m′ .arena) (after (stateIn m) o)) is
-    (made .bytes (ap (λ (y : Reply). y .result) (made .answers ∙ ap (replyOf []) is)))
+    (made .bytes (ap (λ (y : Reply). y .result) (made .answers ∙ ap (replyOf noBuffers) is)))
 
 -- The loop -------------------------------------------------------------------------------------------------------------
 

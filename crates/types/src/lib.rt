@@ -17,11 +17,14 @@ pub enum Etag {
     Joined(Digest, u16),
 }
 
-// What GET and HEAD say of an object.
+// What GET and HEAD say of an object: its length, stamp and etag; how many pairs they wrote to the second answer
+// buffer, and how many bytes these are.
 pub struct Metadata {
     pub length: u32,
     pub created: Stamp,
     pub etag: Etag,
+    pub pairs: u16,
+    pub bytes: u16,
 }
 
 // What LIST and UPLOADS wrote.

@@ -2,10 +2,9 @@
 use Prim.Native.Nat.{ℕ}
 use mathlib.Core.Path.{_≡_, sym, ap, _∙_}
 use mathlib.Core.Bool.{true, false}
-use mathlib.Core.List.{[]}
 use Rattle.machine.specs.Map.{isSome, byNumber, lookup}
 use Rattle.machine.specs.State.{State, withoutUpload}
-use Rattle.machine.specs.Calls.{ABORT, nothing, badRequest, accept}
+use Rattle.machine.specs.Calls.{ABORT, nothing, noBuffers, badRequest, accept}
 use Rattle.machine.specs.Steps.{abortAt, act}
 use Rattle.find.specs.declared.Lookup.{Lookup}
 use Rattle.find.specs.Places.{uploadPlace}
@@ -36,6 +35,6 @@ module _ (m : Memory) (u : ℕ) where
     unfolding outcome act abortAt
     abort-there = ap isSome (was-found (lookup byNumber u (s .U)) badRequest _ zero-result .1)
 
-    pub abort-accepted : outcome (ABORT u) m ≡ accept nothing [] (withoutUpload s u)
+    pub abort-accepted : outcome (ABORT u) m ≡ accept nothing noBuffers (withoutUpload s u)
     unfolding outcome act abortAt
     abort-accepted = was-found (lookup byNumber u (s .U)) badRequest _ zero-result .2

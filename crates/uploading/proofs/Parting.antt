@@ -19,14 +19,14 @@ use Rattle.machine.specs.Digest.{md5}
 use Rattle.machine.specs.Etags.{plain}
 use Rattle.machine.specs.State.{Part, Upload, State, partsIn, held, counted, withUpload, withPart}
 use Rattle.machine.specs.Valid.{Valid}
-use Rattle.machine.specs.Calls.{PART, etag, badRequest, tableFull, arenaFull, accept, Outcome, _else_then_}
+use Rattle.machine.specs.Calls.{PART, etag, noBuffers, badRequest, tableFull, arenaFull, accept, Outcome, _else_then_}
 use Rattle.machine.specs.Steps.{newPart, act, after}
 use Rattle.machine.proofs.Counts.{part-counted, held-part, parts-part}
 use Rattle.machine.proofs.KeepsValid.{next-valid}
 use Rattle.row.specs.declared.Head.{Head}
 use Rattle.row.specs.Row.{encodeRows, headAt, numbersLength}
 use Rattle.layout.specs.Header.{headerLength}
-use Rattle.layout.specs.Memory.{partRow, whole, stateOf, Stands, arenaMost}
+use Rattle.layout.specs.Memory.{partRow, whole, stateOf, Stands}
 use Rattle.layout.proofs.WholeLaws.{whole-stands}
 use Rattle.find.specs.declared.Lookup.{Lookup}
 use Rattle.find.specs.Places.{beforePart, afterPart, partPlace, uploadPlace}
@@ -44,7 +44,7 @@ module _ (A : ℕ) (s : State) (v : Valid A s) (u n : ℕ) (d : Bytes) (x : Uplo
   s′ = withUpload s u (withPart x n (newPart d))
 
   abbrev stored : Outcome
-  stored = accept (etag (plain (md5 d))) [] s′
+  stored = accept (etag (plain (md5 d))) noBuffers s′
 
   full : 256 < total partsIn (s′ .U) → resultOf (partIn A s u n d x) ≡ 4
   unfolding partIn
@@ -55,7 +55,7 @@ module _ (A : ℕ) (s : State) (v : Valid A s) (u n : ℕ) (d : Bytes) (x : Uplo
   counts-pass l = pass (counted s′) tableFull (leb (held s′) A else arenaFull then stored) (part-counted A s v u x (withPart x n (newPart d)) f ∙ le-leb _ _ l)
 
   room : total partsIn (s′ .U) ≤ 256 → (kept : ℕ) → kept + length d ≡ held s′ → resultOf (partIn A s u n d x) ≡ cond (leb (kept + length d) A) 0 5
-  room l kept e = ap resultOf (counts-pass l) ∙ result-last (leb (held s′) A) arenaFull (etag (plain (md5 d))) [] s′ ∙ ap (λ (k : ℕ). cond (leb k A) 0 5) (sym e)
+  room l kept e = ap resultOf (counts-pass l) ∙ result-last (leb (held s′) A) arenaFull (etag (plain (md5 d))) noBuffers s′ ∙ ap (λ (k : ℕ). cond (leb k A) 0 5) (sym e)
 
   is-outcome : (r : ℕ) → resultOf (partIn A s u n d x) ≡ r → r ≡ resultOf (partOutcome A s u n d)
   unfolding partOutcome
@@ -190,12 +190,12 @@ module _ (m : Memory) (u n : ℕ) (d : Bytes) where
     abbrev s₁ : State
     s₁ = withUpload s u (withPart x₁ n (newPart d))
 
-    pub part-accepted : outcome (PART u n d) m ≡ accept (etag (plain (md5 d))) [] s₁
+    pub part-accepted : outcome (PART u n d) m ≡ accept (etag (plain (md5 d))) noBuffers s₁
     unfolding partIn
     part-accepted =
         let z : resultOf (partIn A s u n d x₁) ≡ 0 = sym (ap resultOf (first .1 ∙ opened .2)) ∙ zero-result in
-        let three = passed (counted s₁) tableFull (leb (held s₁) A else arenaFull then accept (etag (plain (md5 d))) [] s₁) z in
-        let four = passed (leb (held s₁) A) arenaFull (accept (etag (plain (md5 d))) [] s₁) (sym (ap resultOf (three .1)) ∙ z) in
+        let three = passed (counted s₁) tableFull (leb (held s₁) A else arenaFull then accept (etag (plain (md5 d))) noBuffers s₁) z in
+        let four = passed (leb (held s₁) A) arenaFull (accept (etag (plain (md5 d))) noBuffers s₁) (sym (ap resultOf (three .1)) ∙ z) in
         first .1 ∙ opened .2 ∙ three .1 ∙ four .1
 
     target-valid : Valid A s → Valid A s₁

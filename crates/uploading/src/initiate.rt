@@ -4,27 +4,28 @@ use types::Stamp;
 use types::UploadNumber;
 ghost use mathlib.Core.Path.{_≡_};
 ghost use mathlib.Core.Bool.{true};
+ghost use Rattle.machine.specs.Pairs.{pairsOk, pairMap, pairList};
 ghost use Rattle.machine.specs.Calls.{INITIATE};
 ghost use Rattle.layout.specs.Memory.{whole};
 ghost use Rattle.contract.specs.Answers.{initiateReply};
 ghost use Rattle.contract.specs.Made.{memory, outcome, resultOf, Made, MadeWhole};
+ghost use Rattle.uploading.specs.Initiate.{OpenResult};
 
-// INITIATE's refusal over whole memory, 0 for none.
-fn initiate_judge(tables: &[u8], arena: &[u8], stamp: Stamp, path: &[u8]) -> u8
-    requires { ⌜ whole (now tables) (now arena) ≡ true ⌝ }
-    ensures { λ r. ⌜ r ≡ resultOf (outcome (INITIATE (stamp .0) (now (path .entry)))
-        (memory (now (tables .entry)) (now (arena .entry)))) ⌝ }
+// The refusal of an upload with pairs that are taken: table full, arena full, numbers used up or 0.
+fn initiate_room(tables: &[u8], arena: &[u8], pairs: &[u8]) -> u8
+    requires { ⌜ (whole (now tables) (now arena) ≡ true) × (pairsOk (pairList (now pairs)) ≡ true) ⌝ }
+    ensures { λ r. ⌜ OpenResult (now (tables .entry)) (now (arena .entry)) (pairMap (pairList (now (pairs .entry)))) r ⌝ }
 {
-    if !names::stamp_ok(stamp.0) {
-        return types::BAD_REQUEST;
-    }
-    if !names::new_path_ok(path) {
-        return types::BAD_REQUEST;
-    }
     let counts = find::read_counts(tables, arena);
     let uploads = counts.uploads;
     if layout::UPLOADS_MOST <= uploads {
         return types::TABLE_FULL;
+    }
+    let held = find::held(tables, arena);
+    let n = pairs::held(pairs);
+    let full = room::arena_judge(held, n, arena.len());
+    if full != 0 {
+        return full;
     }
     let header = layout::headers::read_header(tables);
     if 4294967295 < header.next {
@@ -33,26 +34,60 @@ fn initiate_judge(tables: &[u8], arena: &[u8], stamp: Stamp, path: &[u8]) -> u8
     0
 }
 
-// INITIATE over whole memory.
-pub fn initiate_whole(tables: &mut [u8], arena: &[u8], stamp: Stamp, path: &[u8]) -> InitiateAnswer
+// INITIATE's refusal over whole memory, 0 for none.
+fn initiate_judge(tables: &[u8], arena: &[u8], stamp: Stamp, path: &[u8], pairs: &[u8]) -> u8
     requires { ⌜ whole (now tables) (now arena) ≡ true ⌝ }
-    ensures { λ r. ⌜ MadeWhole (INITIATE (stamp .0) (now (path .entry))) (memory (now (tables .entry)) (now (arena .entry))) (initiateReply r) (memory (now (tables .exit)) (now (arena .entry))) ⌝ }
+    ensures { λ r. ⌜ r ≡ resultOf (outcome (INITIATE (stamp .0) (now (path .entry)) (pairList (now (pairs .entry))))
+        (memory (now (tables .entry)) (now (arena .entry)))) ⌝ }
 {
-    let n = initiate_judge(tables, arena, stamp, path);
+    if !names::stamp_ok(stamp.0) {
+        return types::BAD_REQUEST;
+    }
+    if !names::new_path_ok(path) {
+        return types::BAD_REQUEST;
+    }
+    if !pairs::judge(pairs) {
+        return types::BAD_REQUEST;
+    }
+    initiate_room(tables, arena, pairs)
+}
+
+// INITIATE over whole memory.
+pub fn initiate_whole(
+    tables: &mut [u8],
+    arena: &mut [u8],
+    stamp: Stamp,
+    path: &[u8],
+    pairs: &[u8],
+) -> InitiateAnswer
+    requires { ⌜ whole (now tables) (now arena) ≡ true ⌝ }
+    ensures { λ r. ⌜ MadeWhole (INITIATE (stamp .0) (now (path .entry)) (pairList (now (pairs .entry))))
+        (memory (now (tables .entry)) (now (arena .entry))) (initiateReply r)
+        (memory (now (tables .exit)) (now (arena .exit))) ⌝ }
+{
+    let n = initiate_judge(tables, arena, stamp, path, pairs);
     if n != 0 {
         return InitiateAnswer::Refused(n);
     }
     let header = layout::headers::read_header(tables);
-    edit_uploads::uploads::open_upload(tables, arena, stamp.0, path);
+    edit_uploads::uploads::open_upload(tables, arena, stamp.0, path, pairs);
     InitiateAnswer::Opened(UploadNumber(header.next as u32))
 }
 
-// INITIATE: an upload is opened with the next number, which is the answer.
-pub fn initiate(tables: &mut [u8], arena: &[u8], stamp: Stamp, path: &[u8]) -> InitiateAnswer
-    ensures { λ r. ⌜ Made (INITIATE (stamp .0) (now (path .entry))) (memory (now (tables .entry)) (now (arena .entry))) (initiateReply r) (memory (now (tables .exit)) (now (arena .entry))) ⌝ }
+// INITIATE: an upload is opened with the next number, which is the answer, and these pairs.
+pub fn initiate(
+    tables: &mut [u8],
+    arena: &mut [u8],
+    stamp: Stamp,
+    path: &[u8],
+    pairs: &[u8],
+) -> InitiateAnswer
+    ensures { λ r. ⌜ Made (INITIATE (stamp .0) (now (path .entry)) (pairList (now (pairs .entry))))
+        (memory (now (tables .entry)) (now (arena .entry))) (initiateReply r)
+        (memory (now (tables .exit)) (now (arena .exit))) ⌝ }
 {
     if !scan::whole(tables, arena) {
         return InitiateAnswer::Refused(types::NOT_A_STORE);
     }
-    initiate_whole(tables, arena, stamp, path)
+    initiate_whole(tables, arena, stamp, path, pairs)
 }

@@ -2,7 +2,7 @@
 use Prim.Native.Nat.{ℕ, _≤_, _<_}
 use mathlib.Core.Path.{_≡_, sym, ap, ap₂, _∙_}
 use mathlib.Core.Bool.{true}
-use mathlib.Core.List.{List, _++_}
+use mathlib.Core.List.{List, [], _++_}
 use native.Mathlib.Omega.{arith}
 use lib.ListN.{length, drop}
 use Rattle.number.specs.Number.{AreBytes}
@@ -11,7 +11,7 @@ use Rattle.types.specs.declared.ListAnswer.the-variants.{Refused, Written}
 use Rattle.machine.specs.Map.{Map, records}
 use Rattle.machine.specs.Names.{Bytes}
 use Rattle.machine.specs.State.{Upload, State}
-use Rattle.machine.specs.Calls.{UPLOADS, counts, Reply}
+use Rattle.machine.specs.Calls.{UPLOADS, counts, buffers, Reply}
 use Rattle.machine.specs.Steps.{openUnder, uploadRecord, act, replyOf}
 use Rattle.machine.proofs.Records.{write-fits, write-short}
 use Rattle.layout.specs.Memory.{whole, stateOf}
@@ -32,22 +32,22 @@ module _ (t a : List ℕ) (prefix b : Bytes) where
   out = records uploadRecord l
 
   -- the buffer is short
-  pub refused-short : (n : ℕ) → n ≡ length out → length b < n → listReply (Refused 7) b ≡ replyOf b (outcome (UPLOADS prefix b) (memory t a))
+  pub refused-short : (n : ℕ) → n ≡ length out → length b < n → listReply (Refused 7) b ≡ replyOf (buffers b []) (outcome (UPLOADS prefix b) (memory t a))
   unfolding outcome act
   refused-short n e h = sym (write-short (counts (length l) (length out)) out b s (omega arith))
 
   -- the records stand at its front
   pub all-written : (c : Counts) (b′ : Bytes) → (c .records ≡ length l) × (c .bytes ≡ length out) → c .bytes ≤ length b → b′ ≡ out ++ drop (length out) b
-      → listReply (Written c) b′ ≡ replyOf b (outcome (UPLOADS prefix b) (memory t a))
+      → listReply (Written c) b′ ≡ replyOf (buffers b []) (outcome (UPLOADS prefix b) (memory t a))
   unfolding outcome act
   all-written c b′ e h told =
       let m = e .0 in
       let n = e .1 in
-      ap₂ (λ (j k : ℕ). success (counts j k) b′) m n
-      ∙ ap (λ (y : Bytes). success (counts (length l) (length out)) y) told
+      ap₂ (λ (j k : ℕ). success (counts j k) (buffers b′ [])) m n
+      ∙ ap (λ (y : Bytes). success (counts (length l) (length out)) (buffers y [])) told
       ∙ sym (write-fits (counts (length l) (length out)) out b s (omega arith))
 
   -- the contract
-  pub made-uploads : AreBytes t → whole t a ≡ true → (r : Reply) → r ≡ replyOf b (outcome (UPLOADS prefix b) (memory t a)) → Made (UPLOADS prefix b) (memory t a) r (memory t a)
+  pub made-uploads : AreBytes t → whole t a ≡ true → (r : Reply) → r ≡ replyOf (buffers b []) (outcome (UPLOADS prefix b) (memory t a)) → Made (UPLOADS prefix b) (memory t a) r (memory t a)
   unfolding outcome act
   made-uploads bytes w r e = reads (UPLOADS prefix b) (memory t a) r w (whole-stands t a bytes w) (write-keeps (counts (length l) (length out)) out b s) e

@@ -32,7 +32,7 @@ use Rattle.uploads.specs.declared.rows.OpenUpload.{OpenUpload}
 use Rattle.uploads.specs.Rows.{uploadRowPlace, RowRead}
 
 abbrev pub blank : ℕ × Upload
-blank = (0, record { path = []; started = 0; parts = [] })
+blank = (0, record { path = []; started = 0; pairs = []; parts = [] })
 
 -- no upload stands before the place of number 0
 place-zero : (m : Map ℕ Upload) → place byNumber 0 m ≡ 0
@@ -126,7 +126,7 @@ module _ (t a : List ℕ) (s : State) (h : Stands t a s) (i : ℕ) (here : RowPl
   length-here = ap (λ (y : Head). y .pathlen) head-here
 
   row-inside : at + span (headAt (drop at t)) ≤ length t
-  row-inside = omega (arith, length-here, at-is, row-here .inside)
+  row-inside = omega (arith, ap (λ (y : Head). span y) head-here, at-is, row-here .inside)
 
   row-found : lookup byNumber (headAt (drop at t) .number) (s .U) ≡ some x
   row-found = ap (λ (n : ℕ). lookup byNumber n (s .U)) number-here ∙ found

@@ -6,7 +6,8 @@ mod writing;
 use types::ListAnswer;
 ghost use mathlib.Core.Path.{_≡_};
 ghost use mathlib.Core.Bool.{true};
-ghost use Rattle.machine.specs.Calls.{UPLOADS};
+ghost use mathlib.Core.List.{[]};
+ghost use Rattle.machine.specs.Calls.{UPLOADS, buffers};
 ghost use Rattle.machine.specs.Steps.{replyOf};
 ghost use Rattle.layout.specs.Memory.{whole};
 ghost use Rattle.contract.specs.Answers.{listReply};
@@ -15,7 +16,9 @@ ghost use Rattle.contract.specs.Made.{memory, outcome, Made};
 // UPLOADS over whole memory.
 fn uploads_whole(tables: &[u8], arena: &[u8], prefix: &[u8], answer: &mut [u8]) -> ListAnswer
     requires { ⌜ whole (now tables) (now arena) ≡ true ⌝ }
-    ensures { λ r. ⌜ listReply r (now (answer .exit)) ≡ replyOf (now (answer .entry)) (outcome (UPLOADS (now (prefix .entry)) (now (answer .entry))) (memory (now (tables .entry)) (now (arena .entry)))) ⌝ }
+    ensures { λ r. ⌜ listReply r (now (answer .exit)) ≡ replyOf (buffers (now (answer .entry)) [])
+        (outcome (UPLOADS (now (prefix .entry)) (now (answer .entry)))
+        (memory (now (tables .entry)) (now (arena .entry)))) ⌝ }
 {
     let counts = measuring::measure(tables, arena, prefix);
     if answer.len() < counts.bytes as usize {

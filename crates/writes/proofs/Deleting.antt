@@ -1,13 +1,12 @@
 -- DELETE: what its judge and its step meet. Assumes nothing.
 use mathlib.Core.Path.{_≡_, sym, ap, _∙_}
 use mathlib.Core.Bool.{true, false}
-use mathlib.Core.List.{[]}
 use mathlib.Core.Option.{some}
 use Rattle.order.specs.Order.{byBytes}
 use Rattle.machine.specs.Map.{isSome, lookup}
 use Rattle.machine.specs.Names.{Bytes, requestPathOk}
 use Rattle.machine.specs.State.{Object, State, withoutObject}
-use Rattle.machine.specs.Calls.{DELETE, nothing, Outcome, accept, badRequest, notFound, given}
+use Rattle.machine.specs.Calls.{DELETE, nothing, noBuffers, Outcome, accept, badRequest, notFound, given}
 use Rattle.machine.specs.Steps.{deleteAt, act}
 use Rattle.find.specs.declared.Lookup.{Lookup}
 use Rattle.find.specs.Places.{objectPlace}
@@ -23,7 +22,7 @@ module _ (m : Memory) (p : Bytes) where
 
   -- what follows the check of the path
   abbrev removal : Outcome
-  removal = given (lookup byBytes p (s .O)) notFound (λ x. accept nothing [] (withoutObject s p))
+  removal = given (lookup byBytes p (s .O)) notFound (λ x. accept nothing noBuffers (withoutObject s p))
 
   pub delete-bad : requestPathOk p ≡ false → 2 ≡ resultOf (outcome (DELETE p) m)
   unfolding outcome act deleteAt
@@ -40,7 +39,7 @@ module _ (m : Memory) (p : Bytes) where
     pub delete-judged : place .found ≡ true → 0 ≡ resultOf (outcome (DELETE p) m)
     delete-judged e =
         let k = is-some _ (place-found s p place true place-is e) in
-        sym (checked ∙ result-found (lookup byBytes p (s .O)) notFound (λ x. accept nothing [] (withoutObject s p)) (k .0) (k .1))
+        sym (checked ∙ result-found (lookup byBytes p (s .O)) notFound (λ x. accept nothing noBuffers (withoutObject s p)) (k .0) (k .1))
 
   -- result 0
   module _ (zero-result : resultOf (outcome (DELETE p) m) ≡ 0) where
@@ -48,10 +47,10 @@ module _ (m : Memory) (p : Bytes) where
     unfolding outcome act deleteAt
     path-ok = passed (requestPathOk p) badRequest removal zero-result
 
-    there : (x : Object) × (lookup byBytes p (s .O) ≡ some x) × (removal ≡ accept nothing [] (withoutObject s p))
-    there = was-found (lookup byBytes p (s .O)) notFound (λ x. accept nothing [] (withoutObject s p)) (sym (ap resultOf (path-ok .1)) ∙ zero-result)
+    there : (x : Object) × (lookup byBytes p (s .O) ≡ some x) × (removal ≡ accept nothing noBuffers (withoutObject s p))
+    there = was-found (lookup byBytes p (s .O)) notFound (λ x. accept nothing noBuffers (withoutObject s p)) (sym (ap resultOf (path-ok .1)) ∙ zero-result)
 
-    pub delete-accepted : outcome (DELETE p) m ≡ accept nothing [] (withoutObject s p)
+    pub delete-accepted : outcome (DELETE p) m ≡ accept nothing noBuffers (withoutObject s p)
     delete-accepted = path-ok .1 ∙ there .2
 
     pub delete-there : isSome (lookup byBytes p (s .O)) ≡ true

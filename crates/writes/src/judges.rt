@@ -3,6 +3,7 @@ use types::Stamp;
 ghost use mathlib.Core.Path.{_≡_};
 ghost use mathlib.Core.Bool.{true};
 ghost use Rattle.machine.specs.Calls.{Call};
+ghost use Rattle.machine.specs.Pairs.{pairList};
 ghost use Rattle.layout.specs.Memory.{whole};
 ghost use Rattle.contract.specs.Made.{memory, outcome, resultOf};
 
@@ -13,9 +14,12 @@ pub(crate) fn put_judge(
     stamp: Stamp,
     path: &[u8],
     content: &[u8],
+    pairs: &[u8],
 ) -> u8
     requires { ⌜ whole (now tables) (now arena) ≡ true ⌝ }
-    ensures { λ r. ⌜ r ≡ resultOf (outcome (Call.PUT (stamp .0) (now (path .entry)) (now (content .entry))) (memory (now (tables .entry)) (now (arena .entry)))) ⌝ }
+    ensures { λ r. ⌜ r
+        ≡ resultOf (outcome (Call.PUT (stamp .0) (now (path .entry)) (now (content .entry))
+        (pairList (now (pairs .entry)))) (memory (now (tables .entry)) (now (arena .entry)))) ⌝ }
 {
     if !names::stamp_ok(stamp.0) {
         return types::BAD_REQUEST;
@@ -23,7 +27,11 @@ pub(crate) fn put_judge(
     if !names::new_path_ok(path) {
         return types::BAD_REQUEST;
     }
-    room::object_judge(tables, arena, path, content.len())
+    if !pairs::judge(pairs) {
+        return types::BAD_REQUEST;
+    }
+    let n = pairs::held(pairs) + content.len();
+    room::object_judge(tables, arena, path, n)
 }
 
 // DELETE's refusal.

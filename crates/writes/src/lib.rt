@@ -7,6 +7,7 @@ use types::Stamp;
 ghost use mathlib.Core.Path.{_≡_};
 ghost use mathlib.Core.Bool.{true};
 ghost use Rattle.machine.specs.Calls.{Call};
+ghost use Rattle.machine.specs.Pairs.{pairList};
 ghost use Rattle.layout.specs.Memory.{whole};
 ghost use Rattle.contract.specs.Answers.{WellNumbered, doneReply};
 ghost use Rattle.contract.specs.Made.{memory, Made, MadeWhole, MadeFresh};
@@ -39,33 +40,45 @@ pub fn put_whole(
     stamp: Stamp,
     path: &[u8],
     content: &[u8],
+    pairs: &[u8],
 ) -> DoneAnswer
     requires { ⌜ whole (now tables) (now arena) ≡ true ⌝ }
-    ensures { λ r. ⌜ MadeWhole (Call.PUT (stamp .0) (now (path .entry)) (now (content .entry))) (memory (now (tables .entry)) (now (arena .entry))) (doneReply r) (memory (now (tables .exit)) (now (arena .exit))) × WellNumbered r ⌝ }
+    ensures { λ r. ⌜ MadeWhole
+        (Call.PUT (stamp .0) (now (path .entry)) (now (content .entry)) (pairList (now (pairs .entry))))
+        (memory (now (tables .entry)) (now (arena .entry)))
+        (doneReply r)
+        (memory (now (tables .exit)) (now (arena .exit)))
+        × WellNumbered r ⌝ }
 {
-    let n = judges::put_judge(tables, arena, stamp, path, content);
+    let n = judges::put_judge(tables, arena, stamp, path, content, pairs);
     if n != 0 {
         return DoneAnswer::Refused(n);
     }
     let digest = md5::digest(content);
-    edit::objects::put_object(tables, arena, stamp.0, digest, path, content);
+    edit::objects::put_object(tables, arena, stamp.0, digest, path, content, pairs);
     DoneAnswer::Done
 }
 
-// PUT: the object at path becomes the content, with this stamp.
+// PUT: the object at path becomes the content, with this stamp and these pairs.
 pub fn put(
     tables: &mut [u8],
     arena: &mut [u8],
     stamp: Stamp,
     path: &[u8],
     content: &[u8],
+    pairs: &[u8],
 ) -> DoneAnswer
-    ensures { λ r. ⌜ Made (Call.PUT (stamp .0) (now (path .entry)) (now (content .entry))) (memory (now (tables .entry)) (now (arena .entry))) (doneReply r) (memory (now (tables .exit)) (now (arena .exit))) × WellNumbered r ⌝ }
+    ensures { λ r. ⌜ Made
+        (Call.PUT (stamp .0) (now (path .entry)) (now (content .entry)) (pairList (now (pairs .entry))))
+        (memory (now (tables .entry)) (now (arena .entry)))
+        (doneReply r)
+        (memory (now (tables .exit)) (now (arena .exit)))
+        × WellNumbered r ⌝ }
 {
     if !scan::whole(tables, arena) {
         return DoneAnswer::Refused(types::NOT_A_STORE);
     }
-    put_whole(tables, arena, stamp, path, content)
+    put_whole(tables, arena, stamp, path, content, pairs)
 }
 
 // DELETE over whole memory.

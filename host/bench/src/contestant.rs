@@ -3,8 +3,8 @@
 use model::{Answer, Call, Model};
 use rathnodi::{slices, REPLY_LEN, TABLES_LEN};
 
-/// A store with document 01's calls, as far as they are measured. LIST and GET write into the
-/// answer and give the count of bytes.
+/// A store with document 01's calls, as far as they are measured, without pairs. LIST and GET write
+/// into the answer and give the count of bytes.
 pub trait Contestant {
     fn put(&mut self, stamp: u64, path: &[u8], data: &[u8]);
     fn get(&mut self, path: &[u8], answer: &mut [u8]) -> usize;
@@ -73,18 +73,18 @@ fn number(reply: &[u8; REPLY_LEN], at: usize) -> u32 {
 
 impl Contestant for Proved {
     fn put(&mut self, stamp: u64, path: &[u8], data: &[u8]) {
-        done(slices::put(&mut self.tables, &mut self.arena, stamp, path, data));
+        done(slices::put(&mut self.tables, &mut self.arena, stamp, path, data, &[]));
     }
 
     fn get(&mut self, path: &[u8], answer: &mut [u8]) -> usize {
         let mut reply = [0; REPLY_LEN];
-        done(slices::get(&self.tables, &self.arena, path, answer, &mut reply));
+        done(slices::get(&self.tables, &self.arena, path, answer, &mut [], &mut reply));
         number(&reply, 8) as usize
     }
 
     fn head(&mut self, path: &[u8]) -> u64 {
         let mut reply = [0; REPLY_LEN];
-        done(slices::head(&self.tables, &self.arena, path, &mut reply));
+        done(slices::head(&self.tables, &self.arena, path, &mut [], &mut reply));
         u64::from_le_bytes(reply[..8].try_into().expect("8 bytes"))
     }
 
@@ -100,7 +100,7 @@ impl Contestant for Proved {
 
     fn initiate(&mut self, stamp: u64, path: &[u8]) -> u32 {
         let mut reply = [0; REPLY_LEN];
-        done(slices::initiate(&mut self.tables, &mut self.arena, stamp, path, &mut reply));
+        done(slices::initiate(&mut self.tables, &mut self.arena, stamp, path, &[], &mut reply));
         number(&reply, 12)
     }
 
@@ -117,19 +117,22 @@ impl Contestant for Proved {
 /// The model's calls take their arguments as values; making these is part of its cost.
 impl Contestant for Model {
     fn put(&mut self, stamp: u64, path: &[u8], data: &[u8]) {
-        done(self.call(&Call::Put { stamp, path: path.into(), data: data.into() }).number);
+        let (path, data, pairs) = (path.into(), data.into(), Vec::new());
+        done(self.call(&Call::Put { stamp, path, data, pairs }).number);
     }
 
     fn get(&mut self, path: &[u8], answer: &mut [u8]) -> usize {
         let length = self.objects[path].data.len();
-        let reply = self.call(&Call::Get { path: path.into(), buffer: vec![0; length] });
+        let (buffer, pairs_buffer) = (vec![0; length], Vec::new());
+        let reply = self.call(&Call::Get { path: path.into(), buffer, pairs_buffer });
         done(reply.number);
         answer[..length].copy_from_slice(&reply.buffer);
         length
     }
 
     fn head(&mut self, path: &[u8]) -> u64 {
-        match self.call(&Call::Head { path: path.into() }).answer {
+        let call = Call::Head { path: path.into(), pairs_buffer: Vec::new() };
+        match self.call(&call).answer {
             Answer::Metadata { created, .. } => created,
             other => panic!("{other:?}"),
         }
@@ -153,7 +156,8 @@ impl Contestant for Model {
     }
 
     fn initiate(&mut self, stamp: u64, path: &[u8]) -> u32 {
-        match self.call(&Call::Initiate { stamp, path: path.into() }).answer {
+        let call = Call::Initiate { stamp, path: path.into(), pairs: Vec::new() };
+        match self.call(&call).answer {
             Answer::Upload(number) => number,
             other => panic!("{other:?}"),
         }

@@ -23,10 +23,11 @@ fn full(length: usize) -> Full {
     let mut reply = [0; REPLY_LEN];
     assert_eq!(slices::fresh(&mut tables, &mut arena), 0);
     for i in 0..256 {
-        assert_eq!(slices::put(&mut tables, &mut arena, 1, &path(i, length), b"weighing"), 0);
+        assert_eq!(slices::put(&mut tables, &mut arena, 1, &path(i, length), b"weighing", &[]), 0);
     }
     for i in 0..16 {
-        let opened = slices::initiate(&mut tables, &mut arena, 1, &path(i, length), &mut reply);
+        let opened =
+            slices::initiate(&mut tables, &mut arena, 1, &path(i, length), &[], &mut reply);
         assert_eq!(opened, 0);
         for part in 1..=16 {
             let upload = i as u32 + 1;
@@ -74,9 +75,9 @@ pub fn table() {
         let rows = &store.tables[..store.used];
         let (t, m) = (&store.tables[..], &store.arena[..]);
         let [whole, head, get, open, bytes, searched] = best([
-            &mut || assert_eq!(slices::head(t, m, b"/", &mut a), 2),
-            &mut || assert_eq!(slices::head(t, m, &last, &mut b), 0),
-            &mut || assert_eq!(slices::get(t, m, &last, &mut answer, &mut c), 0),
+            &mut || assert_eq!(slices::head(t, m, b"/", &mut [], &mut a), 2),
+            &mut || assert_eq!(slices::head(t, m, &last, &mut [], &mut b), 0),
+            &mut || assert_eq!(slices::get(t, m, &last, &mut answer, &mut [], &mut c), 0),
             &mut || assert_eq!(slices::uploads(t, m, b"", &mut uploads, &mut d), 0),
             &mut || _ = black_box(byte_loop(black_box(rows))),
             &mut || _ = black_box(search(black_box(rows))),

@@ -2,13 +2,13 @@
 //! and what never was, and lengths fall just short of, on and past each limit.
 
 use crate::guard::Side;
-use crate::layout::{self, HEADER_LEN};
-use crate::list::{Bit, Lending, List, Step};
+use crate::layout::{self, without_pairs, HEADER_LEN};
+use crate::list::{Bit, CarryOver, Lending, List, Step};
 use crate::random::Random;
-use model::{Answer, Call, Model};
-use model::{LARGEST_ARENA, LAST_PART, LONGEST_PATH, NUMBERS_END};
-use model::{MOST_OBJECTS, MOST_PARTS, MOST_PLACES};
-use rathnodi::TABLES_LEN;
+use model::{bytes_held, pair_bytes, Answer, Call, Model, Object, SYSTEM_KEYS};
+use model::{LARGEST_ARENA, LAST_PART, LONGEST_KEY, LONGEST_PATH, LONGEST_VALUE, NUMBERS_END};
+use model::{MOST_OBJECTS, MOST_PAIRS, MOST_PARTS, MOST_PLACES};
+use rathnodi::{FORMER_TABLES_LEN, TABLES_LEN};
 
 const ARENAS: [usize; 9] = [0, 1, 4, 64, 64, 4096, 4096, 4096, LARGEST_ARENA];
 
@@ -24,14 +24,15 @@ const ROW_FIELDS: [(usize, usize, &[u64]); 8] = [
     (0, 4, &[0, 1]),
     (4, 4, &[0, 1, 11_000, 11_001]),
     (8, 8, &[0, 1]),
-    (16, 1, &[0, 1, 2, 3, 4]),
+    (KIND_AT, 1, &[0, 1, 2, 3, 4, 5, 6, 7, 8, 32, 33, 34, 35, 36, 37, 38]),
     (PATH_LENGTH_AT, 1, &[0, 1, 127, 128, 129, 255]),
     (18, 2, &[0, 1, 256, 257]),
     (20, 1, &[0, 1]),
     (ROW_LEN, 1, &[32, 33, 47, 126, 127, 0xc3]),
 ];
+const KIND_AT: usize = 16;
 const PATH_LENGTH_AT: usize = 17;
-/// A row without its path.
+/// A row without its path and the lengths of its pairs.
 const ROW_LEN: usize = 36;
 
 /// Lengths of many paths.
@@ -53,9 +54,10 @@ pub fn list(seed: u64, index: u64) -> List {
     let sides = (side(), side());
     let pool = pool(&mut random);
     let weights = std::array::from_fn(|_| 1 + random.below(6));
+    let paired = *random.pick(&[0, 3, 6, 8]);
     let mut model = Model::fresh(arena);
     model.next = next;
-    let mut maker = Maker { random, model, pool, weights, arena, steps: Vec::new() };
+    let mut maker = Maker { random, model, pool, weights, paired, arena, steps: Vec::new() };
     maker.make();
     List { arena, fill, next, sides, steps: maker.steps }
 }
@@ -240,6 +242,64 @@ fn bad_path(random: &mut Random) -> Vec<u8> {
     }
 }
 
+/// Keys that sort beside each other, and such as are a bit away from a system key.
+const KEYS: [&str; 22] = [
+    "a",
+    "b",
+    "a-",
+    "aa",
+    "a0",
+    "-",
+    "0",
+    "z",
+    "9",
+    "k",
+    "k-",
+    "kk",
+    "lot",
+    "lot2",
+    "baker",
+    "flour-lot",
+    "siz",
+    "sizd",
+    "sizes",
+    "etaf",
+    "createe",
+    "e-tag",
+];
+/// Bytes beside those that a key may have, and beside those of a value.
+const NO_KEY_BYTES: [u8; 16] = [0, 31, 32, 44, 46, 47, 58, 64, 65, 90, 91, 95, 96, 123, 127, 225];
+const NO_VALUE_BYTES: [u8; 8] = [0, 10, 30, 31, 127, 128, 160, 255];
+
+/// A key of this length by the rules.
+fn good_key(random: &mut Random, length: usize) -> Vec<u8> {
+    (0..length).map(|_| *random.pick(b"az09-bk")).collect()
+}
+
+/// A value of this length by the rules.
+fn good_value(random: &mut Random, length: usize) -> Vec<u8> {
+    (0..length).map(|_| *random.pick(b" ~!}Aaz09-R")).collect()
+}
+
+type PairList = Vec<(Vec<u8>, Vec<u8>)>;
+
+/// Pairs as a call takes them; lengths are cut to a byte.
+fn encoded(pairs: &PairList) -> Vec<u8> {
+    let counted = |bytes: &[u8]| [&[bytes.len() as u8], bytes].concat();
+    pairs.iter().flat_map(|(key, value)| [counted(key), counted(value)].concat()).collect()
+}
+
+/// The bits by which these bytes, from a place on, become others.
+fn turned(at: usize, old: &[u8], new: &[u8]) -> Vec<Bit> {
+    let changed = old.iter().zip(new).enumerate();
+    changed.map(|(i, (old, new))| Bit { byte: at + i, mask: old ^ new }).collect()
+}
+
+/// What an object holds: its data, its keys and its values.
+fn held_by(object: &Object) -> usize {
+    object.data.len() + bytes_held(&object.pairs)
+}
+
 /// One buffer of names, and where each starts and how long it is.
 fn end_to_end(names: &[Vec<u8>]) -> (Vec<u8>, Vec<(usize, usize)>) {
     let mut start = 0;
@@ -261,6 +321,8 @@ struct Maker {
     model: Model,
     pool: Vec<Vec<u8>>,
     weights: [usize; 13],
+    /// How many of eight calls that can take pairs bring some.
+    paired: usize,
     arena: usize,
     steps: Vec<Step>,
 }
@@ -268,23 +330,35 @@ struct Maker {
 impl Maker {
     fn make(&mut self) {
         let mut length = 5 + self.random.below(75);
+        if self.random.one_in(8) {
+            for _ in 0..self.random.below(40) {
+                self.step();
+            }
+            self.carry_over();
+        }
         match self.random.below(40) {
-            0 => self.fill_objects(&LENGTHS),
-            1 => self.fill_parts(),
+            0 => self.fill_objects(&LENGTHS, 20, &[]),
+            1 => self.fill_parts(20),
             2 => {
-                self.fill_parts();
-                self.fill_objects(&LENGTHS);
+                self.fill_parts(20);
+                self.fill_objects(&LENGTHS, 20, &[]);
             }
             3 => {
-                // To the last byte of the tables.
+                // To the last byte of the tables, or of former ones.
+                let keys = ["a", "b", "c", "d", "e", "f", "g", "h"];
+                let pairs = keys.map(|key| (key.as_bytes().to_vec(), Vec::new())).to_vec();
+                let pairs = if self.random.one_in(3) { Vec::new() } else { encoded(&pairs) };
                 self.pool = many_paths(&mut self.random, &[LONGEST_PATH]);
-                self.fill_uploads();
-                self.fill_parts();
-                self.fill_objects(&[LONGEST_PATH]);
+                self.fill_uploads(&pairs);
+                self.fill_parts(1);
+                self.fill_objects(&[LONGEST_PATH], 1, &pairs);
+                if self.random.one_in(4) {
+                    self.carry_over();
+                }
             }
-            4 | 5 => self.fill_uploads(),
+            4 | 5 => self.fill_uploads(&[]),
             // The last numbers go to uploads that stay open, so that 4 and 6 both apply.
-            6..=21 if self.model.next > 1 => self.fill_uploads(),
+            6..=21 if self.model.next > 1 => self.fill_uploads(&[]),
             _ => length /= 2,
         }
         length *= 2;
@@ -308,8 +382,10 @@ impl Maker {
     }
 
     fn step(&mut self) {
-        if self.random.one_in(100) {
-            return self.fresh();
+        match self.random.below(400) {
+            0..=3 => return self.fresh(),
+            4 => return self.carry_over(),
+            _ => (),
         }
         let call = self.call();
         let lending = self.lending();
@@ -366,42 +442,71 @@ impl Maker {
         self.steps.push(Step::Fresh(lending));
     }
 
+    /// A former store is carried over, or refused.
+    fn carry_over(&mut self) {
+        let mut step = CarryOver::right(self.arena, self.random.draw());
+        step.lending.sides = self.random.draw() as u8;
+        let former = FORMER_TABLES_LEN;
+        match self.random.below(10) {
+            0 => step.former = *self.random.pick(&[0, 1, 18, former - 1, former + 1, TABLES_LEN]),
+            1 if self.random.one_in(2) => step.lending.tables = former,
+            1 => step.lending.tables = self.wrong_tables(),
+            2 => step.lending.arena = self.wrong_arena(),
+            3..=5 => {
+                let plain = without_pairs(&self.model);
+                let state = std::mem::replace(&mut self.model, plain);
+                step.bits = self.change(former);
+                self.model = state;
+            }
+            _ => (),
+        }
+        let (tables, arena) = step.memory(&self.model);
+        match step.carries(&tables, &arena) {
+            Some(state) if arena.len() == self.arena => self.model = state,
+            _ => (),
+        }
+        self.steps.push(Step::CarryOver(step));
+    }
+
     fn damage(&mut self) -> Step {
         match self.random.below(8) {
             0 => {
                 let from = *self.random.pick(&[0, 0, 4, 12, 18, 64, 1024]);
                 Step::Scribble { from, seed: self.random.draw() }
             }
-            _ => Step::Flip(self.change()),
+            _ => Step::Flip(self.change(TABLES_LEN)),
         }
     }
 
-    fn change(&mut self) -> Vec<Bit> {
-        if self.random.one_in(3) {
-            self.random_bits()
-        } else {
-            self.changed_field()
+    /// Of memory with tables of this length.
+    fn change(&mut self, tables_len: usize) -> Vec<Bit> {
+        match self.random.below(6) {
+            0 | 1 => self.random_bits(tables_len),
+            2 | 3 if self.paired > 0 => self.changed_pair(tables_len),
+            _ => self.changed_field(),
         }
     }
 
-    /// A few calls over damaged memory; then the same bits are flipped back.
+    /// Over damaged memory HEAD of the root, which asks whether it is whole, and a few calls; then the
+    /// same bits are flipped back.
     fn damage_and_repair(&mut self) {
-        let bits = self.change();
+        let bits = self.change(TABLES_LEN);
         self.steps.push(Step::Flip(bits.clone()));
-        for _ in 0..1 + self.random.below(3) {
-            let call = self.call();
+        let mut call = Call::Head { path: Vec::new(), pairs_buffer: Vec::new() };
+        for _ in 0..1 + self.random.below(4) {
             self.steps.push(Step::Call(call, Lending::right(self.arena)));
+            call = self.call();
         }
         self.steps.push(Step::Flip(bits));
     }
 
-    fn random_bits(&mut self) -> Vec<Bit> {
+    fn random_bits(&mut self, tables_len: usize) -> Vec<Bit> {
         let used = layout::bytes_of(&self.model).tables.len();
-        let reach = *self.random.pick(&[HEADER_LEN, used, used, TABLES_LEN]);
+        let reach = *self.random.pick(&[HEADER_LEN, used, used, tables_len]);
         (0..1 + self.random.below(3))
             .map(|_| Bit {
                 byte: match self.arena > 0 && self.random.one_in(8) {
-                    true => TABLES_LEN + self.random.below(self.arena),
+                    true => tables_len + self.random.below(self.arena),
                     false => self.random.below(reach),
                 },
                 mask: 1 << self.random.below(8),
@@ -413,7 +518,10 @@ impl Maker {
     /// or less, or another row's.
     fn changed_field(&mut self) -> Vec<Bit> {
         let layout::Bytes { tables, rows, .. } = layout::bytes_of(&self.model);
-        let starts = if rows.is_empty() || self.random.one_in(4) { vec![0] } else { rows };
+        let starts: Vec<usize> = match rows.is_empty() || self.random.one_in(4) {
+            true => vec![0],
+            false => rows.iter().map(|(row, _)| *row).collect(),
+        };
         let (at, other) = (*self.random.pick(&starts), *self.random.pick(&starts));
         let (offset, width, edges) = match at {
             0 => *self.random.pick(&HEADER_FIELDS),
@@ -433,34 +541,119 @@ impl Maker {
             3..=6 if !edges.is_empty() => self.random.pick(edges).to_le_bytes().to_vec(),
             _ => field(other),
         };
-        let changed = old.iter().zip(new).enumerate();
-        changed.map(|(i, (old, new))| Bit { byte: at + offset + i, mask: old ^ new }).collect()
+        turned(at + offset, &old, &new)
     }
 
-    /// PUTs of short data to about as many paths as there can be, each of one of these lengths.
-    fn fill_objects(&mut self, lengths: &[usize]) {
+    /// A row's pairs: a length, the split of a pair, a byte of a key or a value, a key that becomes
+    /// another or a system key, two keys in each other's place, or the count of pairs.
+    fn changed_pair(&mut self, tables_len: usize) -> Vec<Bit> {
+        let layout::Bytes { tables, arena, rows } = layout::bytes_of(&self.model);
+        let paired: Vec<_> =
+            rows.into_iter().filter(|(row, _)| tables[row + KIND_AT] > 3).collect();
+        if paired.is_empty() {
+            return self.changed_field();
+        }
+        let (row, block) = *self.random.pick(&paired);
+        let kind = tables[row + KIND_AT];
+        let count = usize::from(kind / 4);
+        let at = row + ROW_LEN + usize::from(tables[row + PATH_LENGTH_AT]);
+        let lengths = &tables[at..at + 2 * count];
+        let start = |i: usize| block + lengths[..i].iter().map(|n| usize::from(*n)).sum::<usize>();
+        let bytes = |i: usize| &arena[start(i)..start(i + 1)];
+        let (first, second) = (2 * self.random.below(count), 2 * self.random.below(count));
+        let either = first + self.random.below(2);
+        match self.random.below(12) {
+            0..=2 => {
+                let length = lengths[either];
+                let edges = [0, 1, 31, 32, 33, 63, 64, 65, 255];
+                let new = match self.random.below(3) {
+                    0 => length.wrapping_add(1),
+                    1 => length.wrapping_sub(1),
+                    _ => *self.random.pick(&edges),
+                };
+                turned(at + either, &[length], &[new])
+            }
+            3 | 4 => {
+                // The same bytes are split elsewhere: between two lengths next to each other.
+                let i = self.random.below(2 * count - 1);
+                let (one, two) = (lengths[i], lengths[i + 1]);
+                let new = match self.random.one_in(2) {
+                    true => [one.wrapping_add(1), two.wrapping_sub(1)],
+                    false => [one.wrapping_sub(1), two.wrapping_add(1)],
+                };
+                turned(at + i, &[one, two], &new)
+            }
+            5 | 6 => {
+                let i = if self.random.one_in(2) { first } else { first + 1 };
+                let place = start(i) + self.random.below(bytes(i).len().max(1));
+                let Some(old) = arena.get(place) else { return Vec::new() };
+                let new = match self.random.below(4) {
+                    0 => old ^ 1 << self.random.below(8),
+                    1 => *self.random.pick(b"az09-"),
+                    2 => *self.random.pick(&NO_VALUE_BYTES),
+                    _ => *self.random.pick(&NO_KEY_BYTES),
+                };
+                turned(tables_len + place, &[*old], &[new])
+            }
+            7 | 8 => {
+                let new = match self.random.one_in(2) {
+                    true => self.random.pick(&SYSTEM_KEYS),
+                    false => bytes(second),
+                };
+                let cut = new.len().min(bytes(first).len());
+                let mut bits = turned(tables_len + start(first), bytes(first), new);
+                if cut == new.len() && self.random.one_in(2) {
+                    // The rest of the key goes to its value.
+                    let rest = bytes(first).len() - cut;
+                    let both = [cut as u8, (usize::from(lengths[first + 1]) + rest) as u8];
+                    bits.extend(turned(at + first, &lengths[first..first + 2], &both));
+                }
+                bits
+            }
+            9 if bytes(first).len() == bytes(second).len() => {
+                let mut bits = turned(tables_len + start(first), bytes(first), bytes(second));
+                bits.extend(turned(tables_len + start(second), bytes(second), bytes(first)));
+                bits
+            }
+            _ => {
+                let new = match self.random.one_in(2) {
+                    true => kind + 4,
+                    false => kind - 4,
+                };
+                turned(row + KIND_AT, &[kind], &[new])
+            }
+        }
+    }
+
+    /// PUTs of data below this length to about as many paths as there can be, each of one of these
+    /// lengths, with these pairs or any.
+    fn fill_objects(&mut self, lengths: &[usize], below: usize, pairs: &[u8]) {
         self.pool = many_paths(&mut self.random, lengths);
         let mut order: Vec<usize> = (0..self.pool.len()).collect();
         self.random.shuffle(&mut order);
         for i in order.into_iter().take(MOST_OBJECTS - 1 + self.random.below(4)) {
-            let length = self.short();
+            let length = self.short(below);
             let (path, data) = (self.pool[i].clone(), self.random.bytes(length));
-            self.push_right(Call::Put { stamp: i as u64 + 1, path, data });
+            let pairs = match pairs.is_empty() && self.random.one_in(8) {
+                true => self.pairs(self.free() - length).0,
+                false => pairs.to_vec(),
+            };
+            self.push_right(Call::Put { stamp: i as u64 + 1, path, data, pairs });
         }
     }
 
-    fn fill_uploads(&mut self) {
+    fn fill_uploads(&mut self, pairs: &[u8]) {
         for _ in 0..14 + self.random.below(4) {
             let (stamp, path) = (1 + self.random.draw() % 1000, self.good_path());
-            self.push_right(Call::Initiate { stamp, path });
+            self.push_right(Call::Initiate { stamp, path, pairs: pairs.to_vec() });
         }
     }
 
-    /// PARTs of short data, about as many as there can be, over some uploads.
-    fn fill_parts(&mut self) {
+    /// PARTs of data below this length, about as many as there can be, over some uploads.
+    fn fill_parts(&mut self, below: usize) {
         for _ in 0..1 + self.random.below(4) {
-            let path = self.good_path();
-            self.push_right(Call::Initiate { stamp: 7, path });
+            let (path, pairs) = (self.good_path(), self.pairs(self.free()).0);
+            self.push_right(Call::Initiate { stamp: 7, path, pairs });
         }
         let open: Vec<u32> = self.model.uploads.keys().copied().collect();
         if open.is_empty() {
@@ -469,16 +662,20 @@ impl Maker {
         let mut numbers: Vec<u16> = (1..=300).map(|i| i * 36).collect();
         self.random.shuffle(&mut numbers);
         for part in numbers.into_iter().take(MOST_PARTS - 1 + self.random.below(4)) {
-            let length = self.short();
+            let length = self.short(below);
             let (upload, data) = (*self.random.pick(&open), self.random.bytes(length));
             self.push_right(Call::Part { upload, part, data });
         }
     }
 
-    /// A short length that mostly fits.
-    fn short(&mut self) -> usize {
-        let free = self.arena - self.model.held();
-        self.random.below(20).min(free)
+    /// The bytes of the arena that are free.
+    fn free(&self) -> usize {
+        self.arena - self.model.held()
+    }
+
+    /// A length below this that mostly fits.
+    fn short(&mut self, below: usize) -> usize {
+        self.random.below(below).min(self.free())
     }
 
     fn call(&mut self) -> Call {
@@ -508,15 +705,24 @@ impl Maker {
         match verb {
             0 => {
                 let (stamp, path) = (self.stamp(), self.path());
-                let old = self.model.objects.get(&path).map_or(0, |object| object.data.len());
-                Call::Put { stamp, data: self.data(old), path }
+                let object = self.model.objects.get(&path);
+                let free = self.free() + object.map_or(0, held_by);
+                let old = object.map_or(0, |object| object.data.len());
+                let (pairs, held) = self.pairs(free);
+                let data = self.data(free.saturating_sub(held), old);
+                Call::Put { stamp, path, data, pairs }
             }
             1 => {
                 let path = self.path_or_root();
-                let need = self.model.objects.get(&path).map_or(0, |object| object.data.len());
-                Call::Get { path, buffer: self.buffer(need) }
+                let (need, pairs_need) = self.needs(&path);
+                let (buffer, pairs_buffer) = (self.buffer(need), self.buffer(pairs_need));
+                Call::Get { path, buffer, pairs_buffer }
             }
-            2 => Call::Head { path: self.path_or_root() },
+            2 => {
+                let path = self.path_or_root();
+                let pairs_need = self.needs(&path).1;
+                Call::Head { path, pairs_buffer: self.buffer(pairs_need) }
+            }
             3 => Call::Delete { path: self.path() },
             4 => {
                 let (stamp, source) = (self.stamp(), self.path());
@@ -524,7 +730,10 @@ impl Maker {
                 Call::Copy { stamp, source, destination }
             }
             5 => self.list(),
-            6 => Call::Initiate { stamp: self.stamp(), path: self.path() },
+            6 => {
+                let (stamp, path, free) = (self.stamp(), self.path(), self.free());
+                Call::Initiate { stamp, path, pairs: self.pairs(free).0 }
+            }
             7 => self.part(),
             8 => self.commit(),
             9 => Call::Abort { upload: self.upload() },
@@ -576,9 +785,8 @@ impl Maker {
         }
     }
 
-    /// Data for a place that holds so many bytes.
-    fn data(&mut self, old: usize) -> Vec<u8> {
-        let free = self.arena - self.model.held() + old;
+    /// Data for a place that holds so many bytes, where so many are free for it.
+    fn data(&mut self, free: usize, old: usize) -> Vec<u8> {
         let mut length = match self.random.below(12) {
             0 => 0,
             1 => 1,
@@ -594,6 +802,135 @@ impl Maker {
             length %= 4096;
         }
         self.random.bytes(length)
+    }
+
+    /// Pairs for a PUT or an INITIATE, and the bytes that they hold where they are good.
+    fn pairs(&mut self, free: usize) -> (Vec<u8>, usize) {
+        if self.random.below(8) >= self.paired && !self.random.one_in(50) {
+            return (Vec::new(), 0);
+        }
+        let mut pairs = match self.random.one_in(12) {
+            true => self.fitted(free),
+            false => self.pair_list(free < 100),
+        };
+        let held = pairs.iter().map(|(key, value)| key.len() + value.len()).sum();
+        if self.random.one_in(3) {
+            for _ in 0..1 + self.random.below(3) {
+                let (key, length) = (self.random.pick(&SYSTEM_KEYS).to_vec(), self.random.below(9));
+                let value = good_value(&mut self.random, length);
+                let at = self.random.below(pairs.len() + 1);
+                pairs.insert(at, (key, value));
+            }
+        }
+        if self.random.one_in(6) {
+            self.spoil(&mut pairs);
+        }
+        let mut bytes = encoded(&pairs);
+        match self.random.below(40) {
+            0 => bytes.truncate(self.random.below(bytes.len() + 1)),
+            1 => drop(bytes.pop()),
+            2 => {
+                let left_over = 1 + self.random.below(3);
+                bytes.extend(self.random.bytes(left_over));
+            }
+            3 => {
+                let length = self.random.below(12);
+                bytes = self.random.bytes(length);
+            }
+            _ => (),
+        }
+        (bytes, held)
+    }
+
+    /// Good pairs with different keys, short ones where that is asked, now and then one or two too
+    /// many.
+    fn pair_list(&mut self, short: bool) -> PairList {
+        let count = match self.random.below(16) {
+            0..=2 => MOST_PAIRS,
+            3 => MOST_PAIRS + 1,
+            4 => MOST_PAIRS + 2,
+            5 => 1,
+            _ => self.random.below(MOST_PAIRS),
+        };
+        let mut pairs = PairList::new();
+        while pairs.len() < count {
+            let key = match self.random.below(24) {
+                _ if short => self.random.pick(&KEYS[..12]).as_bytes().to_vec(),
+                0 => good_key(&mut self.random, LONGEST_KEY),
+                1 => good_key(&mut self.random, LONGEST_KEY - 1),
+                2 => {
+                    let length = 1 + self.random.below(LONGEST_KEY);
+                    good_key(&mut self.random, length)
+                }
+                _ => self.random.pick(&KEYS).as_bytes().to_vec(),
+            };
+            let length = match self.random.below(24) {
+                3.. if short => self.random.below(2),
+                0 => LONGEST_VALUE,
+                1 => LONGEST_VALUE - 1,
+                2..=7 => 0,
+                _ => self.random.below(7),
+            };
+            if pairs.iter().all(|(other, _)| *other != key) {
+                pairs.push((key, good_value(&mut self.random, length)));
+            }
+        }
+        pairs
+    }
+
+    /// One pair that takes just what is free, or a byte more.
+    fn fitted(&mut self, free: usize) -> PairList {
+        let held = (free + self.random.below(2)).clamp(1, LONGEST_KEY + LONGEST_VALUE);
+        let least = held.saturating_sub(LONGEST_VALUE).max(1);
+        let length = least + self.random.below(held.min(LONGEST_KEY) - least + 1);
+        let key = good_key(&mut self.random, length);
+        vec![(key, good_value(&mut self.random, held - length))]
+    }
+
+    /// Makes one of the pairs a bad one, or two of them equal.
+    fn spoil(&mut self, pairs: &mut PairList) {
+        if pairs.is_empty() {
+            return;
+        }
+        let at = self.random.below(pairs.len());
+        let (key, value) = &mut pairs[at];
+        let (in_key, in_value) =
+            (self.random.below(key.len().max(1)), self.random.below(value.len() + 1));
+        match self.random.below(8) {
+            0 | 1 => key[in_key] = *self.random.pick(&NO_KEY_BYTES),
+            2 => value.insert(in_value, *self.random.pick(&NO_VALUE_BYTES)),
+            3 => {
+                let length = *self.random.pick(&[0, 33, 34, 64, 255]);
+                *key = good_key(&mut self.random, length);
+            }
+            4 => {
+                let length = *self.random.pick(&[65, 66, 128, 255]);
+                *value = good_value(&mut self.random, length);
+            }
+            5 | 6 => {
+                let twice = (key.clone(), value.clone());
+                let to = self.random.below(pairs.len() + 1);
+                pairs.insert(to, twice);
+            }
+            _ => {
+                let length = self.random.below(9);
+                let twice = (key.clone(), good_value(&mut self.random, length));
+                pairs.push(twice);
+            }
+        }
+    }
+
+    /// The bytes of an object's data and of its pairs.
+    fn needs(&self, path: &[u8]) -> (usize, usize) {
+        let object = self.model.objects.get(path);
+        object.map_or((0, 0), |object| (object.data.len(), pair_bytes(&object.pairs).len()))
+    }
+
+    /// GET into buffers for which there is just room.
+    fn get_fitting(&self, path: &[u8]) -> Call {
+        let (need, pairs_need) = self.needs(path);
+        let (buffer, pairs_buffer) = (vec![0; need], vec![0; pairs_need]);
+        Call::Get { path: path.to_vec(), buffer, pairs_buffer }
     }
 
     /// A buffer of about this length.
@@ -682,7 +1019,8 @@ impl Maker {
             4..=10 if !parts.is_empty() => *self.random.pick(&parts),
             _ => (1 + self.random.below(12) as u16, 0),
         };
-        Call::Part { upload, part, data: self.data(old) }
+        let free = self.free() + old;
+        Call::Part { upload, part, data: self.data(free, old) }
     }
 
     fn commit(&mut self) -> Call {
@@ -806,13 +1144,11 @@ impl Maker {
         let uploads = Call::Uploads { prefix: vec![], buffer: vec![0; 16 * 143] };
         self.push_right(list.clone());
         self.push_right(uploads.clone());
-        let lengths: Vec<(Vec<u8>, usize)> = (self.model.objects.iter())
-            .map(|(path, object)| (path.clone(), object.data.len()))
-            .collect();
-        for (path, length) in &lengths {
+        let paths: Vec<Vec<u8>> = self.model.objects.keys().cloned().collect();
+        for path in &paths {
             // Of many objects, some: each list costs about the same then.
-            if lengths.len() < 40 || self.random.one_in(8) {
-                self.push_right(Call::Get { path: path.clone(), buffer: vec![0; *length] });
+            if paths.len() < 40 || self.random.one_in(8) {
+                self.push_right(self.get_fitting(path));
             }
         }
         let open: Vec<u32> = self.model.uploads.keys().copied().collect();
@@ -826,10 +1162,9 @@ impl Maker {
             }
             let list = parts.iter().flat_map(|part| part.to_le_bytes()).collect();
             self.push_right(Call::Commit { upload, list });
-            let length = self.model.objects.get(&path).map_or(0, |object| object.data.len());
-            self.push_right(Call::Get { path, buffer: vec![0; length] });
+            self.push_right(self.get_fitting(&path));
         }
-        self.push_right(Call::Initiate { stamp: 1, path: b"last".to_vec() });
+        self.push_right(Call::Initiate { stamp: 1, path: b"last".to_vec(), pairs: Vec::new() });
         self.push_right(uploads);
         self.push_right(list);
     }

@@ -7,6 +7,10 @@ pub trait Library {
         slices::fresh(tables, arena)
     }
 
+    fn carry_over(&mut self, former: &[u8], arena: &[u8], tables: &mut [u8]) -> u32 {
+        slices::carry_over(former, arena, tables)
+    }
+
     fn put(
         &mut self,
         tables: &mut [u8],
@@ -14,8 +18,9 @@ pub trait Library {
         stamp: u64,
         path: &[u8],
         data: &[u8],
+        pairs: &[u8],
     ) -> u32 {
-        slices::put(tables, arena, stamp, path, data)
+        slices::put(tables, arena, stamp, path, data, pairs)
     }
 
     fn get(
@@ -24,13 +29,21 @@ pub trait Library {
         arena: &[u8],
         path: &[u8],
         answer: &mut [u8],
+        pairs_answer: &mut [u8],
         reply: &mut [u8],
     ) -> u32 {
-        slices::get(tables, arena, path, answer, reply)
+        slices::get(tables, arena, path, answer, pairs_answer, reply)
     }
 
-    fn head(&mut self, tables: &[u8], arena: &[u8], path: &[u8], reply: &mut [u8]) -> u32 {
-        slices::head(tables, arena, path, reply)
+    fn head(
+        &mut self,
+        tables: &[u8],
+        arena: &[u8],
+        path: &[u8],
+        pairs_answer: &mut [u8],
+        reply: &mut [u8],
+    ) -> u32 {
+        slices::head(tables, arena, path, pairs_answer, reply)
     }
 
     fn delete(&mut self, tables: &mut [u8], arena: &mut [u8], path: &[u8]) -> u32 {
@@ -77,9 +90,10 @@ pub trait Library {
         arena: &mut [u8],
         stamp: u64,
         path: &[u8],
+        pairs: &[u8],
         reply: &mut [u8],
     ) -> u32 {
-        slices::initiate(tables, arena, stamp, path, reply)
+        slices::initiate(tables, arena, stamp, path, pairs, reply)
     }
 
     fn part(

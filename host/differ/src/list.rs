@@ -1,9 +1,11 @@
 //! Lists of calls, with how each slice is lent.
 
 use crate::guard::Side;
+use crate::layout::{bytes_of, former_state_of, without_pairs, Bytes};
+use crate::random::Random;
 use crate::reply::REPLY_LEN;
-use model::Call;
-use rathnodi::TABLES_LEN;
+use model::{Call, Model};
+use rathnodi::{FORMER_TABLES_LEN, TABLES_LEN};
 use std::fmt;
 
 /// The lengths that a call is lent, and which guard pages its slices touch.
@@ -38,10 +40,59 @@ pub struct Bit {
     pub mask: u8,
 }
 
+/// A former store in the place of the state so far: the state without its pairs, as former tables
+/// and an arena of its own. Both get free bytes by `fill`, then other hands change bits, the former
+/// tables' bytes first. Where it is carried over, the list goes on from there.
+#[derive(Clone, PartialEq, Eq)]
+pub struct CarryOver {
+    pub lending: Lending,
+    /// The length that is lent as the former tables.
+    pub former: usize,
+    pub fill: u64,
+    pub bits: Vec<Bit>,
+}
+
+impl CarryOver {
+    /// All as it should be.
+    pub fn right(arena: usize, fill: u64) -> CarryOver {
+        let (lending, former) = (Lending::right(arena), FORMER_TABLES_LEN);
+        CarryOver { lending, former, fill, bits: Vec::new() }
+    }
+
+    /// The former tables and the arena that are lent where this is the state so far.
+    pub fn memory(&self, state: &Model) -> (Vec<u8>, Vec<u8>) {
+        let Bytes { mut tables, mut arena, .. } = bytes_of(&without_pairs(state));
+        let mut random = Random::new(self.fill, 1);
+        tables.extend(random.bytes(FORMER_TABLES_LEN - tables.len()));
+        arena.extend(random.bytes(state.arena - arena.len()));
+        flip(&mut tables, &mut arena, &self.bits);
+        tables.resize(self.former, 0);
+        arena.resize(self.lending.arena, 0);
+        (tables, arena)
+    }
+
+    /// The state that these two are carried over to stand for; nothing where they are refused.
+    pub fn carries(&self, former: &[u8], arena: &[u8]) -> Option<Model> {
+        former_state_of(former, arena).filter(|_| self.lending.tables == TABLES_LEN)
+    }
+}
+
+/// Changes bits of tables and arena.
+pub fn flip(tables: &mut [u8], arena: &mut [u8], bits: &[Bit]) {
+    for bit in bits {
+        if let Some(byte) = tables.get_mut(bit.byte) {
+            *byte ^= bit.mask;
+        } else if let Some(byte) = arena.get_mut(bit.byte - tables.len()) {
+            *byte ^= bit.mask;
+        }
+    }
+}
+
 #[derive(Clone, PartialEq, Eq)]
 pub enum Step {
     Call(Call, Lending),
     Fresh(Lending),
+    CarryOver(CarryOver),
     /// Another hand changes bits of the memory.
     Flip(Vec<Bit>),
     /// Another hand writes random bytes over the tables from a place on.
@@ -56,6 +107,9 @@ impl fmt::Display for Step {
         match self {
             Step::Call(call, _) => write!(f, "{call}"),
             Step::Fresh(_) => write!(f, "(fresh)"),
+            Step::CarryOver(CarryOver { former, fill, bits, .. }) => {
+                write!(f, "(carry-over) of {former} bytes, filled by {fill}, flipped: {bits:?}")
+            }
             Step::Flip(bits) => write!(f, "flipped: {bits:?}"),
             Step::Scribble { from, seed } => {
                 write!(f, "random tables from byte {from}, seed {seed}")
@@ -68,6 +122,15 @@ impl Step {
     fn lending(&self) -> Option<&Lending> {
         match self {
             Step::Call(_, lending) | Step::Fresh(lending) => Some(lending),
+            Step::CarryOver(CarryOver { lending, .. }) => Some(lending),
+            Step::Flip(_) | Step::Scribble { .. } => None,
+        }
+    }
+
+    pub fn lending_mut(&mut self) -> Option<&mut Lending> {
+        match self {
+            Step::Call(_, lending) | Step::Fresh(lending) => Some(lending),
+            Step::CarryOver(CarryOver { lending, .. }) => Some(lending),
             Step::Flip(_) | Step::Scribble { .. } => None,
         }
     }

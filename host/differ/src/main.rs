@@ -41,13 +41,13 @@ fn main() {
 fn one_list(seed: u64, index: u64) {
     let list = generate::list(seed, index);
     print!("{list}");
-    println!("{}", describe(&|| Proved, &list));
+    println!("{}", describe(&|| Box::new(Proved), &list));
 }
 
 fn run(seed: u64, calls: u64) {
     println!("differ: seed {seed}, {calls} calls");
     let (tally, start) = (shared::<Tally>(), Instant::now());
-    if let Err(found) = search(|| Proved, seed, calls, tally) {
+    if let Err(found) = search(&|| Box::new(Proved), seed, calls, tally) {
         println!("DIFFERENCE in list {} of seed {seed}; made smaller:", found.index);
         print!("{}", found.list);
         println!("{}", found.end);

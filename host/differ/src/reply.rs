@@ -8,9 +8,11 @@ pub fn bytes_of(answer: &Answer) -> [u8; REPLY_LEN] {
     let mut reply = [0; REPLY_LEN];
     let mut set = |at: usize, bytes: &[u8]| reply[at..at + bytes.len()].copy_from_slice(bytes);
     let etag = match answer {
-        Answer::Metadata { length, created, etag } => {
+        Answer::Metadata { length, created, etag, pairs, pairs_bytes } => {
             set(0, &created.to_le_bytes());
             set(8, &length.to_le_bytes());
+            set(44, &pairs.to_le_bytes());
+            set(46, &pairs_bytes.to_le_bytes());
             *etag
         }
         Answer::Etag(etag) => *etag,

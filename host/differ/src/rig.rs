@@ -3,11 +3,11 @@
 use crate::guard::Region;
 use crate::layout::{self, state_of, NEXT_AT};
 use crate::library::Library;
-use crate::list::{Lending, List, Step};
+use crate::list::{flip, CarryOver, Lending, List, Step};
 use crate::random::Random;
 use crate::reply::{bytes_of, REPLY_LEN};
 use crate::tally::Tally;
-use model::{Answer, Call, Model, Reply, LARGEST_ARENA};
+use model::{pair_bytes, Answer, Call, Model, Reply, LARGEST_ARENA};
 use rathnodi::TABLES_LEN;
 use std::sync::atomic::Ordering::Relaxed;
 
@@ -28,8 +28,8 @@ struct Memory {
     arena: Region,
 }
 
-pub struct Rig<L> {
-    library: L,
+pub struct Rig {
+    library: Box<dyn Library>,
     tally: &'static Tally,
     /// The store's memory, and that of a call that is lent other lengths.
     home: Memory,
@@ -37,25 +37,30 @@ pub struct Rig<L> {
     /// The home memory as it was.
     tables_before: Vec<u8>,
     arena_before: Vec<u8>,
+    former: Region,
     first: Region,
     second: Region,
+    third: Region,
     answer: Region,
+    pairs_answer: Region,
     reply: Region,
 }
 
-/// The two argument slices of a call; the second may be unused.
-fn arguments(call: &Call) -> [&[u8]; 2] {
+/// The argument slices of a call; some may be unused.
+fn arguments(call: &Call) -> [&[u8]; 3] {
     match call {
-        Call::Put { path, data, .. } => [path, data],
-        Call::Copy { source, destination, .. } => [source, destination],
-        Call::DeleteObjects { names, places, .. } => [names, places],
-        Call::List { prefix, suffix, .. } => [prefix, suffix],
-        Call::Get { path, .. } | Call::Head { path } => [path, &[]],
-        Call::Delete { path } | Call::Initiate { path, .. } => [path, &[]],
-        Call::Part { data, .. } => [data, &[]],
-        Call::Commit { list, .. } => [list, &[]],
-        Call::Abort { .. } | Call::Sweep { .. } => [&[], &[]],
-        Call::Uploads { prefix, .. } => [prefix, &[]],
+        Call::Put { path, data, pairs, .. } => [path, data, pairs],
+        Call::Copy { source, destination, .. } => [source, destination, &[]],
+        Call::DeleteObjects { names, places, .. } => [names, places, &[]],
+        Call::List { prefix, suffix, .. } => [prefix, suffix, &[]],
+        Call::Initiate { path, pairs, .. } => [path, pairs, &[]],
+        Call::Get { path, .. } | Call::Head { path, .. } | Call::Delete { path } => {
+            [path, &[], &[]]
+        }
+        Call::Part { data, .. } => [data, &[], &[]],
+        Call::Commit { list, .. } => [list, &[], &[]],
+        Call::Abort { .. } | Call::Sweep { .. } => [&[], &[], &[]],
+        Call::Uploads { prefix, .. } => [prefix, &[], &[]],
     }
 }
 
@@ -98,8 +103,8 @@ fn stands_for(memory: &Memory, state: &Model) -> Result<(), String> {
     same("the arena's state", &bytes.arena, &arena[..bytes.arena.len()])
 }
 
-impl<L: Library> Rig<L> {
-    pub fn new(library: L, tally: &'static Tally) -> Rig<L> {
+impl Rig {
+    pub fn new(library: Box<dyn Library>, tally: &'static Tally) -> Rig {
         let memory = || Memory { tables: Region::new(2 * TABLES_LEN), arena: Region::new(LARGEST) };
         Rig {
             library,
@@ -108,9 +113,12 @@ impl<L: Library> Rig<L> {
             odd: memory(),
             tables_before: Vec::new(),
             arena_before: Vec::new(),
+            former: Region::new(2 * TABLES_LEN),
             first: Region::new(LARGEST),
             second: Region::new(LARGEST),
+            third: Region::new(LARGEST),
             answer: Region::new(LARGEST),
+            pairs_answer: Region::new(LARGEST),
             reply: Region::new(1024),
         }
     }
@@ -124,6 +132,7 @@ impl<L: Library> Rig<L> {
             match step {
                 Step::Call(call, lending) => self.call(call, lending, &mut model),
                 Step::Fresh(lending) => self.fresh(lending, &mut model),
+                Step::CarryOver(step) => self.carry_over(step, list, &mut model),
                 Step::Flip(_) | Step::Scribble { .. } => {
                     self.damage(step);
                     model = state_of(self.home.tables.bytes(), self.home.arena.bytes());
@@ -198,9 +207,12 @@ impl<L: Library> Rig<L> {
             ("arena", &mut self.home.arena),
             ("tables of another length", &mut self.odd.tables),
             ("arena of another length", &mut self.odd.arena),
+            ("former tables", &mut self.former),
             ("first argument", &mut self.first),
             ("second argument", &mut self.second),
+            ("third argument", &mut self.third),
             ("answer", &mut self.answer),
+            ("second answer", &mut self.pairs_answer),
             ("reply", &mut self.reply),
         ] {
             if !region.kept_beside() {
@@ -240,16 +252,60 @@ impl<L: Library> Rig<L> {
         Ok(())
     }
 
+    /// The former tables and the new ones stand apart from the home memory, which is theirs once
+    /// they are carried over.
+    fn carry_over(
+        &mut self,
+        step: &CarryOver,
+        list: &List,
+        model: &mut Option<Model>,
+    ) -> Result<(), String> {
+        let lending = &step.lending;
+        let fresh = Model::fresh(list.arena);
+        let (rows, data) = step.memory(model.as_ref().unwrap_or(&fresh));
+        let mut tables = resized(self.home.tables.bytes(), lending.tables);
+        self.former.lend(&rows, lending.side(0));
+        self.odd.tables.lend(&tables, lending.side(4));
+        self.odd.arena.lend(&data, lending.side(5));
+        let stands_for = step.carries(&rows, &data);
+        let expected = if stands_for.is_some() { 0 } else { 1 };
+
+        let (former, arena) = (self.former.bytes(), self.odd.arena.bytes());
+        let number = self.library.carry_over(former, arena, self.odd.tables.bytes_mut());
+
+        if number != expected {
+            return Err(format!("carry_over answered {number}, expected {expected}"));
+        }
+        self.tally.count_carry_over(number);
+        if number == 0 {
+            tables[..rows.len()].copy_from_slice(&rows);
+        }
+        same("former tables", &rows, self.former.bytes())?;
+        same("the former store's arena", &data, self.odd.arena.bytes())?;
+        same("new tables", &tables, self.odd.tables.bytes())?;
+        self.kept_beside()?;
+        self.home_kept()?;
+        if number == 0 && data.len() == list.arena {
+            self.home.tables.bytes_mut().copy_from_slice(&tables);
+            self.home.arena.bytes_mut().copy_from_slice(&data);
+            *model = stands_for;
+            self.keep();
+        }
+        Ok(())
+    }
+
     fn call(
         &mut self,
         call: &Call,
         lending: &Lending,
         model: &mut Option<Model>,
     ) -> Result<(), String> {
-        let [first, second] = arguments(call);
+        let [first, second, third] = arguments(call);
         self.first.lend(first, lending.side(0));
         self.second.lend(second, lending.side(1));
+        self.third.lend(third, lending.side(6));
         self.answer.lend(call.buffer(), lending.side(2));
+        self.pairs_answer.lend(call.pairs_buffer(), lending.side(7));
         self.reply.place(lending.reply, lending.side(3)).fill(REPLY_BEFORE);
         let odd = self.lend_memory(lending);
         // Where other hands changed the arena's length in the tables, an arena of that length is the right one.
@@ -261,7 +317,7 @@ impl<L: Library> Rig<L> {
         let wrong_reply = has_reply(call) && lending.reply != REPLY_LEN;
         let expected = match state {
             Some(state) if !wrong_reply => state.call(call),
-            _ => Reply::refused(1, call.buffer()),
+            _ => Reply::refused(1, call),
         };
 
         let number = self.make(call, odd);
@@ -273,8 +329,17 @@ impl<L: Library> Rig<L> {
         if let (Call::DeleteObjects { places, .. }, 0) = (call, number) {
             self.tally.count_places(&expected.buffer[..places.len() / 8]);
         }
-        if let Answer::Swept { count, more } = expected.answer {
-            self.tally.count_sweep(count, more);
+        match expected.answer {
+            Answer::Swept { count, more } => self.tally.count_sweep(count, more),
+            Answer::Metadata { pairs, .. } => self.tally.count_pairs(pairs),
+            _ => (),
+        }
+        if let (Call::Get { path, buffer, pairs_buffer }, 7, Some(state)) =
+            (call, number, state.as_ref())
+        {
+            let object = &state.objects[path];
+            let short = object.data.len() > buffer.len();
+            self.tally.count_short(short, pair_bytes(&object.pairs).len() > pairs_buffer.len());
         }
         let reply = if number == 0 && has_reply(call) {
             bytes_of(&expected.answer).to_vec()
@@ -283,8 +348,10 @@ impl<L: Library> Rig<L> {
         };
         same("reply", &reply, self.reply.bytes())?;
         same("answer", &expected.buffer, self.answer.bytes())?;
+        same("second answer", &expected.pairs_buffer, self.pairs_answer.bytes())?;
         same("first argument", first, self.first.bytes())?;
         same("second argument", second, self.second.bytes())?;
+        same("third argument", third, self.third.bytes())?;
         self.kept_beside()?;
         if number != 0 || only_reads(call) {
             return self.memory_kept(odd, lending);
@@ -302,20 +369,23 @@ impl<L: Library> Rig<L> {
     fn make(&mut self, call: &Call, odd: bool) -> u32 {
         let memory = if odd { &mut self.odd } else { &mut self.home };
         let (tables, arena) = (memory.tables.bytes_mut(), memory.arena.bytes_mut());
-        let (first, second) = (self.first.bytes(), self.second.bytes());
+        let (first, second, third) = (self.first.bytes(), self.second.bytes(), self.third.bytes());
         let (answer, reply) = (self.answer.bytes_mut(), self.reply.bytes_mut());
+        let pairs_answer = self.pairs_answer.bytes_mut();
         let library = &mut self.library;
         match call {
-            Call::Put { stamp, .. } => library.put(tables, arena, *stamp, first, second),
-            Call::Get { .. } => library.get(tables, arena, first, answer, reply),
-            Call::Head { .. } => library.head(tables, arena, first, reply),
+            Call::Put { stamp, .. } => library.put(tables, arena, *stamp, first, second, third),
+            Call::Get { .. } => library.get(tables, arena, first, answer, pairs_answer, reply),
+            Call::Head { .. } => library.head(tables, arena, first, pairs_answer, reply),
             Call::Delete { .. } => library.delete(tables, arena, first),
             Call::DeleteObjects { .. } => {
                 library.delete_objects(tables, arena, first, second, answer)
             }
             Call::Copy { stamp, .. } => library.copy(tables, arena, *stamp, first, second),
             Call::List { .. } => library.list(tables, arena, first, second, answer, reply),
-            Call::Initiate { stamp, .. } => library.initiate(tables, arena, *stamp, first, reply),
+            Call::Initiate { stamp, .. } => {
+                library.initiate(tables, arena, *stamp, first, second, reply)
+            }
             Call::Part { upload, part, .. } => {
                 library.part(tables, arena, *upload, *part, first, reply)
             }
@@ -329,17 +399,9 @@ impl<L: Library> Rig<L> {
     fn damage(&mut self, step: &Step) {
         let (tables, arena) = (self.home.tables.bytes_mut(), self.home.arena.bytes_mut());
         match step {
-            Step::Flip(bits) => {
-                for bit in bits {
-                    if let Some(byte) = tables.get_mut(bit.byte) {
-                        *byte ^= bit.mask;
-                    } else if let Some(byte) = arena.get_mut(bit.byte - TABLES_LEN) {
-                        *byte ^= bit.mask;
-                    }
-                }
-            }
+            Step::Flip(bits) => flip(tables, arena, bits),
             Step::Scribble { from, seed } => Random::new(*seed, 0).fill(&mut tables[*from..]),
-            Step::Call(..) | Step::Fresh(..) => (),
+            Step::Call(..) | Step::Fresh(..) | Step::CarryOver(..) => (),
         }
         self.keep();
     }

@@ -13,6 +13,9 @@ use std::sync::atomic::Ordering::Relaxed;
 /// A list that takes longer has not ended.
 const SECONDS: u32 = 60;
 
+/// Makes the library that is run.
+pub type Make<'a> = &'a dyn Fn() -> Box<dyn Library>;
+
 /// What a run found.
 pub struct Found {
     pub index: u64,
@@ -21,7 +24,7 @@ pub struct Found {
 }
 
 /// The differences of one list, in this process.
-fn run_list<L: Library>(rig: &mut Rig<L>, list: &List) -> Result<(), Difference> {
+fn run_list(rig: &mut Rig, list: &List) -> Result<(), Difference> {
     within(SECONDS);
     let outcome = rig.run(list);
     within(0);
@@ -29,8 +32,8 @@ fn run_list<L: Library>(rig: &mut Rig<L>, list: &List) -> Result<(), Difference>
 }
 
 /// Runs lists until so many calls are made or one differs, which is then made smaller.
-pub fn search<L: Library>(
-    library: impl Fn() -> L,
+pub fn search(
+    library: Make,
     seed: u64,
     calls: u64,
     tally: &'static Tally,
@@ -57,12 +60,12 @@ pub fn search<L: Library>(
         (end != End::Code(0)).then(|| trial.step.load(Relaxed) as usize)
     };
     let list = shrink(&generate::list(seed, index), fails);
-    let end = describe(&library, &list);
+    let end = describe(library, &list);
     Err(Box::new(Found { index, list, end }))
 }
 
 /// How a list ends, in words.
-pub fn describe<L: Library>(library: &impl Fn() -> L, list: &List) -> String {
+pub fn describe(library: Make, list: &List) -> String {
     let tally = shared::<Tally>();
     let run = || run_list(&mut Rig::new(library(), tally), list);
     let step = || tally.step.load(Relaxed);

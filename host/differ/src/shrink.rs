@@ -1,7 +1,8 @@
 //! A smaller list that still shows a difference.
 
-use crate::list::{Lending, List, Step};
-use model::{name_at, path_ok, Answer, Call, Model};
+use crate::layout::without_pairs;
+use crate::list::{Bit, CarryOver, Lending, List, Step};
+use model::{name_at, path_ok, Answer, Call, Model, NUMBERS_END};
 use std::collections::{BTreeMap, BTreeSet};
 use std::time::{Duration, Instant};
 
@@ -16,6 +17,7 @@ pub fn shrink(list: &List, fails: impl FnMut(&List) -> Option<usize>) -> List {
     loop {
         let before = search.best.clone();
         search.fewer_steps();
+        search.smaller_arena();
         search.fewer_uploads();
         search.fewer_parts();
         search.closer_stamps();
@@ -69,29 +71,50 @@ impl<F: FnMut(&List) -> Option<usize>> Search<F> {
         }
     }
 
-    /// Without an upload and all that names it; the later ones move up.
+    /// Over an arena of the first of these lengths that will do, and with no number left where the
+    /// list starts late.
+    fn smaller_arena(&mut self) {
+        let before = self.best.arena;
+        for arena in [0, 1, 4, 16, 64, 256, 1024].into_iter().filter(|arena| *arena < before) {
+            let smaller = |list: &mut List| {
+                list.arena = arena;
+                let lent = list.steps.iter_mut().filter_map(Step::lending_mut);
+                let right = lent.filter(|lending| lending.arena == before);
+                right.for_each(|lending| lending.arena = arena);
+            };
+            let and_later = |list: &mut List| {
+                smaller(list);
+                list.next = NUMBERS_END;
+            };
+            let late = self.best.next > 1;
+            if self.accepts_with(smaller) || late && self.accepts_with(and_later) {
+                return;
+            }
+        }
+    }
+
+    /// Without an upload and all that names it; the later ones move up, or, where the list starts at
+    /// a later number, the earlier ones down.
     fn fewer_uploads(&mut self) {
         let mut i = 0;
         while i < self.best.steps.len() {
-            let gone = opened(&self.best)[i];
-            let without = |list: &mut List| {
-                list.steps.remove(i);
-                let gone = gone.unwrap_or(0);
-                list.steps.retain(|step| upload(step) != Some(gone));
-                for step in &mut list.steps {
-                    match step {
-                        Step::Call(Call::Part { upload, .. }, _)
-                        | Step::Call(Call::Commit { upload, .. }, _)
-                        | Step::Call(Call::Abort { upload }, _)
-                            if *upload > gone =>
-                        {
-                            *upload -= 1
-                        }
-                        _ => (),
-                    }
-                }
+            let Some(gone) = opened(&self.best)[i] else {
+                i += 1;
+                continue;
             };
-            if gone.is_none() || !self.accepts_with(without) {
+            let moved_up = |list: &mut List| {
+                without_upload(list, i, gone);
+                let named = list.steps.iter_mut().filter_map(upload_of);
+                named.filter(|upload| **upload > gone).for_each(|upload| *upload -= 1);
+            };
+            let moved_down = |list: &mut List| {
+                without_upload(list, i, gone);
+                list.next += 1;
+                let named = list.steps.iter_mut().filter_map(upload_of);
+                named.filter(|upload| **upload < gone).for_each(|upload| *upload += 1);
+            };
+            let late = self.best.next > 1;
+            if !self.accepts_with(moved_up) && !(late && self.accepts_with(moved_down)) {
                 i += 1;
             }
         }
@@ -181,19 +204,29 @@ fn opened(list: &List) -> Vec<Option<u32>> {
             Answer::Upload(number) => Some(number),
             _ => None,
         },
+        Step::CarryOver(_) => {
+            model = without_pairs(&model);
+            None
+        }
         _ => None,
     };
     list.steps.iter().map(answer).collect()
 }
 
 /// The upload that a step names.
-fn upload(step: &Step) -> Option<u32> {
+fn upload_of(step: &mut Step) -> Option<&mut u32> {
     match step {
         Step::Call(Call::Part { upload, .. }, _)
         | Step::Call(Call::Commit { upload, .. }, _)
-        | Step::Call(Call::Abort { upload }, _) => Some(*upload),
+        | Step::Call(Call::Abort { upload }, _) => Some(upload),
         _ => None,
     }
+}
+
+/// Takes out the step that opens an upload, and all that name it.
+fn without_upload(list: &mut List, step: usize, gone: u32) {
+    list.steps.remove(step);
+    list.steps.retain_mut(|step| upload_of(step).is_none_or(|upload| *upload != gone));
 }
 
 /// The stamp of a step where sweeps compare it.
@@ -218,7 +251,7 @@ fn part(step: &Step) -> Option<(u32, u16)> {
 fn paths(step: &mut Step) -> Vec<&mut Vec<u8>> {
     let Step::Call(call, _) = step else { return Vec::new() };
     match call {
-        Call::Put { path, .. } | Call::Get { path, .. } | Call::Head { path } => vec![path],
+        Call::Put { path, .. } | Call::Get { path, .. } | Call::Head { path, .. } => vec![path],
         Call::Delete { path } | Call::Initiate { path, .. } => vec![path],
         Call::Copy { source, destination, .. } => vec![source, destination],
         _ => Vec::new(),
@@ -261,16 +294,28 @@ fn laid_apart<'a>(
     (apart, moved)
 }
 
+/// The bits without one of them.
+fn fewer_bits(bits: &[Bit]) -> Vec<Vec<Bit>> {
+    (0..bits.len()).map(|i| [&bits[..i], &bits[i + 1..]].concat()).collect()
+}
+
 /// Plainer forms of a step, each strictly plainer than it.
 fn plainer(step: &Step, arena: usize) -> Vec<Step> {
     match step {
-        Step::Flip(bits) if bits.len() > 1 => (0..bits.len())
-            .map(|i| {
-                let mut fewer = bits.clone();
-                fewer.remove(i);
-                Step::Flip(fewer)
-            })
-            .collect(),
+        Step::Flip(bits) if bits.len() > 1 => {
+            fewer_bits(bits).into_iter().map(Step::Flip).collect()
+        }
+        Step::CarryOver(made) => {
+            let right = CarryOver::right(arena, 0);
+            let mut forms = vec![
+                CarryOver { lending: right.lending, ..made.clone() },
+                CarryOver { former: right.former, ..made.clone() },
+                CarryOver { fill: 0, ..made.clone() },
+            ];
+            let fewer = fewer_bits(&made.bits).into_iter();
+            forms.extend(fewer.map(|bits| CarryOver { bits, ..made.clone() }));
+            forms.into_iter().filter(|form| form != made).map(Step::CarryOver).collect()
+        }
         Step::Call(call, lending) => {
             let right = Lending::right(arena);
             let mut steps = Vec::new();
@@ -286,10 +331,11 @@ fn plainer(step: &Step, arena: usize) -> Vec<Step> {
     }
 }
 
-/// The call with shorter or zeroed data, answer buffer, prefix, suffix or names, fewer places, fewer
-/// uploads to sweep, or a small stamp.
+/// The call with shorter or zeroed data, answer buffers, prefix, suffix or names, fewer places, fewer
+/// or plainer pairs, fewer uploads to sweep, or a small stamp.
 fn plainer_calls(call: &Call) -> Vec<Call> {
     let mut calls = plainer_deletes(call);
+    calls.extend(plainer_pairs(call));
     if let Call::Sweep { stamp, most } = *call {
         let fewer = [0, 1, most.clamp(1, 17) - 1].into_iter().filter(|fewer| *fewer < most);
         calls.extend(fewer.map(|most| Call::Sweep { stamp, most }));
@@ -341,11 +387,75 @@ fn plainer_deletes(call: &Call) -> Vec<Call> {
     calls
 }
 
+/// PUT or INITIATE without a pair, or with a shorter key or value; malformed bytes that are shorter.
+fn plainer_pairs(call: &Call) -> Vec<Call> {
+    let bytes = match call {
+        Call::Put { pairs, .. } | Call::Initiate { pairs, .. } => pairs,
+        _ => return Vec::new(),
+    };
+    let with = |plainer: Vec<u8>| {
+        let mut call = call.clone();
+        if let Call::Put { pairs, .. } | Call::Initiate { pairs, .. } = &mut call {
+            *pairs = plainer;
+        }
+        call
+    };
+    let (pairs, cut) = split_pairs(bytes);
+    let joined = |pairs: &[Pair]| {
+        let counted = |bytes: &[u8]| [&[bytes.len() as u8], bytes].concat();
+        let bytes = pairs.iter().flat_map(|(key, value)| [counted(key), counted(value)].concat());
+        bytes.chain(cut.iter().copied()).collect()
+    };
+    let mut forms: Vec<Vec<u8>> = Vec::new();
+    if !bytes.is_empty() {
+        forms.push(Vec::new());
+    }
+    if !cut.is_empty() {
+        forms.push(bytes[..bytes.len() - 1].to_vec());
+    }
+    for (i, (key, value)) in pairs.iter().enumerate() {
+        forms.push(joined(&[&pairs[..i], &pairs[i + 1..]].concat()));
+        let mut shorter = |key, value| {
+            let mut plainer = pairs.clone();
+            plainer[i] = (key, value);
+            forms.push(joined(&plainer));
+        };
+        for length in [0, value.len() / 2, value.len().saturating_sub(1)] {
+            if length < value.len() {
+                shorter(key, &value[..length]);
+            }
+        }
+        for length in [1, key.len().saturating_sub(1)] {
+            if length < key.len() {
+                shorter(&key[..length], value);
+            }
+        }
+    }
+    forms.into_iter().map(with).collect()
+}
+
+type Pair<'a> = (&'a [u8], &'a [u8]);
+
+/// The pairs in these bytes, and what is cut off after them.
+fn split_pairs(mut bytes: &[u8]) -> (Vec<Pair<'_>>, &[u8]) {
+    let counted = |bytes: &[u8]| bytes.first().map_or(0, |length| 1 + usize::from(*length));
+    let mut pairs = Vec::new();
+    while !bytes.is_empty() {
+        let middle = counted(bytes);
+        let Some(rest) = bytes.get(middle..).filter(|rest| !rest.is_empty()) else { break };
+        let Some(value) = rest.get(1..counted(rest)) else { break };
+        pairs.push((&bytes[1..middle], value));
+        bytes = &rest[1 + value.len()..];
+    }
+    (pairs, bytes)
+}
+
 /// The bytes of a call that may be of any length.
 fn loose_bytes(call: &mut Call) -> Vec<&mut Vec<u8>> {
     match call {
         Call::Put { data, .. } | Call::Part { data, .. } => vec![data],
-        Call::Get { buffer, .. } => vec![buffer],
+        Call::Get { buffer, pairs_buffer, .. } => vec![buffer, pairs_buffer],
+        Call::Head { pairs_buffer, .. } => vec![pairs_buffer],
         Call::DeleteObjects { names, buffer, .. } => vec![buffer, names],
         Call::List { prefix, suffix, buffer } => vec![buffer, prefix, suffix],
         Call::Uploads { prefix, buffer } => vec![buffer, prefix],

@@ -1,10 +1,10 @@
 //! How often each verb gave each number.
 
-use model::Call;
+use model::{Call, MOST_PAIRS};
 use std::fmt;
 use std::sync::atomic::{AtomicU64, Ordering::Relaxed};
 
-const VERBS: [&str; 14] = [
+const VERBS: [&str; 15] = [
     "fresh",
     "put",
     "get",
@@ -19,28 +19,34 @@ const VERBS: [&str; 14] = [
     "sweep",
     "uploads",
     "delete_objects",
+    "carry_over",
 ];
 
 /// The numbers that documents 01 and 02 allow each verb, in the order of VERBS.
-const ALLOWED: [&[usize]; 14] = [
+const ALLOWED: [&[usize]; 15] = [
     &[0, 1, 2],
     &[0, 1, 2, 4, 5],
     &[0, 1, 2, 3, 7],
-    &[0, 1, 2, 3],
+    &[0, 1, 2, 3, 7],
     &[0, 1, 2, 3],
     &[0, 1, 2, 3, 4, 5],
     &[0, 1, 7],
-    &[0, 1, 2, 4, 6],
+    &[0, 1, 2, 4, 5, 6],
     &[0, 1, 2, 4, 5],
     &[0, 1, 2, 4],
     &[0, 1, 2],
     &[0, 1, 2],
     &[0, 1, 7],
     &[0, 1, 2, 7, 8],
+    &[0, 1],
 ];
+const CARRY_OVER: usize = 14;
 
 /// Those of a place of DELETE_OBJECTS.
 const ALLOWED_PLACE: [usize; 3] = [0, 2, 3];
+
+/// Which buffer of a GET was short.
+const SHORT: [&str; 3] = ["first", "second", "both"];
 
 /// Shared between processes; zeroed memory is an empty one.
 pub struct Tally {
@@ -48,10 +54,13 @@ pub struct Tally {
     /// The step under way in the list under way.
     pub step: AtomicU64,
     pub calls: AtomicU64,
-    answers: [[AtomicU64; 9]; 14],
+    answers: [[AtomicU64; 9]; 15],
     places: [AtomicU64; 4],
     /// Sweeps that aborted none and that aborted some, each without and with more due.
     sweeps: [[AtomicU64; 2]; 2],
+    /// GETs and HEADs that answered so many pairs.
+    pairs: [AtomicU64; MOST_PAIRS + 1],
+    short: [AtomicU64; 3],
     /// Damaged memory that was no longer whole, and that still was.
     pub broken: AtomicU64,
     pub whole: AtomicU64,
@@ -83,6 +92,12 @@ impl Tally {
         self.answers[verb(call)][number as usize].fetch_add(1, Relaxed);
     }
 
+    /// Former tables were carried over or not.
+    pub fn count_carry_over(&self, number: u32) {
+        self.calls.fetch_add(1, Relaxed);
+        self.answers[CARRY_OVER][number as usize].fetch_add(1, Relaxed);
+    }
+
     /// The places of a DELETE_OBJECTS had these results.
     pub fn count_places(&self, results: &[u8]) {
         for result in results {
@@ -95,7 +110,19 @@ impl Tally {
         self.sweeps[usize::from(count > 0)][usize::from(more)].fetch_add(1, Relaxed);
     }
 
-    /// The numbers that a verb or a place may give and the kinds of sweeps that did not occur.
+    /// A GET or a HEAD answered so many pairs.
+    pub fn count_pairs(&self, count: u16) {
+        self.pairs[usize::from(count)].fetch_add(1, Relaxed);
+    }
+
+    /// One buffer of a GET was short, or both.
+    pub fn count_short(&self, first: bool, second: bool) {
+        let kind = if first && second { 2 } else { usize::from(second) };
+        self.short[kind].fetch_add(1, Relaxed);
+    }
+
+    /// What did not occur: numbers that a verb or a place may give, kinds of sweeps, counts of pairs,
+    /// short buffers.
     pub fn missing(&self) -> Vec<String> {
         let mut missing = Vec::new();
         for (verb, numbers) in ALLOWED.iter().enumerate() {
@@ -115,6 +142,16 @@ impl Tally {
                 if count.load(Relaxed) == 0 {
                     missing.push(format!("sweep of {aborted} with {more} due"));
                 }
+            }
+        }
+        for (count, times) in self.pairs.iter().enumerate() {
+            if times.load(Relaxed) == 0 {
+                missing.push(format!("{count} pairs"));
+            }
+        }
+        for (kind, times) in SHORT.iter().zip(&self.short) {
+            if times.load(Relaxed) == 0 {
+                missing.push(format!("get with a short buffer: {kind}"));
             }
         }
         missing
@@ -139,6 +176,12 @@ impl fmt::Display for Tally {
             let (no_more, more) = (no_more.load(Relaxed), more.load(Relaxed));
             write!(f, "\nsweeps of {aborted}: {no_more} with no more due, {more} with more due")?;
         }
+        let numbers = |counts: &[AtomicU64]| {
+            let texts: Vec<String> = counts.iter().map(|n| n.load(Relaxed).to_string()).collect();
+            texts.join(" ")
+        };
+        write!(f, "\nget and head by pairs, 0 to 8: {}", numbers(&self.pairs))?;
+        write!(f, "\nget with a short buffer, first, second, both: {}", numbers(&self.short))?;
         write!(
             f,
             "\ndamaged memory: {} times no longer whole, {} times whole",

@@ -24,12 +24,13 @@ impl Memory {
     fn call(&mut self, call: &Call) -> Reply {
         let (t, a) = (&mut self.tables, &mut self.arena);
         let mut buffer = call.buffer().to_vec();
+        let mut pairs_buffer = call.pairs_buffer().to_vec();
         let mut reply = [0xa5; REPLY_LEN];
-        let (b, r) = (&mut buffer, &mut reply);
+        let (b, p, r) = (&mut buffer, &mut pairs_buffer, &mut reply);
         let result = match call {
-            Call::Put { stamp, path, data } => slices::put(t, a, *stamp, path, data),
-            Call::Get { path, .. } => slices::get(t, a, path, b, r),
-            Call::Head { path } => slices::head(t, a, path, r),
+            Call::Put { stamp, path, data, pairs } => slices::put(t, a, *stamp, path, data, pairs),
+            Call::Get { path, .. } => slices::get(t, a, path, b, p, r),
+            Call::Head { path, .. } => slices::head(t, a, path, p, r),
             Call::Delete { path } => slices::delete(t, a, path),
             Call::DeleteObjects { names, places, .. } => {
                 slices::delete_objects(t, a, names, places, b)
@@ -38,7 +39,7 @@ impl Memory {
                 slices::copy(t, a, *stamp, source, destination)
             }
             Call::List { prefix, suffix, .. } => slices::list(t, a, prefix, suffix, b, r),
-            Call::Initiate { stamp, path } => slices::initiate(t, a, *stamp, path, r),
+            Call::Initiate { stamp, path, pairs } => slices::initiate(t, a, *stamp, path, pairs, r),
             Call::Part { upload, part, data } => slices::part(t, a, *upload, *part, data, r),
             Call::Commit { upload, list } => slices::commit(t, a, *upload, list),
             Call::Abort { upload } => slices::abort(t, a, *upload),
@@ -51,6 +52,8 @@ impl Memory {
                 length: number(&reply, 8, 4) as u32,
                 created: number(&reply, 0, 8),
                 etag: etag(&reply),
+                pairs: number(&reply, 44, 2) as u16,
+                pairs_bytes: number(&reply, 46, 2) as u16,
             },
             Call::Initiate { .. } => Answer::Upload(number(&reply, 12, 4) as u32),
             Call::Part { .. } => Answer::Etag(etag(&reply)),
@@ -63,7 +66,7 @@ impl Memory {
             }
             _ => Answer::Nothing,
         };
-        Reply { number: result, answer, buffer }
+        Reply { number: result, answer, buffer, pairs_buffer }
     }
 }
 
@@ -75,19 +78,23 @@ fn cases_of_the_documents() {
     }
 }
 
-/// The last numbers; 4 where 16 uploads are open, 6 where fewer are.
+/// The last numbers; 4 where 16 uploads are open, 6 where fewer are, and 5 for pairs in no arena.
 #[test]
 fn numbers_are_used_up() {
     let mut memory = Memory::fresh(0);
     let first = NUMBERS_END - 16;
     memory.tables[NEXT_AT..NEXT_AT + 8].copy_from_slice(&first.to_le_bytes());
-    let initiate = Call::Initiate { stamp: 1, path: b"r".to_vec() };
+    let with = |pairs: &[u8]| Call::Initiate { stamp: 1, path: b"r".to_vec(), pairs: pairs.into() };
+    let initiate = with(&[]);
     for number in first..NUMBERS_END {
         assert_eq!(memory.call(&initiate).answer, Answer::Upload(number as u32));
     }
     assert_eq!(memory.call(&initiate).number, 4);
+    assert_eq!(memory.call(&with(b"\x01k\0")).number, 4);
     assert_eq!(memory.call(&Call::Abort { upload: u32::MAX }).number, 0);
     assert_eq!(memory.call(&initiate).number, 6);
+    assert_eq!(memory.call(&with(b"\x01k\0")).number, 5);
+    assert_eq!(memory.call(&with(b"\x01K\0")).number, 2);
 }
 
 /// Etags of PUT, PART and COPY against md5sum(1), around the edges of MD5's blocks.
@@ -114,17 +121,19 @@ fn digests_as_md5sum_says() {
         Answer::Etag(etag @ Etag::Plain(_)) => etag.text(),
         other => panic!("{other:?}"),
     };
-    let head = |path: &[u8]| Call::Head { path: path.to_vec() };
+    let head = |path: &[u8]| Call::Head { path: path.to_vec(), pairs_buffer: Vec::new() };
     for (data, sum) in messages.iter().zip(sums) {
         let mut memory = Memory::fresh(2 * data.len().min(524_288));
-        let put = Call::Put { stamp: 1, path: b"a".to_vec(), data: data.clone() };
+        let (path, pairs) = (b"a".to_vec(), Vec::new());
+        let initiate = Call::Initiate { stamp: 1, path: path.clone(), pairs: pairs.clone() };
+        let put = Call::Put { stamp: 1, path, data: data.clone(), pairs };
         assert_eq!(memory.call(&put).number, 0);
         assert_eq!(text_of(memory.call(&head(b"a")).answer), sum, "put of {}", data.len());
         let copy = Call::Copy { stamp: 1, source: b"a".to_vec(), destination: b"a".to_vec() };
         assert_eq!(memory.call(&copy).number, 0);
         assert_eq!(text_of(memory.call(&head(b"a")).answer), sum, "copy of {}", data.len());
         assert_eq!(memory.call(&Call::Delete { path: b"a".to_vec() }).number, 0);
-        assert_eq!(memory.call(&Call::Initiate { stamp: 1, path: b"a".to_vec() }).number, 0);
+        assert_eq!(memory.call(&initiate).number, 0);
         let part = memory.call(&Call::Part { upload: 1, part: 1, data: data.clone() });
         assert_eq!(text_of(part.answer), sum, "part of {}", data.len());
     }

@@ -19,9 +19,9 @@ fn plain_etag_holds(store: &Store, path: &[u8]) -> bool {
 #[test]
 fn a_torn_save_with_plain_etags() {
     let mut store = Store::fresh(16).unwrap();
-    store.put(5, b"b", b"rye flour").unwrap();
+    store.put(5, b"b", b"rye flour", &[]).unwrap();
     let before = brought_back(&store, &store);
-    store.put(6, b"a", b"salt").unwrap();
+    store.put(6, b"a", b"salt", &[]).unwrap();
     assert!(plain_etag_holds(&store, b"a") && plain_etag_holds(&store, b"b"));
 
     let torn = brought_back(&store, &before);
@@ -33,17 +33,17 @@ fn a_torn_save_with_plain_etags() {
 #[test]
 fn a_torn_save_with_a_joined_etag() {
     let mut store = Store::fresh(16).unwrap();
-    let upload = store.initiate(5, b"b").unwrap();
+    let upload = store.initiate(5, b"b", &[]).unwrap();
     store.part(upload, 1, b"rye ").unwrap();
     store.part(upload, 2, b"flour").unwrap();
     store.commit(upload, &[1, 2]).unwrap();
     let before = brought_back(&store, &store);
-    store.put(6, b"a", b"salt").unwrap();
+    store.put(6, b"a", b"salt", &[]).unwrap();
 
     // The store gives the same metadata for both, and the digest of all the data is no help.
     let torn = brought_back(&store, &before);
     let (good, damaged) = (store.get(b"b").unwrap(), torn.get(b"b").unwrap());
-    assert_eq!((good.0, good.1.as_slice()), (damaged.0, b"rye flour".as_slice()));
+    assert_eq!((&good.0, good.1.as_slice()), (&damaged.0, b"rye flour".as_slice()));
     assert_eq!(damaged.1, b"flour\0\0\0\0");
     assert!(!plain_etag_holds(&store, b"b"));
 
@@ -60,8 +60,8 @@ fn a_torn_save_with_a_joined_etag() {
 #[test]
 fn what_plain_etags_do_not_show() {
     let mut store = Store::fresh(16).unwrap();
-    store.put(5, b"a", b"salt").unwrap();
-    store.put(6, b"b", b"rye").unwrap();
+    store.put(5, b"a", b"salt", &[]).unwrap();
+    store.put(6, b"b", b"rye", &[]).unwrap();
     let (tables, arena) = store.memory();
     let mut changed = tables.to_vec();
     // The object's path and its stamp (docs/LAYOUT.md): a row of 36 bytes from byte 18 on, then the path.

@@ -1,21 +1,23 @@
 //! A call with its arguments as values, and what is compared of its outcome.
 
 use crate::etag::Etag;
+use crate::pairs::listed;
 use std::fmt;
 
-/// One of the calls. `buffer` is the answer buffer, or that of DELETE_OBJECTS' results, with the
-/// bytes it holds beforehand; `list` is a part list as 16-bit numbers, `places` are starts and
-/// lengths of names as 32-bit numbers, low byte first.
+/// One of the calls. `buffer` is the answer buffer, or that of DELETE_OBJECTS' results, and
+/// `pairs_buffer` the second answer buffer, each with the bytes it holds beforehand; `list` is a
+/// part list as 16-bit numbers, `places` are starts and lengths of names as 32-bit numbers, low byte
+/// first; `pairs` has for each pair key length, key, value length, value.
 #[derive(Clone, PartialEq, Eq)]
 pub enum Call {
-    Put { stamp: u64, path: Vec<u8>, data: Vec<u8> },
-    Get { path: Vec<u8>, buffer: Vec<u8> },
-    Head { path: Vec<u8> },
+    Put { stamp: u64, path: Vec<u8>, data: Vec<u8>, pairs: Vec<u8> },
+    Get { path: Vec<u8>, buffer: Vec<u8>, pairs_buffer: Vec<u8> },
+    Head { path: Vec<u8>, pairs_buffer: Vec<u8> },
     Delete { path: Vec<u8> },
     DeleteObjects { names: Vec<u8>, places: Vec<u8>, buffer: Vec<u8> },
     Copy { stamp: u64, source: Vec<u8>, destination: Vec<u8> },
     List { prefix: Vec<u8>, suffix: Vec<u8>, buffer: Vec<u8> },
-    Initiate { stamp: u64, path: Vec<u8> },
+    Initiate { stamp: u64, path: Vec<u8>, pairs: Vec<u8> },
     Part { upload: u32, part: u16, data: Vec<u8> },
     Commit { upload: u32, list: Vec<u8> },
     Abort { upload: u32 },
@@ -32,31 +34,62 @@ impl Call {
             _ => &[],
         }
     }
+
+    /// The second buffer beforehand; GET and HEAD have one.
+    pub fn pairs_buffer(&self) -> &[u8] {
+        match self {
+            Call::Get { pairs_buffer, .. } | Call::Head { pairs_buffer, .. } => pairs_buffer,
+            _ => &[],
+        }
+    }
 }
 
 /// Metadata, numbers and counts.
 #[derive(Clone, Debug, PartialEq, Eq)]
 pub enum Answer {
     Nothing,
-    Metadata { length: u32, created: u64, etag: Etag },
+    /// With how many pairs GET or HEAD wrote, and how many bytes.
+    Metadata {
+        length: u32,
+        created: u64,
+        etag: Etag,
+        pairs: u16,
+        pairs_bytes: u16,
+    },
     Etag(Etag),
     Upload(u32),
-    Written { records: u32, bytes: u32 },
-    Swept { count: u32, more: bool },
+    Written {
+        records: u32,
+        bytes: u32,
+    },
+    Swept {
+        count: u32,
+        more: bool,
+    },
 }
 
-/// The result number, what is answered, and the buffer afterwards.
+/// The result number, what is answered, and both buffers afterwards.
 #[derive(Clone, Debug, PartialEq, Eq)]
 pub struct Reply {
     pub number: u32,
     pub answer: Answer,
     pub buffer: Vec<u8>,
+    pub pairs_buffer: Vec<u8>,
 }
 
 impl Reply {
-    /// A refusal answers its number alone and leaves the buffer.
-    pub fn refused(number: u32, buffer: &[u8]) -> Reply {
-        Reply { number, answer: Answer::Nothing, buffer: buffer.to_vec() }
+    /// A refusal answers its number alone and leaves the buffers.
+    pub fn refused(number: u32, call: &Call) -> Reply {
+        let mut reply = Reply::accepted(Answer::Nothing, call, &[], &[]);
+        reply.number = number;
+        reply
+    }
+
+    /// These bytes at the front of each buffer.
+    pub fn accepted(answer: Answer, call: &Call, bytes: &[u8], pairs: &[u8]) -> Reply {
+        let over = |written: &[u8], before: &[u8]| [written, &before[written.len()..]].concat();
+        let (buffer, pairs_buffer) = (over(bytes, call.buffer()), over(pairs, call.pairs_buffer()));
+        Reply { number: 0, answer, buffer, pairs_buffer }
     }
 }
 
@@ -89,17 +122,31 @@ fn places_text(places: &[u8]) -> String {
     texts.join(" ")
 }
 
-/// Numbers in decimal, bytes in hexadecimal, the buffer by its length.
+/// Each pair as a bracket of two quoted forms.
+fn pairs_text(pairs: &[u8]) -> String {
+    match listed(pairs) {
+        Some(pairs) => {
+            let text = |(key, value): &(&[u8], &[u8])| format!(" ({} {})", Hex(key), Hex(value));
+            pairs.iter().map(text).collect()
+        }
+        None => format!(" malformed {}", Hex(pairs)),
+    }
+}
+
+/// Numbers in decimal, bytes in hexadecimal, the buffers by their lengths.
 impl fmt::Display for Call {
     fn fmt(&self, f: &mut fmt::Formatter) -> fmt::Result {
         match self {
-            Call::Put { stamp, path, data } => {
-                write!(f, "(put {stamp} {} {})", Hex(path), Hex(data))
+            Call::Put { stamp, path, data, pairs } => {
+                write!(f, "(put {stamp} {} {}{})", Hex(path), Hex(data), pairs_text(pairs))
             }
-            Call::Get { path, buffer } => {
-                write!(f, "(get {}) into {} bytes", Hex(path), buffer.len())
+            Call::Get { path, buffer, pairs_buffer } => {
+                let (room, pairs_room) = (buffer.len(), pairs_buffer.len());
+                write!(f, "(get {}) into {room} and {pairs_room} bytes", Hex(path))
             }
-            Call::Head { path } => write!(f, "(head {})", Hex(path)),
+            Call::Head { path, pairs_buffer } => {
+                write!(f, "(head {}) into {} bytes", Hex(path), pairs_buffer.len())
+            }
             Call::Delete { path } => write!(f, "(delete {})", Hex(path)),
             Call::DeleteObjects { names, places, buffer } => {
                 let (names, places, room) = (Hex(names), places_text(places), buffer.len());
@@ -111,7 +158,9 @@ impl fmt::Display for Call {
             Call::List { prefix, suffix, buffer } => {
                 write!(f, "(list {} {}) into {} bytes", Hex(prefix), Hex(suffix), buffer.len())
             }
-            Call::Initiate { stamp, path } => write!(f, "(initiate {stamp} {})", Hex(path)),
+            Call::Initiate { stamp, path, pairs } => {
+                write!(f, "(initiate {stamp} {}{})", Hex(path), pairs_text(pairs))
+            }
             Call::Part { upload, part, data } => {
                 write!(f, "(part {upload} {part} {})", Hex(data))
             }

@@ -51,16 +51,35 @@ fn joined(text: &str, count: u16) -> Etag {
     Etag::Joined(digest(text), count)
 }
 
+/// Pairs as a call takes and writes them.
+fn pairs(list: &[(&str, &str)]) -> Vec<u8> {
+    let counted = |text: &str| [&[text.len() as u8], text.as_bytes()].concat();
+    list.iter().flat_map(|(key, value)| [counted(key), counted(value)].concat()).collect()
+}
+
 fn put(stamp: u64, path: &str, data: &str) -> Call {
-    Call::Put { stamp, path: path.into(), data: data.into() }
+    put_with(stamp, path, data, &[])
+}
+
+fn put_with(stamp: u64, path: &str, data: &str, pairs: &[u8]) -> Call {
+    Call::Put { stamp, path: path.into(), data: data.into(), pairs: pairs.into() }
 }
 
 fn get(path: &str) -> Call {
-    Call::Get { path: path.into(), buffer: vec![UNTOUCHED; 8] }
+    get_into(path, 8, 5)
+}
+
+fn get_into(path: &str, room: usize, pairs_room: usize) -> Call {
+    let (buffer, pairs_buffer) = (vec![UNTOUCHED; room], vec![UNTOUCHED; pairs_room]);
+    Call::Get { path: path.into(), buffer, pairs_buffer }
 }
 
 fn head(path: &str) -> Call {
-    Call::Head { path: path.into() }
+    head_into(path, 5)
+}
+
+fn head_into(path: &str, pairs_room: usize) -> Call {
+    Call::Head { path: path.into(), pairs_buffer: vec![UNTOUCHED; pairs_room] }
 }
 
 fn delete(path: &str) -> Call {
@@ -82,7 +101,11 @@ fn list(prefix: &str, suffix: &str, room: usize) -> Call {
 }
 
 fn initiate(stamp: u64, path: &str) -> Call {
-    Call::Initiate { stamp, path: path.into() }
+    initiate_with(stamp, path, &[])
+}
+
+fn initiate_with(stamp: u64, path: &str, pairs: &[u8]) -> Call {
+    Call::Initiate { stamp, path: path.into(), pairs: pairs.into() }
 }
 
 fn part(upload: u32, part: u16, data: &str) -> Call {
@@ -112,9 +135,13 @@ fn answers(call: Call, answer: Answer) -> (Call, Reply) {
 
 /// The call is accepted with this answer and these bytes at the front of its buffer.
 fn writes(call: Call, answer: Answer, bytes: &[u8]) -> (Call, Reply) {
-    let mut buffer = call.buffer().to_vec();
-    buffer[..bytes.len()].copy_from_slice(bytes);
-    (call, Reply { number: 0, answer, buffer })
+    writes_both(call, answer, bytes, &[])
+}
+
+/// The same, and these at the front of its second buffer.
+fn writes_both(call: Call, answer: Answer, bytes: &[u8], pairs: &[u8]) -> (Call, Reply) {
+    let reply = Reply::accepted(answer, &call, bytes, pairs);
+    (call, reply)
 }
 
 fn done(call: Call) -> (Call, Reply) {
@@ -122,7 +149,7 @@ fn done(call: Call) -> (Call, Reply) {
 }
 
 fn refused(call: Call, number: u32) -> (Call, Reply) {
-    let reply = Reply::refused(number, call.buffer());
+    let reply = Reply::refused(number, &call);
     (call, reply)
 }
 
@@ -132,7 +159,16 @@ fn deletes(names: &str, places: &[(u32, u32)], results: &[u8]) -> (Call, Reply) 
 }
 
 fn metadata(length: u32, created: u64, etag: Etag) -> Answer {
-    Answer::Metadata { length, created, etag }
+    Answer::Metadata { length, created, etag, pairs: 0, pairs_bytes: 0 }
+}
+
+/// The object has these pairs, in this order, for which there is just room.
+fn has_pairs(path: &str, found: Answer, list: &[(&str, &str)]) -> (Call, Reply) {
+    let (bytes, mut found) = (pairs(list), found);
+    if let Answer::Metadata { pairs, pairs_bytes, .. } = &mut found {
+        (*pairs, *pairs_bytes) = (list.len() as u16, bytes.len() as u16);
+    }
+    writes_both(head_into(path, bytes.len()), found, &[], &bytes)
 }
 
 fn gets(path: &str, data: &str, created: u64, etag: Etag) -> (Call, Reply) {
@@ -189,6 +225,7 @@ pub fn all() -> Vec<Case> {
     cases.extend(ceilings());
     cases.extend(many_deleted());
     cases.extend(swept());
+    cases.extend(paired());
     cases
 }
 
@@ -315,7 +352,10 @@ pub fn unmarked() -> Vec<Case> {
             ]
         }),
         day("no UTF-8", {
-            let put = |path: &[u8]| Call::Put { stamp: 1, path: path.into(), data: Vec::new() };
+            let put = |path: &[u8]| {
+                let (data, pairs) = (Vec::new(), Vec::new());
+                Call::Put { stamp: 1, path: path.into(), data, pairs }
+            };
             let cut = |letter: &[u8]| [&[b'p'; 128][..128 - letter.len()], letter].concat();
             let bad: [&[u8]; 12] = [
                 b"\x80",
@@ -372,9 +412,9 @@ pub fn unmarked() -> Vec<Case> {
         day("LIST after M5, more", vec![m5(), writes(list("", "", 50), one, &listing)]),
         day("LIST after M5, 46 bytes", vec![m5(), refused(list("", "", 46), 7)]),
         day("GET into a buffer one byte short", {
-            let get = |room| Call::Get { path: b"a".to_vec(), buffer: vec![UNTOUCHED; room] };
             let found = metadata(3, 5, plain(OF_XYZ));
-            vec![m5(), refused(get(2), 7), writes(get(3), found, b"xyz")]
+            let (short, fits) = (get_into("a", 2, 0), get_into("a", 3, 0));
+            vec![m5(), refused(short, 7), writes(fits, found, b"xyz")]
         }),
         day("UPLOADS into a buffer one byte short", {
             vec![opens(7, "r", 1), refused(uploads(15), 7), one_upload(1, "r", 7, 0)]
@@ -811,4 +851,427 @@ pub fn swept() -> Vec<Case> {
         },
     ]);
     cases
+}
+
+/// Two pairs beside a record: 24 bytes of keys and values, 28 with the lengths.
+const RECORD: [(&str, &str); 2] = [("baker", "Ayla"), ("flour-lot", "R-4711")];
+const RECORD_BYTES: &[u8] = b"\x05baker\x04Ayla\x09flour-lot\x06R-4711";
+
+/// Document 02's E6.
+pub fn paired() -> Vec<Case> {
+    let mut cases = pairs_judged();
+    cases.extend(pairs_kept());
+    cases.extend(pairs_held());
+    cases
+}
+
+/// Both calls that take pairs are refused by 2.
+fn both_refused(pairs: &[u8]) -> [(Call, Reply); 2] {
+    [put_with(5, "a", "xyz", pairs), initiate_with(5, "a", pairs)].map(|call| refused(call, 2))
+}
+
+/// PUT takes the pairs and keeps these.
+fn keeps(taken: &[u8], kept: &[(&str, &str)]) -> [(Call, Reply); 2] {
+    let found = metadata(3, 5, plain(OF_XYZ));
+    [done(put_with(5, "a", "xyz", taken)), has_pairs("a", found, kept)]
+}
+
+/// Which pairs a request may have.
+fn pairs_judged() -> Vec<Case> {
+    let with_room = |name, steps| Case { name, arena: 4096, steps };
+    let letters = ["a", "b", "c", "d", "e", "f", "g", "h", "i", "j"];
+    let first = |count: usize| letters[..count].iter().map(|key| (*key, "v")).collect::<Vec<_>>();
+    // The first so many letters, and these pairs after so many of them.
+    let among = |count: usize, at: usize, more: &[(&str, &str)]| {
+        let mut list = first(count);
+        list.splice(at..at, more.iter().copied());
+        pairs(&list)
+    };
+    let system = [("size", "3"), ("created", "5"), ("etag", "")];
+    let long = "k".repeat(33);
+    let text = "v".repeat(255);
+    vec![
+        with_room("up to 8 pairs", {
+            let mut steps = Vec::new();
+            for count in 0..=8 {
+                steps.extend(keeps(&pairs(&first(count)), &first(count)));
+            }
+            steps.extend(both_refused(&pairs(&first(9))));
+            steps.extend(both_refused(&pairs(&first(10))));
+            steps.push(has_pairs("a", metadata(3, 5, plain(OF_XYZ)), &first(8)));
+            steps.push(answers(initiate_with(7, "r", &pairs(&first(8))), Answer::Upload(1)));
+            steps
+        }),
+        with_room("nine pairs, one of them with a system key", {
+            let mut steps = Vec::new();
+            for (i, dropped) in system.iter().enumerate() {
+                steps.extend(keeps(&among(8, 4 * i, &[*dropped]), &first(8)));
+                steps.extend(both_refused(&among(9, 3 * i, &[*dropped])));
+            }
+            steps.extend(keeps(&among(8, 3, &system), &first(8)));
+            steps.extend(keeps(&pairs(&system), &[]));
+            let opened = initiate_with(7, "r", &among(8, 8, &system));
+            steps.push(answers(opened, Answer::Upload(1)));
+            steps
+        }),
+        with_room("a system key twice", {
+            let twice = [("size", "3"), ("size", "4"), ("size", "3")];
+            let mut steps: Vec<(Call, Reply)> = keeps(&pairs(&twice), &[]).into();
+            steps.extend(keeps(&among(8, 2, &twice), &first(8)));
+            steps
+        }),
+        with_room("a system key with a bad value", {
+            let bad = ["\u{1f}", "\u{7f}", "a\nb", &text[..65]];
+            let mut steps = Vec::new();
+            for value in bad {
+                for (key, _) in system {
+                    steps.extend(both_refused(&pairs(&[(key, value)])));
+                    steps.extend(both_refused(&among(2, 1, &[(key, value)])));
+                }
+            }
+            steps
+        }),
+        with_room("keys that are much like a system key", {
+            let like = [("created-at", "1"), ("e-tag", "2"), ("etags", "3"), ("siz", "4")];
+            let mut steps: Vec<(Call, Reply)> = keeps(&pairs(&like), &like).into();
+            steps.extend(both_refused(&pairs(&[("Size", "3")])));
+            steps.extend(both_refused(&pairs(&[("size ", "3")])));
+            steps
+        }),
+        with_room("the length of a key", {
+            let mut steps = Vec::new();
+            for length in [1, 2, 31, 32] {
+                let one = [(&long[..length], "v")];
+                steps.extend(keeps(&pairs(&one), &one));
+            }
+            steps.extend(both_refused(&pairs(&[("", "v")])));
+            steps.extend(both_refused(&pairs(&[("", "")])));
+            steps.extend(both_refused(&pairs(&[(&long, "v")])));
+            steps.extend(both_refused(&pairs(&[(&text, "v")])));
+            steps
+        }),
+        with_room("the length of a value", {
+            let mut steps = Vec::new();
+            for length in [0, 1, 63, 64] {
+                let one = [("k", &text[..length])];
+                steps.extend(keeps(&pairs(&one), &one));
+            }
+            steps.extend(both_refused(&pairs(&[("k", &text[..65])])));
+            steps.extend(both_refused(&pairs(&[("k", &text)])));
+            steps
+        }),
+        with_room("the bytes of a key", {
+            let one = [("-az09", "v")];
+            let mut steps: Vec<(Call, Reply)> = keeps(&pairs(&one), &one).into();
+            for byte in *b"\0\x1f ,./:@AZ[_`{~\x7f\x80\xe4\xff" {
+                for key in [[byte, b'k'], [b'k', byte]] {
+                    steps.extend(both_refused(&[[2].as_slice(), &key, &[1, b'v']].concat()));
+                }
+            }
+            steps
+        }),
+        with_room("the bytes of a value", {
+            let one = [("k", " !Az09_~ ")];
+            let mut steps: Vec<(Call, Reply)> = keeps(&pairs(&one), &one).into();
+            for byte in *b"\0\t\n\x1f\x7f\x80\xe4\xff" {
+                for value in [[byte, b'v'], [b'v', byte]] {
+                    steps.extend(both_refused(&[[1, b'k', 2].as_slice(), &value].concat()));
+                }
+            }
+            steps
+        }),
+        with_room("equal keys", {
+            let mut steps = Vec::new();
+            for at in 0..=2 {
+                steps.extend(both_refused(&among(2, at, &[("a", "v")])));
+                steps.extend(both_refused(&among(7, 7 - at, &[("b", "")])));
+            }
+            let unequal = [("a", ""), ("a-", ""), ("aa", ""), ("b", "")];
+            steps.extend(keeps(&pairs(&unequal), &unequal));
+            steps
+        }),
+        with_room("malformed pairs", {
+            let mut steps = Vec::new();
+            for length in 0..=RECORD_BYTES.len() {
+                let cut = &RECORD_BYTES[..length];
+                match length {
+                    0 => steps.extend(keeps(cut, &[])),
+                    11 => steps.extend(keeps(cut, &RECORD[..1])),
+                    28 => steps.extend(keeps(cut, &RECORD)),
+                    _ => steps.extend(both_refused(cut)),
+                }
+            }
+            let left_over: [&[u8]; 7] = [
+                &[0],
+                &[0, 0],
+                &[255],
+                &[1, b'k'],
+                &[1, b'k', 1],
+                &[2, b'k', 0],
+                &[1, b'k', 2, b'v'],
+            ];
+            for bytes in left_over {
+                steps.extend(both_refused(bytes));
+                steps.extend(both_refused(&[RECORD_BYTES, bytes].concat()));
+            }
+            steps
+        }),
+        with_room("bad pairs go before a full arena and a full table", {
+            let bad = pairs(&[("K", "v")]);
+            let large = "d".repeat(4097);
+            let mut steps = vec![
+                refused(put_with(5, "a", &large, &bad), 2),
+                refused(put_with(5, "a", &large, &[]), 5),
+                refused(put_with(0, "a", "", &bad), 2),
+                refused(put_with(0, "a", "", RECORD_BYTES), 2),
+                refused(put_with(5, "a//b", "", RECORD_BYTES), 2),
+                refused(initiate_with(0, "a", RECORD_BYTES), 2),
+                refused(initiate_with(5, "", RECORD_BYTES), 2),
+            ];
+            steps.extend((0..256).map(|i| done(put(1, &format!("p{i:03}"), ""))));
+            steps.extend((1..=16).map(|i| opens(1, "r", i)));
+            steps.extend(both_refused(&bad));
+            steps.extend([
+                refused(put_with(5, "a", "", RECORD_BYTES), 4),
+                refused(put_with(5, "a", &large, RECORD_BYTES), 4),
+                refused(put_with(5, "p000", &large, RECORD_BYTES), 5),
+                refused(initiate_with(5, "a", RECORD_BYTES), 4),
+                done(put_with(5, "p000", "", RECORD_BYTES)),
+            ]);
+            steps
+        }),
+    ]
+}
+
+/// What becomes of the pairs that are taken, and how they are answered.
+fn pairs_kept() -> Vec<Case> {
+    let of_xyz = |created| metadata(3, created, plain(OF_XYZ));
+    let given = || pairs(&[RECORD[1], RECORD[0]]);
+    let put_record = || done(put_with(5, "a", "xyz", &given()));
+    let found = || Answer::Metadata {
+        length: 3,
+        created: 5,
+        etag: plain(OF_XYZ),
+        pairs: 2,
+        pairs_bytes: 28,
+    };
+    let shift = [("shift", "early")];
+    let with_room = |name, steps| Case { name, arena: 4096, steps };
+    vec![
+        day("flour lot and baker beside the record", {
+            let mut listing = vec![1, 97, 3, 0, 0, 0, 5, 0, 0, 0, 0, 0, 0, 0, 32];
+            listing.extend(OF_XYZ.as_bytes());
+            vec![
+                put_record(),
+                writes_both(get_into("a", 3, 28), found(), b"xyz", RECORD_BYTES),
+                writes_both(get_into("a", 9, 40), found(), b"xyz", RECORD_BYTES),
+                writes_both(head_into("a", 28), found(), &[], RECORD_BYTES),
+                writes_both(head_into("a", 29), found(), &[], RECORD_BYTES),
+                writes(list("", "", 47), Answer::Written { records: 1, bytes: 47 }, &listing),
+            ]
+        }),
+        day("room for the pairs", {
+            vec![
+                put_record(),
+                refused(get_into("a", 3, 27), 7),
+                refused(get_into("a", 9, 0), 7),
+                refused(get_into("a", 2, 28), 7),
+                refused(get_into("a", 2, 27), 7),
+                refused(get_into("a", 0, 784), 7),
+                refused(head_into("a", 27), 7),
+                refused(head_into("a", 0), 7),
+                refused(get_into("b", 0, 0), 3),
+                refused(head_into("b", 0), 3),
+                refused(head_into("b//", 0), 2),
+                done(put(6, "a", "xyz")),
+                writes(get_into("a", 3, 0), of_xyz(6), b"xyz"),
+                answers(head_into("a", 0), of_xyz(6)),
+            ]
+        }),
+        day("the root has no pairs", {
+            let root = || metadata(0, 0, Etag::Absent);
+            let mut steps = vec![put_record()];
+            steps.extend([0, 3].map(|room| answers(get_into("", room, room), root())));
+            steps.extend([0, 3].map(|room| answers(head_into("", room), root())));
+            steps
+        }),
+        day("pairs are kept ascending by key", {
+            let ascending = [("-", ""), ("0", "z"), ("a", "y"), ("a-", "x"), ("aa", ""), ("b", "")];
+            let mut list = ascending.to_vec();
+            let mut steps = Vec::new();
+            for turn in 0..list.len() {
+                list.rotate_left(1);
+                steps.extend(keeps(&pairs(&list), &ascending));
+                list.reverse();
+                steps.extend(keeps(&pairs(&list), &ascending));
+                list.swap(0, turn);
+            }
+            steps
+        }),
+        day("PUT replaces the pairs", {
+            vec![
+                put_record(),
+                done(put_with(6, "a", "xyz", &pairs(&shift))),
+                has_pairs("a", of_xyz(6), &shift),
+                refused(put_with(7, "a", "xyz", &[1]), 2),
+                has_pairs("a", of_xyz(6), &shift),
+                done(put(8, "a", "xyz")),
+                has_pairs("a", of_xyz(8), &[]),
+            ]
+        }),
+        with_room("COPY carries the source's", {
+            vec![
+                put_record(),
+                done(put_with(6, "b", "", &pairs(&shift))),
+                done(put(6, "c", "xyz")),
+                done(copy(7, "a", "b")),
+                has_pairs("b", of_xyz(7), &RECORD),
+                has_pairs("a", of_xyz(5), &RECORD),
+                done(copy(8, "a", "a")),
+                has_pairs("a", of_xyz(8), &RECORD),
+                done(copy(9, "c", "a")),
+                has_pairs("a", of_xyz(9), &[]),
+                done(copy(9, "b", "new")),
+                has_pairs("new", of_xyz(9), &RECORD),
+            ]
+        }),
+        with_room("COMMIT carries the upload's", {
+            let etag = joined(OF_THE_DIGESTS_OF_B_AND_A, 2);
+            vec![
+                done(put_with(5, "r", "xyz", &pairs(&shift))),
+                answers(initiate_with(7, "r", &given()), Answer::Upload(1)),
+                stores(1, 2, "B", OF_B),
+                stores(1, 1, "A", OF_A),
+                has_pairs("r", of_xyz(5), &shift),
+                done(commit(1, &[2, 1])),
+                has_pairs("r", metadata(2, 7, etag), &RECORD),
+                done(copy(9, "r", "s")),
+                has_pairs("s", metadata(2, 9, plain(OF_BA)), &RECORD),
+                opens(8, "r", 2),
+                done(commit(2, &[])),
+                has_pairs("r", metadata(0, 8, joined(OF_NOTHING, 0)), &[]),
+                answers(initiate_with(9, "new", &pairs(&shift)), Answer::Upload(3)),
+                refused(head("new"), 3),
+                done(commit(3, &[])),
+                has_pairs("new", metadata(0, 9, joined(OF_NOTHING, 0)), &shift),
+            ]
+        }),
+        day("an upload's pairs are not among its parts", {
+            vec![
+                answers(initiate_with(7, "r", &given()), Answer::Upload(1)),
+                one_upload(1, "r", 7, 0),
+                refused(commit(1, &[1]), 2),
+                stores(1, 1, "A", OF_A),
+                one_upload(1, "r", 7, 1),
+                done(abort(1)),
+                opens(7, "r", 2),
+                done(commit(2, &[])),
+                has_pairs("r", metadata(0, 7, joined(OF_NOTHING, 0)), &[]),
+            ]
+        }),
+    ]
+}
+
+/// "Key and value bytes count as held."
+fn pairs_held() -> Vec<Case> {
+    let of = |name, arena, steps| Case { name, arena, steps };
+    // Three bytes of key and value, and four.
+    let (three, four) = (pairs(&[("k", "vw")]), pairs(&[("k", "vwx")]));
+    vec![
+        of("PUT fills the arena to its last byte", 10, {
+            vec![
+                refused(put_with(5, "a", "12345678", &three), 5),
+                refused(put_with(5, "a", "1234567", &four), 5),
+                done(put_with(5, "a", "1234567", &three)),
+                refused(put_with(5, "b", "", &pairs(&[("k", "")])), 5),
+                refused(put(5, "b", "1"), 5),
+                refused(initiate_with(5, "r", &pairs(&[("k", "")])), 5),
+                opens(5, "r", 1),
+                refused(part(1, 1, "1"), 5),
+                done(put(5, "b", "")),
+            ]
+        }),
+        of("what is dropped is not held", 4, {
+            let dropped = [("size", "123456789"), ("created", "5"), ("k", "v"), ("etag", "")];
+            vec![
+                done(put_with(5, "a", "12", &pairs(&dropped))),
+                refused(put(5, "b", "1"), 5),
+                done(put(5, "a", "1234")),
+            ]
+        }),
+        of("old pairs are free for what replaces them", 6, {
+            vec![
+                done(put_with(5, "a", "123", &three)),
+                done(put(6, "a", "123456")),
+                done(put_with(7, "a", "", &pairs(&[("key", "val")]))),
+                done(put_with(8, "a", "12", &four)),
+                refused(put_with(9, "a", "123", &four), 5),
+                done(delete("a")),
+                done(put_with(9, "a", "123", &three)),
+            ]
+        }),
+        of("COPY needs room for the pairs", 12, {
+            vec![
+                done(put_with(5, "a", "123", &four)),
+                refused(copy(6, "a", "b"), 5),
+                done(put(5, "b", "12345")),
+                done(copy(6, "a", "a")),
+                refused(copy(6, "a", "b"), 5),
+                done(put_with(5, "a", "12", &four)),
+                done(copy(6, "a", "b")),
+                refused(put(5, "c", "1"), 5),
+            ]
+        }),
+        of("INITIATE needs room for the pairs", 4, {
+            vec![
+                refused(initiate_with(7, "r", &pairs(&[("k", "vwxy")])), 5),
+                answers(initiate_with(7, "r", &three), Answer::Upload(1)),
+                refused(initiate_with(7, "s", &pairs(&[("k", "v")])), 5),
+                answers(initiate_with(7, "s", &pairs(&[("k", "")])), Answer::Upload(2)),
+                refused(part(1, 1, "A"), 5),
+                opens(7, "t", 3),
+                done(abort(2)),
+                stores(1, 1, "A", OF_A),
+                sweeps(8, 1, 1, true),
+                done(put(5, "a", "1234")),
+            ]
+        }),
+        of("COMMIT never needs room", 8, {
+            vec![
+                done(put(5, "r", "123")),
+                answers(initiate_with(7, "r", &three), Answer::Upload(1)),
+                stores(1, 2, "B", OF_B),
+                stores(1, 1, "A", OF_A),
+                refused(put(5, "a", "1"), 5),
+                done(commit(1, &[2, 1])),
+                refused(put(5, "a", "1234"), 5),
+                done(put(5, "a", "123")),
+            ]
+        }),
+        of("no arena", 0, {
+            vec![
+                refused(put_with(5, "a", "", &pairs(&[("k", "")])), 5),
+                refused(initiate_with(5, "a", &pairs(&[("k", "")])), 5),
+                done(put_with(5, "a", "", &pairs(&[("size", "1"), ("etag", "2")]))),
+                has_pairs("a", metadata(0, 5, plain(OF_NOTHING)), &[]),
+            ]
+        }),
+        of("eight pairs of the longest keys and values", 768, {
+            let keys: Vec<String> = ('a'..='h').map(|key| key.to_string().repeat(32)).collect();
+            let value = "~".repeat(64);
+            let list: Vec<(&str, &str)> = keys.iter().map(|key| (&key[..], &value[..])).collect();
+            vec![
+                refused(put_with(5, "a", "1", &pairs(&list)), 5),
+                done(put_with(5, "a", "", &pairs(&list))),
+                has_pairs("a", metadata(0, 5, plain(OF_NOTHING)), &list),
+                refused(head_into("a", 783), 7),
+                refused(get_into("a", 0, 783), 7),
+                done(delete("a")),
+                answers(initiate_with(7, "r", &pairs(&list)), Answer::Upload(1)),
+                refused(part(1, 1, "1"), 5),
+                done(commit(1, &[])),
+                has_pairs("r", metadata(0, 7, joined(OF_NOTHING, 0)), &list),
+            ]
+        }),
+    ]
 }

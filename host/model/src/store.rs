@@ -3,6 +3,7 @@
 use crate::call::{Answer, Call, Reply};
 use crate::etag::Etag;
 use crate::md5::{md5, Digest};
+use crate::pairs::{bytes_held, kept, pair_bytes, Pairs};
 use crate::{LAST_PART, LONGEST_PATH, NUMBERS_END};
 use crate::{MOST_OBJECTS, MOST_PARTS, MOST_PLACES, MOST_UPLOADS};
 use std::collections::BTreeMap;
@@ -26,6 +27,7 @@ pub struct Object {
     pub data: Vec<u8>,
     pub created: u64,
     pub etag: Etag,
+    pub pairs: Pairs,
 }
 
 #[derive(Clone, Debug, PartialEq, Eq)]
@@ -38,6 +40,7 @@ pub struct Part {
 pub struct Upload {
     pub path: Vec<u8>,
     pub started: u64,
+    pub pairs: Pairs,
     pub parts: BTreeMap<u16, Part>,
 }
 
@@ -87,11 +90,14 @@ impl Model {
         Model { arena, objects: BTreeMap::new(), uploads: BTreeMap::new(), next: 1 }
     }
 
-    /// The sum of the lengths of all data in O and in all parts of U.
+    /// The sum of the lengths of all data in O and in all parts of U, and of all keys and values.
     pub fn held(&self) -> usize {
-        let objects: usize = self.objects.values().map(|object| object.data.len()).sum();
+        let objects = self.objects.values().map(|object| object.data.len());
         let parts = self.uploads.values().flat_map(|upload| upload.parts.values());
-        objects + parts.map(|part| part.data.len()).sum::<usize>()
+        let of_objects = self.objects.values().map(|object| &object.pairs);
+        let of_uploads = self.uploads.values().map(|upload| &upload.pairs);
+        let data = objects.chain(parts.map(|part| part.data.len()));
+        data.chain(of_objects.chain(of_uploads).map(bytes_held)).sum()
     }
 
     /// The parts over all uploads.
@@ -99,39 +105,40 @@ impl Model {
         self.uploads.values().map(|upload| upload.parts.len()).sum()
     }
 
-    /// One call: a refusal keeps the state and the buffer.
+    /// One call: a refusal keeps the state and the buffers.
     pub fn call(&mut self, call: &Call) -> Reply {
         match self.step(call) {
-            Ok((answer, written)) => {
-                let mut buffer = call.buffer().to_vec();
-                buffer[..written.len()].copy_from_slice(&written);
-                Reply { number: 0, answer, buffer }
-            }
-            Err(refusal) => Reply::refused(refusal as u32, call.buffer()),
+            Ok(Told { answer, bytes, pairs }) => Reply::accepted(answer, call, &bytes, &pairs),
+            Err(refusal) => Reply::refused(refusal as u32, call),
         }
     }
 
-    /// The answer, and the bytes for the front of the answer buffer.
-    fn step(&mut self, call: &Call) -> Result<(Answer, Vec<u8>), Refusal> {
-        let silent = |answer| (answer, Vec::new());
+    fn step(&mut self, call: &Call) -> Result<Told, Refusal> {
+        let silent = |answer| Told { answer, bytes: Vec::new(), pairs: Vec::new() };
         match call {
-            Call::Put { stamp, path, data } => {
-                self.put(*stamp, path, data).map(|()| silent(Answer::Nothing))
+            Call::Put { stamp, path, data, pairs } => {
+                self.put(*stamp, path, data, pairs).map(|()| silent(Answer::Nothing))
             }
-            Call::Get { path, buffer } => self.get(path, buffer.len()),
-            Call::Head { path } => self.head(path).map(silent),
+            Call::Get { path, buffer, pairs_buffer } => {
+                let found = self.get(path)?;
+                found.fits(buffer.len(), pairs_buffer.len())
+            }
+            Call::Head { path, pairs_buffer } => {
+                let found = self.get(path)?;
+                Told { bytes: Vec::new(), ..found }.fits(0, pairs_buffer.len())
+            }
             Call::Delete { path } => self.delete(path).map(|()| silent(Answer::Nothing)),
             Call::DeleteObjects { names, places, buffer } => self
                 .delete_objects(names, places, buffer.len())
-                .map(|results| (Answer::Nothing, results)),
+                .map(|results| Told { bytes: results, ..silent(Answer::Nothing) }),
             Call::Copy { stamp, source, destination } => {
                 self.copy(*stamp, source, destination).map(|()| silent(Answer::Nothing))
             }
             Call::List { prefix, suffix, buffer } => {
                 written(self.list(prefix, suffix), buffer.len())
             }
-            Call::Initiate { stamp, path } => {
-                self.initiate(*stamp, path).map(|number| silent(Answer::Upload(number)))
+            Call::Initiate { stamp, path, pairs } => {
+                self.initiate(*stamp, path, pairs).map(|number| silent(Answer::Upload(number)))
             }
             Call::Part { upload, part, data } => {
                 self.part(*upload, *part, data).map(|etag| silent(Answer::Etag(etag)))
@@ -145,14 +152,23 @@ impl Model {
         }
     }
 
-    fn put(&mut self, stamp: u64, path: &[u8], data: &[u8]) -> Result<(), Refusal> {
+    fn put(&mut self, stamp: u64, path: &[u8], data: &[u8], pairs: &[u8]) -> Result<(), Refusal> {
+        let pairs = kept(pairs).ok_or(BadRequest)?;
         if !stamp_ok(stamp) || !path_ok(path) {
             return Err(BadRequest);
         }
-        self.set_object(
-            path,
-            Object { data: data.to_vec(), created: stamp, etag: Etag::of_data(data) },
-        )
+        self.put_kept(stamp, path, data, pairs)
+    }
+
+    fn put_kept(
+        &mut self,
+        stamp: u64,
+        path: &[u8],
+        data: &[u8],
+        pairs: Pairs,
+    ) -> Result<(), Refusal> {
+        let (data, etag) = (data.to_vec(), Etag::of_data(data));
+        self.set_object(path, Object { data, created: stamp, etag, pairs })
     }
 
     /// Sets O at path, or leaves it as it was where the state after the call passes a ceiling.
@@ -172,28 +188,23 @@ impl Model {
         Err(refusal)
     }
 
-    fn head(&self, path: &[u8]) -> Result<Answer, Refusal> {
-        if path.is_empty() {
-            return Ok(Answer::Metadata { length: 0, created: 0, etag: Etag::Absent });
-        }
-        if !path_ok(path) {
-            return Err(BadRequest);
-        }
-        let object = self.objects.get(path).ok_or(NotFound)?;
-        Ok(Answer::Metadata {
+    /// The data, the pairs and the metadata; the root has none of them.
+    fn get(&self, path: &[u8]) -> Result<Told, Refusal> {
+        let root = Object { data: vec![], created: 0, etag: Etag::Absent, pairs: Pairs::new() };
+        let object = match path {
+            [] => &root,
+            _ if !path_ok(path) => return Err(BadRequest),
+            _ => self.objects.get(path).ok_or(NotFound)?,
+        };
+        let pairs = pair_bytes(&object.pairs);
+        let answer = Answer::Metadata {
             length: object.data.len() as u32,
             created: object.created,
             etag: object.etag,
-        })
-    }
-
-    fn get(&self, path: &[u8], room: usize) -> Result<(Answer, Vec<u8>), Refusal> {
-        let metadata = self.head(path)?;
-        let data = self.objects.get(path).map_or(Vec::new(), |object| object.data.clone());
-        if data.len() > room {
-            return Err(BufferShort);
-        }
-        Ok((metadata, data))
+            pairs: object.pairs.len() as u16,
+            pairs_bytes: pairs.len() as u16,
+        };
+        Ok(Told { answer, bytes: object.data.clone(), pairs })
     }
 
     fn delete(&mut self, path: &[u8]) -> Result<(), Refusal> {
@@ -235,8 +246,8 @@ impl Model {
         if !stamp_ok(stamp) || !path_ok(source) || !path_ok(destination) {
             return Err(BadRequest);
         }
-        let data = self.objects.get(source).ok_or(NotFound)?.data.clone();
-        self.put(stamp, destination, &data)
+        let Object { data, pairs, .. } = self.objects.get(source).ok_or(NotFound)?.clone();
+        self.put_kept(stamp, destination, &data, pairs)
     }
 
     fn list(&self, prefix: &[u8], suffix: &[u8]) -> Vec<Vec<u8>> {
@@ -257,20 +268,24 @@ impl Model {
         records
     }
 
-    fn initiate(&mut self, stamp: u64, path: &[u8]) -> Result<u32, Refusal> {
+    fn initiate(&mut self, stamp: u64, path: &[u8], pairs: &[u8]) -> Result<u32, Refusal> {
+        let pairs = kept(pairs).ok_or(BadRequest)?;
         if !stamp_ok(stamp) || !path_ok(path) {
             return Err(BadRequest);
         }
         if self.uploads.len() + 1 > MOST_UPLOADS {
             return Err(TableFull);
         }
+        if self.held() + bytes_held(&pairs) > self.arena {
+            return Err(ArenaFull);
+        }
         if self.next == NUMBERS_END {
             return Err(NumbersUsedUp);
         }
         let number = self.next as u32;
         self.next += 1;
-        let upload = Upload { path: path.to_vec(), started: stamp, parts: BTreeMap::new() };
-        self.uploads.insert(number, upload);
+        let (path, parts) = (path.to_vec(), BTreeMap::new());
+        self.uploads.insert(number, Upload { path, started: stamp, pairs, parts });
         Ok(number)
     }
 
@@ -311,8 +326,8 @@ impl Model {
         let parts: Vec<&Part> = listed.iter().map(|part| &upload.parts[part]).collect();
         let data: Vec<&[u8]> = parts.iter().map(|part| part.data.as_slice()).collect();
         let digests: Vec<Digest> = parts.iter().map(|part| part.digest).collect();
-        let object =
-            Object { data: data.concat(), created: upload.started, etag: Etag::of_parts(&digests) };
+        let (data, etag, pairs) = (data.concat(), Etag::of_parts(&digests), upload.pairs.clone());
+        let object = Object { data, created: upload.started, etag, pairs };
         if !self.objects.contains_key(&upload.path) && self.objects.len() + 1 > MOST_OBJECTS {
             return Err(TableFull);
         }
@@ -356,12 +371,27 @@ impl Model {
     }
 }
 
-/// The count of records and of bytes, and the bytes themselves where they fit.
-fn written(records: Vec<Vec<u8>>, room: usize) -> Result<(Answer, Vec<u8>), Refusal> {
-    let bytes = records.concat();
-    if bytes.len() > room {
-        return Err(BufferShort);
+/// The answer, and the bytes for the front of each buffer.
+struct Told {
+    answer: Answer,
+    bytes: Vec<u8>,
+    pairs: Vec<u8>,
+}
+
+impl Told {
+    fn fits(self, room: usize, pairs_room: usize) -> Result<Told, Refusal> {
+        let short = self.bytes.len() > room || self.pairs.len() > pairs_room;
+        if short {
+            Err(BufferShort)
+        } else {
+            Ok(self)
+        }
     }
-    let counts = Answer::Written { records: records.len() as u32, bytes: bytes.len() as u32 };
-    Ok((counts, bytes))
+}
+
+/// The count of records and of bytes, and the bytes themselves where they fit.
+fn written(records: Vec<Vec<u8>>, room: usize) -> Result<Told, Refusal> {
+    let bytes = records.concat();
+    let answer = Answer::Written { records: records.len() as u32, bytes: bytes.len() as u32 };
+    Told { answer, bytes, pairs: Vec::new() }.fits(room, 0)
 }

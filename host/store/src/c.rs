@@ -8,6 +8,14 @@ extern "C" {
         arena: *mut u8,
         arena_len: usize,
     ) -> u32;
+    pub fn rathnodi_carry_over(
+        former: *const u8,
+        former_len: usize,
+        arena: *const u8,
+        arena_len: usize,
+        tables: *mut u8,
+        tables_len: usize,
+    ) -> u32;
     pub fn rathnodi_put(
         tables: *mut u8,
         tables_len: usize,
@@ -18,6 +26,8 @@ extern "C" {
         path_len: usize,
         data: *const u8,
         data_len: usize,
+        pairs: *const u8,
+        pairs_len: usize,
     ) -> u32;
     pub fn rathnodi_get(
         tables: *const u8,
@@ -28,6 +38,8 @@ extern "C" {
         path_len: usize,
         answer: *mut u8,
         answer_len: usize,
+        pairs_answer: *mut u8,
+        pairs_answer_len: usize,
         reply: *mut u8,
         reply_len: usize,
     ) -> u32;
@@ -38,6 +50,8 @@ extern "C" {
         arena_len: usize,
         path: *const u8,
         path_len: usize,
+        pairs_answer: *mut u8,
+        pairs_answer_len: usize,
         reply: *mut u8,
         reply_len: usize,
     ) -> u32;
@@ -94,6 +108,8 @@ extern "C" {
         stamp: u64,
         path: *const u8,
         path_len: usize,
+        pairs: *const u8,
+        pairs_len: usize,
         reply: *mut u8,
         reply_len: usize,
     ) -> u32;

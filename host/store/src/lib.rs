@@ -7,9 +7,13 @@ pub mod c;
 pub mod slices;
 mod store;
 
-pub use store::{Etag, Metadata, Object, Refusal, Store, Sweep, Upload};
+pub use store::{Etag, Metadata, Object, Pair, Refusal, Store, Sweep, Upload};
 
 /// The one right length of the tables.
-pub const TABLES_LEN: usize = 53_842;
+pub const TABLES_LEN: usize = 58_194;
+/// That of the tables before pairs.
+pub const FORMER_TABLES_LEN: usize = 53_842;
+/// Room that suffices for the pairs of every object.
+pub const PAIRS_BYTES_MAX: usize = 784;
 /// The one right length of a reply.
 pub const REPLY_LEN: usize = 48;

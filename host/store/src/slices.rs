@@ -11,7 +11,27 @@ pub fn fresh(tables: &mut [u8], arena: &mut [u8]) -> u32 {
     unsafe { c::rathnodi_fresh(tables.as_mut_ptr(), tables.len(), arena.as_mut_ptr(), arena.len()) }
 }
 
-pub fn put(tables: &mut [u8], arena: &mut [u8], stamp: u64, path: &[u8], data: &[u8]) -> u32 {
+pub fn carry_over(former: &[u8], arena: &[u8], tables: &mut [u8]) -> u32 {
+    unsafe {
+        c::rathnodi_carry_over(
+            former.as_ptr(),
+            former.len(),
+            arena.as_ptr(),
+            arena.len(),
+            tables.as_mut_ptr(),
+            tables.len(),
+        )
+    }
+}
+
+pub fn put(
+    tables: &mut [u8],
+    arena: &mut [u8],
+    stamp: u64,
+    path: &[u8],
+    data: &[u8],
+    pairs: &[u8],
+) -> u32 {
     unsafe {
         c::rathnodi_put(
             tables.as_mut_ptr(),
@@ -23,11 +43,20 @@ pub fn put(tables: &mut [u8], arena: &mut [u8], stamp: u64, path: &[u8], data: &
             path.len(),
             data.as_ptr(),
             data.len(),
+            pairs.as_ptr(),
+            pairs.len(),
         )
     }
 }
 
-pub fn get(tables: &[u8], arena: &[u8], path: &[u8], answer: &mut [u8], reply: &mut [u8]) -> u32 {
+pub fn get(
+    tables: &[u8],
+    arena: &[u8],
+    path: &[u8],
+    answer: &mut [u8],
+    pairs_answer: &mut [u8],
+    reply: &mut [u8],
+) -> u32 {
     unsafe {
         c::rathnodi_get(
             tables.as_ptr(),
@@ -38,13 +67,21 @@ pub fn get(tables: &[u8], arena: &[u8], path: &[u8], answer: &mut [u8], reply: &
             path.len(),
             answer.as_mut_ptr(),
             answer.len(),
+            pairs_answer.as_mut_ptr(),
+            pairs_answer.len(),
             reply.as_mut_ptr(),
             reply.len(),
         )
     }
 }
 
-pub fn head(tables: &[u8], arena: &[u8], path: &[u8], reply: &mut [u8]) -> u32 {
+pub fn head(
+    tables: &[u8],
+    arena: &[u8],
+    path: &[u8],
+    pairs_answer: &mut [u8],
+    reply: &mut [u8],
+) -> u32 {
     unsafe {
         c::rathnodi_head(
             tables.as_ptr(),
@@ -53,6 +90,8 @@ pub fn head(tables: &[u8], arena: &[u8], path: &[u8], reply: &mut [u8]) -> u32 {
             arena.len(),
             path.as_ptr(),
             path.len(),
+            pairs_answer.as_mut_ptr(),
+            pairs_answer.len(),
             reply.as_mut_ptr(),
             reply.len(),
         )
@@ -148,6 +187,7 @@ pub fn initiate(
     arena: &mut [u8],
     stamp: u64,
     path: &[u8],
+    pairs: &[u8],
     reply: &mut [u8],
 ) -> u32 {
     unsafe {
@@ -159,6 +199,8 @@ pub fn initiate(
             stamp,
             path.as_ptr(),
             path.len(),
+            pairs.as_ptr(),
+            pairs.len(),
             reply.as_mut_ptr(),
             reply.len(),
         )

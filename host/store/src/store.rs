@@ -1,6 +1,6 @@
 //! A store that owns its tables and its arena.
 
-use crate::{slices, REPLY_LEN, TABLES_LEN};
+use crate::{slices, PAIRS_BYTES_MAX, REPLY_LEN, TABLES_LEN};
 use std::fmt;
 
 /// Why a call was refused; its number is `self as u32`.
@@ -57,11 +57,16 @@ pub enum Etag {
     Joined([u8; 16], u16),
 }
 
-#[derive(Clone, Copy, Debug, PartialEq, Eq)]
+/// A pair of key and value, as a caller lends it.
+pub type Pair<'a> = (&'a [u8], &'a [u8]);
+
+/// With the pairs, ascending by key.
+#[derive(Clone, Debug, PartialEq, Eq)]
 pub struct Metadata {
     pub length: u32,
     pub created: u64,
     pub etag: Etag,
+    pub pairs: Vec<(Vec<u8>, Vec<u8>)>,
 }
 
 /// A record of LIST; the etag is as text.
@@ -111,9 +116,14 @@ impl Reply {
         }
     }
 
-    fn metadata(&self) -> Metadata {
+    /// The metadata, with the pairs of a second answer.
+    fn metadata(&self, pairs_answer: &[u8]) -> Metadata {
         let created = u64::from_le_bytes(self.0[..8].try_into().expect("8 bytes"));
-        Metadata { length: self.number(8), created, etag: self.etag() }
+        let [count, bytes] = [44, 46].map(|at| u16::from_le_bytes([self.0[at], self.0[at + 1]]));
+        let mut records = Records(&pairs_answer[..bytes.into()]);
+        let pairs = (0..count).map(|_| (records.counted().to_vec(), records.counted().to_vec()));
+        let pairs = pairs.collect();
+        Metadata { length: self.number(8), created, etag: self.etag(), pairs }
     }
 }
 
@@ -138,6 +148,24 @@ impl<'a> Records<'a> {
     }
 }
 
+/// Pairs as the calls take them. A length that its byte cannot hold leaves an empty key, which is a
+/// bad request too.
+fn pair_bytes(pairs: &[Pair]) -> Vec<u8> {
+    let mut bytes = Vec::new();
+    for (key, value) in pairs {
+        match (u8::try_from(key.len()), u8::try_from(value.len())) {
+            (Ok(key_len), Ok(value_len)) => {
+                bytes.push(key_len);
+                bytes.extend(*key);
+                bytes.push(value_len);
+                bytes.extend(*value);
+            }
+            _ => bytes.extend([0, 0]),
+        }
+    }
+    bytes
+}
+
 pub struct Store {
     tables: Box<[u8]>,
     arena: Box<[u8]>,
@@ -155,6 +183,13 @@ impl Store {
         Ok(store)
     }
 
+    /// A store that was saved before pairs, with its arena; refused where it is none.
+    pub fn carry_over(former: &[u8], arena: Box<[u8]>) -> Result<Store, Refusal> {
+        let mut store = Store { tables: vec![0; TABLES_LEN].into(), arena };
+        Refusal::of(slices::carry_over(former, &store.arena, &mut store.tables))?;
+        Ok(store)
+    }
+
     /// A store in memory that was saved; refused where it is none.
     pub fn from_memory(tables: Box<[u8]>, arena: Box<[u8]>) -> Result<Store, Refusal> {
         let store = Store { tables, arena };
@@ -167,15 +202,23 @@ impl Store {
         (&self.tables, &self.arena)
     }
 
-    pub fn put(&mut self, stamp: u64, path: &[u8], data: &[u8]) -> Result<(), Refusal> {
-        Refusal::of(slices::put(&mut self.tables, &mut self.arena, stamp, path, data))
+    pub fn put(
+        &mut self,
+        stamp: u64,
+        path: &[u8],
+        data: &[u8],
+        pairs: &[Pair],
+    ) -> Result<(), Refusal> {
+        let (tables, arena, pairs) = (&mut self.tables, &mut self.arena, pair_bytes(pairs));
+        Refusal::of(slices::put(tables, arena, stamp, path, data, &pairs))
     }
 
     /// The data goes to the front of the answer.
     pub fn get_into(&self, path: &[u8], answer: &mut [u8]) -> Result<Metadata, Refusal> {
-        let mut reply = Reply::new();
-        Refusal::of(slices::get(&self.tables, &self.arena, path, answer, &mut reply.0))?;
-        Ok(reply.metadata())
+        let (tables, arena, mut reply) = (&self.tables, &self.arena, Reply::new());
+        let mut pairs = [0; PAIRS_BYTES_MAX];
+        Refusal::of(slices::get(tables, arena, path, answer, &mut pairs, &mut reply.0))?;
+        Ok(reply.metadata(&pairs))
     }
 
     pub fn get(&self, path: &[u8]) -> Result<(Metadata, Vec<u8>), Refusal> {
@@ -184,9 +227,9 @@ impl Store {
     }
 
     pub fn head(&self, path: &[u8]) -> Result<Metadata, Refusal> {
-        let mut reply = Reply::new();
-        Refusal::of(slices::head(&self.tables, &self.arena, path, &mut reply.0))?;
-        Ok(reply.metadata())
+        let (mut pairs, mut reply) = ([0; PAIRS_BYTES_MAX], Reply::new());
+        Refusal::of(slices::head(&self.tables, &self.arena, path, &mut pairs, &mut reply.0))?;
+        Ok(reply.metadata(&pairs))
     }
 
     pub fn delete(&mut self, path: &[u8]) -> Result<(), Refusal> {
@@ -237,9 +280,10 @@ impl Store {
         Ok((0..count).map(record).collect())
     }
 
-    pub fn initiate(&mut self, stamp: u64, path: &[u8]) -> Result<u32, Refusal> {
+    pub fn initiate(&mut self, stamp: u64, path: &[u8], pairs: &[Pair]) -> Result<u32, Refusal> {
         let (tables, arena, mut reply) = (&mut self.tables, &mut self.arena, Reply::new());
-        Refusal::of(slices::initiate(tables, arena, stamp, path, &mut reply.0))?;
+        let pairs = pair_bytes(pairs);
+        Refusal::of(slices::initiate(tables, arena, stamp, path, &pairs, &mut reply.0))?;
         Ok(reply.number(12))
     }
 

@@ -1,7 +1,7 @@
 //! What src/ says of the C interface is what include/rathnodi.h says: the functions with their
-//! arguments, by name, kind and order, and the two lengths.
+//! arguments, by name, kind and order, and the lengths.
 
-use rathnodi::{REPLY_LEN, TABLES_LEN};
+use rathnodi::{FORMER_TABLES_LEN, PAIRS_BYTES_MAX, REPLY_LEN, TABLES_LEN};
 
 const HEADER: &str = include_str!("../../../include/rathnodi.h");
 const RUST: &str = include_str!("../src/c.rs");
@@ -79,8 +79,13 @@ fn functions_are_the_headers() {
 
 #[test]
 fn lengths_are_the_headers() {
-    for (name, value) in [("TABLES", TABLES_LEN), ("REPLY", REPLY_LEN)] {
-        let line = format!("\n#define RATHNODI_{name}_LEN {value}\n");
+    for (name, value) in [
+        ("TABLES_LEN", TABLES_LEN),
+        ("FORMER_TABLES_LEN", FORMER_TABLES_LEN),
+        ("REPLY_LEN", REPLY_LEN),
+        ("PAIRS_BYTES_MAX", PAIRS_BYTES_MAX),
+    ] {
+        let line = format!("\n#define RATHNODI_{name} {value}\n");
         assert!(HEADER.contains(&line), "{line}");
     }
 }

@@ -3,7 +3,7 @@ use mathlib.Core.Path.{refl, sym, _∙_}
 use mathlib.Core.List.{[]}
 use borrow.Author.Needs.{needs}
 use Rattle.number.specs.Number.{AreBytes}
-use Rattle.machine.specs.Calls.{nothing}
+use Rattle.machine.specs.Calls.{nothing, noBuffers}
 use Rattle.contract.proofs.MadeLaws.{judged, done}
 use Rattle.commits.proofs.Committing.{commit-ready, commit-done}
 use Rattle.commits.proofs.commit_whole.Statement.{statement}
@@ -42,7 +42,7 @@ returns-2 c =
     let z = sym (k .before .commit-judge .ensures) ∙ k .if1 .left in
     let ready = commit-ready (s .args .tables .now) (s .args .arena .now) (s .args .upload .0) (s .args .list .now) (s .pre) z b in
     let o = c .before .before .before .before .join in
-    (done nothing [] _ (commit-done (s .args .tables .now) (s .args .arena .now) (s .args .upload .0) (s .args .list .now) (s .pre) z b) refl (o .ensures ready) (o .kept .0) (o .kept .1 .0), tt)
+    (done nothing noBuffers _ (commit-done (s .args .tables .now) (s .args .arena .now) (s .args .upload .0) (s .args .list .now) (s .pre) z b) refl (o .ensures ready) (o .kept .0) (o .kept .1 .0), tt)
 
 pub commit-whole-spec : {M : Type 1} → statement M
 commit-whole-spec =

@@ -1,10 +1,10 @@
 -- `copies::copy_whole` meets its contract: refused, or the source's digest, then the object. Assumes nothing.
 use Prim.Native.Nat.{ℕ}
 use mathlib.Core.Path.{_≡_, refl, sym, _∙_}
-use mathlib.Core.List.{List, []}
+use mathlib.Core.List.{List}
 use borrow.Author.Needs.{needs}
 use Rattle.number.specs.Number.{AreBytes}
-use Rattle.machine.specs.Calls.{COPY, nothing}
+use Rattle.machine.specs.Calls.{COPY, nothing, noBuffers}
 use Rattle.contract.specs.Made.{memory, outcome, resultOf}
 use Rattle.contract.proofs.MadeLaws.{judged, done}
 use Rattle.copies.proofs.Sources.{copy-there, copy-accepted, copy-ready, copy-stands}
@@ -69,7 +69,7 @@ returns-2 c =
     let d = c .before .before .before .before .before .before .before .source-digest in
     let o = c .before .before .before .before .copy-object in
     let stands = copy-stands (t k) (a k) (p k) (q k) (start k .args .stamp .0) (d .result) (start k .pre) (zero-result k) (d .ensures) (o .last .0) (o .last .1 .0) (o .ensures) in
-    (done nothing [] _ (copy-accepted (memory (t k) (a k)) (start k .args .stamp .0) (p k) (q k) (zero-result k)) refl stands (o .kept .0) (o .kept .1 .0), tt)
+    (done nothing noBuffers _ (copy-accepted (memory (t k) (a k)) (start k .args .stamp .0) (p k) (q k) (zero-result k)) refl stands (o .kept .0) (o .kept .1 .0), tt)
 
 pub copy-whole-spec : {M : Type 1} → statement M
 copy-whole-spec =

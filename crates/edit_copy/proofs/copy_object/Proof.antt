@@ -3,10 +3,8 @@ use mathlib.Core.Path.{sym, _∙_, subst}
 use mathlib.Core.List.{List}
 use Prim.Native.Nat.{ℕ}
 use Rattle.order.proofs.OrderLaws.{same-true}
-use Rattle.machine.specs.State.{withObject}
 use Rattle.layout.specs.Memory.{stateOf, Stands}
-use Rattle.edit.specs.Objects.{plainWith}
-use Rattle.edit_copy.specs.Copy.{contentAt}
+use Rattle.edit_copy.specs.Copy.{copied}
 use Rattle.edit_copy.proofs.Copying.{same-path}
 use borrow.Author.Needs.{needs}
 use Rattle.edit_copy.proofs.copy_object.Statement.{statement}
@@ -34,7 +32,7 @@ returns : tie.Need-returns
 returns c =
     let a = c .before .before .before .before .before .before .before .before .before .before .before .args in
     let e = same-true (a .source .now) (a .destination .now) (sym (c .before .before .before .before .before .before .equal .ensures) ∙ c .before .before .before .before .before .if1 .taken) in
-    subst (λ (q : List ℕ). Stands (c .before .before .restamp .last .0) (a .arena .now) (withObject (stateOf (a .tables .now) (a .arena .now)) q (plainWith (a .stamp) (a .digest) (contentAt (stateOf (a .tables .now) (a .arena .now)) (a .source .now))))) e (c .before .before .restamp .ensures)
+    subst (λ (q : List ℕ). Stands (c .before .before .restamp .last .0) (a .arena .now) (copied (a .stamp) (a .digest) (a .source .now) q (stateOf (a .tables .now) (a .arena .now)))) e (c .before .before .restamp .ensures)
 
 same-length-3 : tie.Need-same-length-3
 same-length-3 c = search needs

@@ -1,7 +1,9 @@
--- `edit_copy::restamp` meets its contract: the row is cut out, and another put in its place. Assumes nothing.
+-- `edit_copy::restamp` meets its contract: the front of the row is written to a local array, then over the old one. Assumes nothing.
+use Prim.Native.Nat.{ℕ}
 use mathlib.Core.Path.{_∙_}
-use Rattle.number.specs.Number.{AreBytes}
-use Rattle.edit_copy.proofs.Restamping.{header-inside, head-inside, path-most, rows-inside, again-inside, restamped}
+use mathlib.Core.List.{List, append-nil}
+use Rattle.edit_copy.proofs.Source.{ObjectThere, object-there, front-inside}
+use Rattle.edit_copy.proofs.Restamping.{pairs-fit, restamped}
 use native.Mathlib.Omega.{arith}
 use borrow.Author.Needs.{needs}
 use Rattle.edit_copy.proofs.restamp.Statement.{statement}
@@ -10,98 +12,67 @@ use Rattle.edit_copy.proofs.restamp.Tie as tie
 find-object-requires : tie.Need-find-object-requires
 find-object-requires c κs = search needs
 
-rows-end-requires : tie.Need-rows-end-requires
-rows-end-requires c κs = search needs
+-- the arguments, once the place is found
+module _ (k : tie.After-find-object) where
+  abbrev start : tie.Start
+  start = k .before .before .before .before .before
 
-read-header-requires : tie.Need-read-header-requires
-read-header-requires c κs =
-    let a = c .before .before .before .before .before .before .before .before .args in
-    let b : AreBytes (a .tables .now) = λ j. c .before .before .before .before .before .before .before .slice-known .given j .fits in
-    let p = c .before .before .before .before .before .before .before .before .pre in
-    let f = c .before .before .before .find-object in
-    let e = c .before .rows-end in
-    header-inside (a .tables .now) (a .arena .now) (a .path .now) b (a .stamp) (a .digest) p (f .result) (f .ensures) (e .result) (e .ensures)
+  abbrev t : List ℕ
+  t = start .args .tables .now
+
+  abbrev a : List ℕ
+  a = start .args .arena .now
+
+  abbrev path : List ℕ
+  path = start .args .path .now
+
+  there : ObjectThere t a path (k .find-object .result)
+  there = object-there t a path (λ j. k .before .before .before .before .slice-known .given j .fits) (start .pre .is-whole, start .pre .there) (k .find-object .result) (k .find-object .ensures)
 
 read-head-requires : tie.Need-read-head-requires
-read-head-requires c κs =
-    let a = c .before .before .before .before .before .before .before .before .before .before .args in
-    let b : AreBytes (a .tables .now) = λ j. c .before .before .before .before .before .before .before .before .before .slice-known .given j .fits in
-    let p = c .before .before .before .before .before .before .before .before .before .before .pre in
-    let f = c .before .before .before .before .before .find-object in
-    let e = c .before .before .before .rows-end in
-    let z = head-inside (a .tables .now) (a .arena .now) (a .path .now) b (a .stamp) (a .digest) p (f .result) (f .ensures) (e .result) (e .ensures) in omega arith
+read-head-requires c κs = let k = c .before in let z = front-inside (t k) (a k) (path k) (k .find-object .result) (there k) in omega arith
 
-add-n : tie.Need-add-n
-add-n c =
-    let a = c .before .before .before .before .before .before .before .before .before .before .before .args in
-    let b : AreBytes (a .tables .now) = λ j. c .before .before .before .before .before .before .before .before .before .before .slice-known .given j .fits in
-    let p = c .before .before .before .before .before .before .before .before .before .before .before .pre in
-    let f = c .before .before .before .before .before .before .find-object in
-    let e = c .before .before .before .before .rows-end in
-    let z = path-most (a .tables .now) (a .arena .now) (a .path .now) b (a .stamp) (a .digest) p (f .result) (f .ensures) (e .result) (e .ensures) in omega arith
+slice-aggregate-write-row : tie.Need-slice-aggregate-write-row
+slice-aggregate-write-row c = search needs
 
-cast-t23 : tie.Need-cast-t23
-cast-t23 c =
-    let a = c .before .before .before .before .before .before .before .before .before .before .before .args in
-    let b : AreBytes (a .tables .now) = λ j. c .before .before .before .before .before .before .before .before .before .before .slice-known .given j .fits in
-    let p = c .before .before .before .before .before .before .before .before .before .before .before .pre in
-    let f = c .before .before .before .before .before .before .find-object in
-    let e = c .before .before .before .before .rows-end in
-    let z = path-most (a .tables .now) (a .arena .now) (a .path .now) b (a .stamp) (a .digest) p (f .result) (f .ensures) (e .result) (e .ensures) in omega arith
+slice-aggregate-write-row-2 : tie.Need-slice-aggregate-write-row-2
+slice-aggregate-write-row-2 c = search needs
 
-remove-rows-requires : tie.Need-remove-rows-requires
-remove-rows-requires c κs =
-    let a = c .before .before .before .before .before .before .before .before .before .before .before .before .args in
-    let b : AreBytes (a .tables .now) = λ j. c .before .before .before .before .before .before .before .before .before .before .before .slice-known .given j .fits in
-    let p = c .before .before .before .before .before .before .before .before .before .before .before .before .pre in
-    let f = c .before .before .before .before .before .before .before .find-object in
-    let e = c .before .before .before .before .before .rows-end in
-    rows-inside (a .tables .now) (a .arena .now) (a .path .now) b (a .stamp) (a .digest) p (f .result) (f .ensures) (e .result) (e .ensures)
+slice-aggregate-write-row-3 : tie.Need-slice-aggregate-write-row-3
+slice-aggregate-write-row-3 c = search needs
 
-sub-insert-row : tie.Need-sub-insert-row
-sub-insert-row c =
-    let a = c .before .before .before .before .before .before .before .before .before .before .before .before .before .before .before .before .args in
-    let b : AreBytes (a .tables .now) = λ j. c .before .before .before .before .before .before .before .before .before .before .before .before .before .before .before .slice-known .given j .fits in
-    let p = c .before .before .before .before .before .before .before .before .before .before .before .before .before .before .before .before .pre in
-    let f = c .before .before .before .before .before .before .before .before .before .before .before .find-object in
-    let e = c .before .before .before .before .before .before .before .before .before .rows-end in
-    let z = rows-inside (a .tables .now) (a .arena .now) (a .path .now) b (a .stamp) (a .digest) p (f .result) (f .ensures) (e .result) (e .ensures) in omega (arith, z .1)
+write-row-requires : tie.Need-write-row-requires
+write-row-requires c κs = let k = c .before .before .before .before .before in let h = c .before .before .before .read-head in (omega arith, pairs-fit (t k) (a k) (path k) (start k .args .stamp) (start k .args .digest) (start k .pre) (k .find-object .result) (there k) (h .result) (h .ensures))
 
-insert-row-requires : tie.Need-insert-row-requires
-insert-row-requires c κs =
-    let a = c .before .before .before .before .before .before .before .before .before .before .before .before .before .before .before .before .args in
-    let b : AreBytes (a .tables .now) = λ j. c .before .before .before .before .before .before .before .before .before .before .before .before .before .before .before .slice-known .given j .fits in
-    let p = c .before .before .before .before .before .before .before .before .before .before .before .before .before .before .before .before .pre in
-    let f = c .before .before .before .before .before .before .before .before .before .before .before .find-object in
-    let e = c .before .before .before .before .before .before .before .before .before .rows-end in
-    let r = again-inside (a .tables .now) (a .arena .now) (a .path .now) b (a .stamp) (a .digest) p (f .result) (f .ensures) (e .result) (e .ensures) (c .before .before .before .before .before .before .before .read-header .result) (c .before .before .before .before .before .before .before .read-header .ensures) (c .before .before .before .remove-rows .last .0) (c .before .before .before .remove-rows .ensures) in
-    (r .0, r .1, r .2, omega (arith, r .3, c .before .before .before .remove-rows .kept .0))
+slice-aggregate-copy-at : tie.Need-slice-aggregate-copy-at
+slice-aggregate-copy-at c = search needs
+
+copy-at-requires : tie.Need-copy-at-requires
+copy-at-requires c κs = let k = c .before .before .before .before .before .before .before .before .before in let z = front-inside (t k) (a k) (path k) (k .find-object .result) (there k) in omega arith
 
 same-length : tie.Need-same-length
 same-length c = search needs
 
 returns : tie.Need-returns
 returns c =
-    let a = c .before .before .before .before .before .before .before .before .before .before .before .before .before .before .before .before .before .before .before .args in
-    let b : AreBytes (a .tables .now) = λ j. c .before .before .before .before .before .before .before .before .before .before .before .before .before .before .before .before .before .before .slice-known .given j .fits in
-    let p = c .before .before .before .before .before .before .before .before .before .before .before .before .before .before .before .before .before .before .before .pre in
-    let f = c .before .before .before .before .before .before .before .before .before .before .before .before .before .before .find-object in
-    let e = c .before .before .before .before .before .before .before .before .before .before .before .before .rows-end in
-    restamped (a .tables .now) (a .arena .now) (a .path .now) b (a .stamp) (a .digest) p (f .result) (f .ensures) (e .result) (e .ensures) (c .before .before .before .before .before .before .before .before .before .before .read-header .result) (c .before .before .before .before .before .before .before .before .before .before .read-header .ensures) (c .before .before .before .before .before .before .remove-rows .last .0) (c .before .before .before .before .before .before .remove-rows .ensures)
-    (c .before .before .before .before .before .before .before .before .read-head .result) (c .before .before .insert-row .last .0) (c .before .before .before .before .before .before .before .before .read-head .ensures) (c .before .before .insert-row .ensures) (let l = c .before .before .insert-row .kept .0 in let k = c .before .before .before .before .before .before .remove-rows .kept .0 in l ∙ k)
+    let k = c .before .before .before .before .before .before .before .before .before .before .before .before in
+    let h = c .before .before .before .before .before .before .before .before .before .before .read-head in
+    let w = c .before .before .before .before .before .before .write-row in
+    let f = c .before .before .copy-at in
+    restamped (t k) (a k) (path k) (start k .args .stamp) (start k .args .digest) (start k .pre) (k .find-object .result) (there k) (h .result) (h .ensures)
+    (f .last .0) (w .last .0) (w .ensures ∙ append-nil _) (f .ensures) (f .kept .0)
 
 pub restamp-spec : {M : Type 1} → statement M
 restamp-spec =
     tie.close
     (tie.spec
     find-object-requires
-    rows-end-requires
-    read-header-requires
     read-head-requires
-    add-n
-    cast-t23
-    remove-rows-requires
-    sub-insert-row
-    insert-row-requires
+    slice-aggregate-write-row
+    slice-aggregate-write-row-2
+    slice-aggregate-write-row-3
+    write-row-requires
+    slice-aggregate-copy-at
+    copy-at-requires
     same-length
     returns)

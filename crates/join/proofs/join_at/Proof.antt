@@ -1,27 +1,27 @@
--- `join::join_at` meets its contract: the path freed, the upload taken out, the object put in. Assumes nothing.
-use Prim.Native.Nat.{ℕ}
-use mathlib.Core.Path.{_≡_, subst}
+-- `join::join_at` meets its contract: the lengths of the upload's pairs wait in a local array. Assumes nothing.
+use Prim.Native.Nat.{ℕ, _+_, _≤_}
+use mathlib.Core.Path.{_≡_, sym, ap, _∙_}
 use mathlib.Core.List.{List}
 use native.Mathlib.Omega.{arith}
 use borrow.Author.Needs.{needs}
-use lib.ListN.{length}
+use lib.ListN.{length, take, drop}
+use lib.Seq.{take-at, length-take-le}
 use Rattle.machine.specs.State.{State}
+use Rattle.stored_pairs.specs.Stored.{pairLengths}
 use Rattle.layout.specs.Memory.{stateOf, Stands}
-use Rattle.layout.proofs.StandsLaws.{stands-whole}
 use Rattle.layout.proofs.WholeLaws.{whole-stands}
-use Rattle.contract.specs.Answers.{partList}
-use Rattle.join.specs.Joined.{Listed, JoinableAt}
-use Rattle.join.proofs.Joining.{listed₁, addable, state-is}
+use Rattle.join.specs.Joined.{Joinable, JoinableAt, JoinableWith}
+use Rattle.join.proofs.PathRead.{row-inside, lengths-there, lengths-few}
 use Rattle.join.proofs.join_at.Statement.{statement}
 use Rattle.join.proofs.join_at.Tie as tie
 
-free-path-requires : tie.Need-free-path-requires
-free-path-requires c κs = search needs
+find-upload-requires : tie.Need-find-upload-requires
+find-upload-requires c κs = search needs
 
--- once the path is free
-module _ (f : tie.After-free-path) where
+-- once the upload's row is found
+module _ (p : tie.After-find-upload) where
   abbrev start : tie.Start
-  start = f .before .before .before .before .before .before .before
+  start = p .before .before .before .before .before .before .before
 
   abbrev t : List ℕ
   t = start .args .tables .now
@@ -32,27 +32,63 @@ module _ (f : tie.After-free-path) where
   abbrev s : State
   s = stateOf t a
 
+  abbrev u : ℕ
+  u = start .args .upload
+
   stands : Stands t a s
-  stands = whole-stands t a (λ j. f .before .before .before .before .before .before .slice-known .given j .fits) (start .pre .joinable .is-whole)
+  stands = whole-stands t a (λ j. p .before .before .before .before .before .before .slice-known .given j .fits) (start .pre .joinable .is-whole)
 
-  abbrev listed : JoinableAt t a (start .args .upload) (start .args .list .now) (start .args .path .now) (start .args .stamp) → Listed (stateOf (f .free-path .last .0) (f .free-path .last .1 .0)) (start .args .upload) (partList (start .args .list .now))
-  listed j =
-      listed₁ t a s stands (start .args .upload) (start .args .list .now) (j .joinable .listed) (j .joinable .valid) (start .args .path .now) (j .path-is) (start .args .stamp) (j .stamp-is)
-      (f .free-path .last .0) (f .free-path .last .1 .0) (f .free-path .ensures)
+lengths-requires : tie.Need-lengths-requires
+lengths-requires c κs =
+    let p = c .before in
+    let k = start p .pre .joinable .listed in
+    row-inside (t p) (a p) (s p) (stands p) (u p) (k .upload) (k .found) _ (p .find-upload .ensures)
 
-take-upload-requires : tie.Need-take-upload-requires
-take-upload-requires c κs =
-    let f = c .before .before .before .before .before .before in
-    (stands-whole _ _ _ (f .free-path .ensures), listed f (start f .pre))
+slice-aggregate-copy-at : tie.Need-slice-aggregate-copy-at
+slice-aggregate-copy-at c = search needs
 
-add-object-requires : tie.Need-add-object-requires
-add-object-requires c κs =
-    let g = c .before .before .before .before .before .before in
-    let f = g .before .before .before .before .before .before .before in
-    let j = start f .pre in
-    let kept : length (g .take-upload .last .1 .0) ≡ length (a f) = omega (arith, g .take-upload .kept, f .free-path .kept) in
-    addable (t f) (a f) (s f) (stands f) (start f .args .upload) (start f .args .list .now) (j .joinable .listed) (j .joinable .valid) (start f .args .path .now) (j .path-is) (start f .args .stamp) (j .stamp-is)
-    (f .free-path .last .0) (f .free-path .last .1 .0) (f .free-path .ensures) (g .take-upload .last .0) (g .take-upload .last .1 .0) (g .take-upload .result) (g .take-upload .ensures (listed f j)) kept
+-- once the lengths are read
+module _ (l : tie.After-lengths) where
+  abbrev p : tie.After-find-upload
+  p = l .before .before
+
+  abbrev n : ℕ
+  n = length (l .lengths .result .now)
+
+  are : (j : Joinable (t p) (a p) (u p) (start p .args .list .now)) → l .lengths .result .now ≡ pairLengths (j .listed .upload .pairs)
+  are j = l .lengths .ensures ∙ lengths-there (t p) (a p) (s p) (stands p) (u p) (j .listed .upload) (j .listed .found) _ (p .find-upload .ensures)
+
+  few : n ≤ 16
+  few =
+      let j = start p .pre .joinable in
+      omega (arith, ap length (are j), lengths-few (t p) (a p) (s p) (stands p) (u p) (j .listed .upload) (j .listed .found) _ (p .find-upload .ensures))
+
+copy-at-requires : tie.Need-copy-at-requires
+copy-at-requires c κs = omega (arith, few (c .before))
+
+-- once they are copied
+module _ (d : tie.After-copy-at) where
+  abbrev l : tie.After-lengths
+  l = d .before .before
+
+  copied : take (n l) (d .copy-at .last .0) ≡ l .lengths .result .now
+  copied = ap (take (n l)) (d .copy-at .ensures) ∙ take-at (l .lengths .result .now) _ (n l) (λ i. n l)
+
+  short : n l ≤ length (d .copy-at .last .0)
+  short = omega (arith, few l, d .copy-at .kept)
+
+  with-lengths : (j : JoinableAt (t (p l)) (a (p l)) (u (p l)) (start (p l) .args .list .now) (start (p l) .args .path .now) (start (p l) .args .stamp))
+      → JoinableWith (t (p l)) (a (p l)) (u (p l)) (start (p l) .args .list .now) (start (p l) .args .path .now) (take (n l) (d .copy-at .last .0)) (start (p l) .args .stamp)
+  with-lengths j = record { at-path = j; lengths-are = copied ∙ are l (j .joinable) }
+
+array-share-prefix-lengths : tie.Need-array-share-prefix-lengths
+array-share-prefix-lengths c = omega (arith, short (c .before .before .before))
+
+slice-aggregate-join-with : tie.Need-slice-aggregate-join-with
+slice-aggregate-join-with c = let d = c .before .before .before .before in sym (length-take-le (n (l d)) (d .copy-at .last .0) (short d))
+
+join-with-requires : tie.Need-join-with-requires
+join-with-requires c κs = let d = c .before .before .before .before in with-lengths d (start (p (l d)) .pre)
 
 same-length : tie.Need-same-length
 same-length c = search needs
@@ -61,23 +97,22 @@ same-length-2 : tie.Need-same-length-2
 same-length-2 c = search needs
 
 returns : tie.Need-returns
+unfolding with-lengths
 returns c =
-    let o = c .before .before .before .before in
-    let g = o .before .before .before .before .before .before .before in
-    let f = g .before .before .before .before .before .before .before in
-    let kept : length (g .take-upload .last .1 .0) ≡ length (a f) = omega (arith, g .take-upload .kept, f .free-path .kept) in
-    λ j. subst (λ (z : State). Stands (o .add-object .last .0) (o .add-object .last .1 .0) z)
-    (state-is (t f) (a f) (s f) (stands f) (start f .args .upload) (start f .args .list .now) (j .joinable .listed) (j .joinable .valid) (start f .args .path .now) (j .path-is) (start f .args .stamp) (j .stamp-is)
-    (f .free-path .last .0) (f .free-path .last .1 .0) (f .free-path .ensures) (g .take-upload .last .0) (g .take-upload .last .1 .0) (g .take-upload .result) (g .take-upload .ensures (listed f j)) kept)
-    (o .add-object .ensures)
+    let d = c .before .before .before .before .before .before .before .before .before in
+    λ j. c .before .before .before .before .join-with .ensures (with-lengths d j)
 
 pub join-at-spec : {M : Type 1} → statement M
 join-at-spec =
     tie.close
     (tie.spec
-    free-path-requires
-    take-upload-requires
-    add-object-requires
+    find-upload-requires
+    lengths-requires
+    slice-aggregate-copy-at
+    copy-at-requires
+    array-share-prefix-lengths
+    slice-aggregate-join-with
+    join-with-requires
     same-length
     same-length-2
     returns)

@@ -18,21 +18,26 @@ returns c = not-whole (said-no (c .before .whole .ensures) (c .if1 .taken))
 -- where memory is whole
 module _ (c : tie.Else1) where
   abbrev start : tie.Start
-  start = c .before .before .before .before .before .before
+  start = c .before .before .before .before .before .before .before
 
   is-whole : whole (start .args .tables .now) (start .args .arena .now) ≡ true
   is-whole = said-yes (c .before .whole .ensures) (c .if1 .left)
 
 get-whole-requires : tie.Need-get-whole-requires
-get-whole-requires c κs = is-whole (c .before)
+get-whole-requires c κs = is-whole (c .before .before)
 
 same-length : tie.Need-same-length
 same-length c = search needs
 
+same-length-2 : tie.Need-same-length-2
+same-length-2 c = search needs
+
 returns-2 : tie.Need-returns-2
 returns-2 c =
-    let k = c .before .before .before .before in
-    made-get _ _ (λ j. k .before .before .before .before .before .shared-slice-known .given j .fits) (is-whole k) _ _ _ (c .before .before .get-whole .ensures)
+    let k = c .before .before .before .before .before .before .before in
+    made-get _ _ (λ j. k .before .before .before .before .before .before .shared-slice-known .given j .fits) (is-whole k) _ _ _ _ (c .before .before .before .before .get-whole .ensures)
 
 pub get-spec : {M : Type 1} → statement M
-get-spec = tie.close (tie.spec whole-requires returns get-whole-requires same-length returns-2)
+get-spec =
+    tie.close
+    (tie.spec whole-requires returns get-whole-requires same-length same-length-2 returns-2)

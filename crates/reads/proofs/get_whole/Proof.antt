@@ -3,7 +3,7 @@ use Prim.Native.Nat.{ℕ}
 use mathlib.Core.List.{List}
 use borrow.Author.Needs.{needs}
 use Rattle.number.specs.Number.{AreBytes}
-use Rattle.reads.proofs.Replies.{get-refused, get-root, row-inside, data-inside, get-found}
+use Rattle.reads.proofs.Replies.{get-refused, get-root, holds, get-found}
 use Rattle.reads.proofs.get_whole.Statement.{statement}
 use Rattle.reads.proofs.get_whole.Tie as tie
 
@@ -25,7 +25,7 @@ enum-known-named-2 c = search needs
 -- once the path is looked up: the tables, the arena and the path
 module _ (c : tie.After-look-up) where
   abbrev start : tie.Start
-  start = c .before .before .before .before .before
+  start = c .before .before .before .before .before .before
 
   abbrev t : List ℕ
   t = start .args .tables .now
@@ -37,33 +37,33 @@ module _ (c : tie.After-look-up) where
   p = start .args .path .now
 
   bytes : AreBytes t
-  bytes = λ j. c .before .before .before .before .shared-slice-known .given j .fits
+  bytes = λ j. c .before .before .before .before .before .shared-slice-known .given j .fits
 
 get-object-requires : tie.Need-get-object-requires
 get-object-requires c κs =
-    let l = c .before .before .before .before in
-    let e = c .before .before .named2 .given .1 in (
-      row-inside (t l) (a l) (p l) (l .look-up .result) (l .look-up .ensures) (bytes l) (start l .pre) _ _ e,
-      data-inside (t l) (a l) (p l) (l .look-up .result) (l .look-up .ensures) (bytes l) (start l .pre) _ _ e,
-    )
+    let l = c .before .before .before .before .before in
+    holds (t l) (a l) (p l) (l .look-up .result) (l .look-up .ensures) (bytes l) (start l .pre) _ _ (c .before .before .before .named2 .given .1)
 
 returns : tie.Need-returns
 returns c =
     let l = c .before .before .before in
-    get-refused (t l) (a l) (p l) (l .look-up .result) (l .look-up .ensures) (start l .args .answer .now) _ (c .before .named .given .1)
+    get-refused (t l) (a l) (p l) (l .look-up .result) (l .look-up .ensures) (start l .args .answer .now) (start l .args .pairs .now) _ (c .before .named .given .1)
 
 returns-2 : tie.Need-returns-2
 returns-2 c =
     let l = c .before .before .before in
-    get-root (t l) (a l) (p l) (l .look-up .result) (l .look-up .ensures) (c .root .result) (c .root .ensures) (c .before .enum-told .given .1) (start l .args .answer .now)
+    get-root (t l) (a l) (p l) (l .look-up .result) (l .look-up .ensures) (c .root .result) (c .root .ensures) (c .before .enum-told .given .1) (start l .args .answer .now) (start l .args .pairs .now)
 
 same-length : tie.Need-same-length
 same-length c = search needs
 
+same-length-2 : tie.Need-same-length-2
+same-length-2 c = search needs
+
 returns-3 : tie.Need-returns-3
 returns-3 c =
-    let l = c .before .before .before .before .before .before .before in
-    get-found (t l) (a l) (p l) (l .look-up .result) (l .look-up .ensures) (bytes l) (start l .pre) _ _ (c .before .before .before .before .before .named2 .given .1) (start l .args .answer .now) _ (c .before .before .get-object .ensures)
+    let l = c .before .before .before .before .before .before .before .before .before .before in
+    get-found (t l) (a l) (p l) (l .look-up .result) (l .look-up .ensures) (bytes l) (start l .pre) _ _ (c .before .before .before .before .before .before .before .before .named2 .given .1) (start l .args .answer .now) (start l .args .pairs .now) _ (c .before .before .before .before .get-object .ensures)
 
 pub get-whole-spec : {M : Type 1} → statement M
 get-whole-spec =
@@ -78,4 +78,5 @@ get-whole-spec =
     returns
     returns-2
     same-length
+    same-length-2
     returns-3)

@@ -3,7 +3,7 @@ use Prim.Native.Nat.{ℕ}
 use mathlib.Core.List.{List}
 use borrow.Author.Needs.{needs}
 use Rattle.number.specs.Number.{AreBytes}
-use Rattle.reads.proofs.Replies.{head-refused, head-root, row-inside, head-found}
+use Rattle.reads.proofs.Replies.{head-refused, head-root, holds, head-found}
 use Rattle.reads.proofs.head_whole.Statement.{statement}
 use Rattle.reads.proofs.head_whole.Tie as tie
 
@@ -25,7 +25,7 @@ enum-known-named-2 c = search needs
 -- once the path is looked up: the tables, the arena and the path
 module _ (c : tie.After-look-up) where
   abbrev start : tie.Start
-  start = c .before .before .before .before
+  start = c .before .before .before .before .before
 
   abbrev t : List ℕ
   t = start .args .tables .now
@@ -37,27 +37,30 @@ module _ (c : tie.After-look-up) where
   p = start .args .path .now
 
   bytes : AreBytes t
-  bytes = λ j. c .before .before .before .shared-slice-known .given j .fits
+  bytes = λ j. c .before .before .before .before .shared-slice-known .given j .fits
 
-metadata-requires : tie.Need-metadata-requires
-metadata-requires c κs =
-    let l = c .before .before .before in
-    row-inside (t l) (a l) (p l) (l .look-up .result) (l .look-up .ensures) (bytes l) (start l .pre) _ _ (c .before .named2 .given .1)
+head-object-requires : tie.Need-head-object-requires
+head-object-requires c κs =
+    let l = c .before .before .before .before in
+    holds (t l) (a l) (p l) (l .look-up .result) (l .look-up .ensures) (bytes l) (start l .pre) _ _ (c .before .before .named2 .given .1)
 
 returns : tie.Need-returns
 returns c =
     let l = c .before .before .before in
-    head-refused (t l) (a l) (p l) (l .look-up .result) (l .look-up .ensures) _ (c .before .named .given .1)
+    head-refused (t l) (a l) (p l) (l .look-up .result) (l .look-up .ensures) (start l .args .pairs .now) _ (c .before .named .given .1)
 
 returns-2 : tie.Need-returns-2
 returns-2 c =
     let l = c .before .before .before in
-    head-root (t l) (a l) (p l) (l .look-up .result) (l .look-up .ensures) (c .root .result) (c .root .ensures) (c .before .enum-told .given .1)
+    head-root (t l) (a l) (p l) (l .look-up .result) (l .look-up .ensures) (c .root .result) (c .root .ensures) (c .before .enum-told .given .1) (start l .args .pairs .now)
+
+same-length : tie.Need-same-length
+same-length c = search needs
 
 returns-3 : tie.Need-returns-3
 returns-3 c =
-    let l = c .before .before .before .before in
-    head-found (t l) (a l) (p l) (l .look-up .result) (l .look-up .ensures) (bytes l) (start l .pre) _ _ (c .before .before .named2 .given .1) (c .metadata .result) (c .metadata .ensures)
+    let l = c .before .before .before .before .before .before .before in
+    head-found (t l) (a l) (p l) (l .look-up .result) (l .look-up .ensures) (bytes l) (start l .pre) _ _ (c .before .before .before .before .before .named2 .given .1) (start l .args .pairs .now) _ (c .before .before .head-object .ensures)
 
 pub head-whole-spec : {M : Type 1} → statement M
 head-whole-spec =
@@ -68,7 +71,8 @@ head-whole-spec =
     enum-told
     root-requires
     enum-known-named-2
-    metadata-requires
+    head-object-requires
     returns
     returns-2
+    same-length
     returns-3)

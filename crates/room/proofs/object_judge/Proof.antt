@@ -61,7 +61,7 @@ returns-2 c =
     let f = c .before .before .before .before .find-object in
     let e = c .before .before .before .held in
     let o = c .before .read-counts in
-    λ stamp content _. judged-full (a .tables .now) (a .arena .now) b (c .before .before .before .before .before .before .before .before .pre) (a .path .now) (f .result) (f .ensures) (e .result) (e .ensures) (c .before .before .if1 .left) (o .result .objects) (o .ensures .objects) (c .if2 .taken) stamp content
+    λ stamp content m _. judged-full (a .tables .now) (a .arena .now) b (c .before .before .before .before .before .before .before .before .pre) (a .path .now) (f .result) (f .ensures) (e .result) (e .ensures) (c .before .before .if1 .left) (o .result .objects) (o .ensures .objects) (c .if2 .taken) stamp content m
 
 arena-judge-requires-2 : tie.Need-arena-judge-requires-2
 arena-judge-requires-2 c κs =

@@ -1,6 +1,6 @@
 -- `row::read_head` meets its contract: each number is read at its place. Assumes nothing.
+use Prim.Native.Nat.{_+_, _%_, _/_}
 use mathlib.Core.Path.{refl, sym, _∙_}
-use Prim.Native.Nat.{_+_}
 use native.Mathlib.Nat.{add-zero}
 use native.Mathlib.Omega.{arith}
 use lib.Dec.{lit<}
@@ -10,6 +10,12 @@ use Rattle.row.specs.Row.{widths, headAt}
 use borrow.Author.Needs.{needs}
 use Rattle.row.proofs.read_head.Statement.{statement}
 use Rattle.row.proofs.read_head.Tie as tie
+
+add-shared : tie.Need-add-shared
+add-shared c = search needs
+
+shared-slice-read-shared : tie.Need-shared-slice-read-shared
+shared-slice-read-shared c = search needs
 
 get-u32-requires : tie.Need-get-u32-requires
 get-u32-requires c κs = search needs
@@ -26,17 +32,11 @@ add-get-u64 c = search needs
 get-u64-requires : tie.Need-get-u64-requires
 get-u64-requires c κs = search needs
 
-add-t8 : tie.Need-add-t8
-add-t8 c = search needs
+add-t12 : tie.Need-add-t12
+add-t12 c = search needs
 
-shared-slice-read-t10 : tie.Need-shared-slice-read-t10
-shared-slice-read-t10 c = search needs
-
-add-t11 : tie.Need-add-t11
-add-t11 c = search needs
-
-shared-slice-read-t13 : tie.Need-shared-slice-read-t13
-shared-slice-read-t13 c = search needs
+shared-slice-read-t14 : tie.Need-shared-slice-read-t14
+shared-slice-read-t14 c = search needs
 
 add-get-u16 : tie.Need-add-get-u16
 add-get-u16 c = search needs
@@ -50,12 +50,14 @@ returns c =
     let s = c .before .before .before .before .before .before .before in
     let t = s .args .t .now in
     let at = s .args .at in
+    let shared = get-byte t (at + 16) (omega arith) ∙ number-at widths 3 at (at + 16) t (lit< tt) refl in
     λ i.
     record {
-      size = (c .before .before .before .before .before .get-u32 .ensures ∙ number-at widths 0 at at t (lit< tt) (sym (add-zero at))) i;
-      number = (c .before .before .before .before .get-u322 .ensures ∙ number-at widths 1 at (at + 4) t (lit< tt) refl) i;
-      stamp = (c .before .before .before .get-u64 .ensures ∙ number-at widths 2 at (at + 8) t (lit< tt) refl) i;
-      kind = (get-byte t (at + 16) (omega arith) ∙ number-at widths 3 at (at + 16) t (lit< tt) refl) i;
+      size = (c .before .before .before .before .get-u32 .ensures ∙ number-at widths 0 at at t (lit< tt) (sym (add-zero at))) i;
+      number = (c .before .before .before .get-u322 .ensures ∙ number-at widths 1 at (at + 4) t (lit< tt) refl) i;
+      stamp = (c .before .before .get-u64 .ensures ∙ number-at widths 2 at (at + 8) t (lit< tt) refl) i;
+      kind = shared i % 4;
+      pairs = shared i / 4;
       pathlen = (get-byte t (at + 17) (omega arith) ∙ number-at widths 4 at (at + 17) t (lit< tt) refl) i;
       count = (c .get-u16 .ensures ∙ number-at widths 5 at (at + 18) t (lit< tt) refl) i;
     }
@@ -64,15 +66,15 @@ pub read-head-spec : {M : Type 1} → statement M
 read-head-spec =
     tie.close
     (tie.spec
+    add-shared
+    shared-slice-read-shared
     get-u32-requires
     add-get-u32
     get-u32-requires-2
     add-get-u64
     get-u64-requires
-    add-t8
-    shared-slice-read-t10
-    add-t11
-    shared-slice-read-t13
+    add-t12
+    shared-slice-read-t14
     add-get-u16
     get-u16-requires
     returns)

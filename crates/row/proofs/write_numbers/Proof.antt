@@ -1,6 +1,6 @@
 -- `row::write_numbers` meets its contract: five writes, one after the other. Assumes nothing.
+use native.Mathlib.Omega.{arith}
 use Rattle.row.proofs.RowFields.{number-fields}
-use mathlib.Core.Path.{refl}
 use borrow.Author.Needs.{needs}
 use Rattle.row.proofs.write_numbers.Statement.{statement}
 use Rattle.row.proofs.write_numbers.Tie as tie
@@ -20,11 +20,20 @@ wide-requires c κs = search needs
 wide-requires-2 : tie.Need-wide-requires-2
 wide-requires-2 c κs = search needs
 
-mul-pair : tie.Need-mul-pair
-mul-pair c = search needs
+mul-first : tie.Need-mul-first
+mul-first c = search needs
 
-add-pair : tie.Need-add-pair
-add-pair c = search needs
+add-first : tie.Need-add-first
+add-first c = search needs
+
+wide-requires-3 : tie.Need-wide-requires-3
+wide-requires-3 c κs = search needs
+
+mul-put-u16 : tie.Need-mul-put-u16
+mul-put-u16 c = search needs
+
+add-put-u16 : tie.Need-add-put-u16
+add-put-u16 c = search needs
 
 put-u16-requires : tie.Need-put-u16-requires
 put-u16-requires c κs = search needs
@@ -39,13 +48,16 @@ returns : tie.Need-returns
 returns c =
     let five = c .before .before in
     let four = five .before .before .before .before in
-    let wides = four .before .before in
-    let three = wides .before .before .before .before in
+    let third = four .before in
+    let second = third .before .before in
+    let first = second .before in
+    let three = first .before .before .before in
     let two = three .before .before .before .before in
     let one = two .before .before .before .before in
     let a = one .before .before .before .args in
     number-fields (a .out .now) (one .put-u32 .last .0) (two .put-u322 .last .0) (three .put-u64 .last .0) (four .put-u16 .last .0) (five .put-u162 .last .0) (a .h)
-    (wides .before .wide .result) (wides .wide2 .result) _ (wides .before .wide .ensures .0) (wides .before .wide .ensures .1) (wides .wide2 .ensures .0) (wides .wide2 .ensures .1) refl
+    (first .wide .result) (second .wide2 .result) (third .wide3 .result) (first .wide .ensures .0) (second .wide2 .ensures .0) (third .wide3 .ensures .0)
+    (omega (arith, first .wide .ensures .0, second .wide2 .ensures .0)) (third .wide3 .ensures .1)
     (one .put-u32 .ensures) (two .put-u322 .ensures) (three .put-u64 .ensures) (four .put-u16 .ensures) (five .put-u162 .ensures)
 
 pub write-numbers-spec : {M : Type 1} → statement M
@@ -57,8 +69,11 @@ write-numbers-spec =
     put-u64-requires
     wide-requires
     wide-requires-2
-    mul-pair
-    add-pair
+    mul-first
+    add-first
+    wide-requires-3
+    mul-put-u16
+    add-put-u16
     put-u16-requires
     put-u16-requires-2
     same-length

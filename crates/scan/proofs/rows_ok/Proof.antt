@@ -15,13 +15,13 @@ enum-told : tie.Need-enum-told
 enum-told c = search needs
 
 returns : tie.Need-returns
-returns c = let a = c .before .before .before .before .before .args in sym (rows-bad (a .h) (a .tables .now) (a .arena .now) _ (c .before .before .scan-objects .ensures) (c .enum-told .given .1))
+returns c = let a = c .before .before .before .before .before .args in sym (rows-bad (a .most) (a .h) (a .tables .now) (a .arena .now) _ (c .before .before .scan-objects .ensures) (c .enum-told .given .1))
 
 entries-ok-requires : tie.Need-entries-ok-requires
-entries-ok-requires c κs = let a = c .before .before .before .before .before .before .args in rows-end (a .h) (a .tables .now) (a .arena .now) _ (c .before .before .before .scan-objects .ensures) _ (c .before .end .given .1) (c .before .before .before .before .before .before .pre)
+entries-ok-requires c κs = let a = c .before .before .before .before .before .before .args in rows-end (a .most) (a .h) (a .tables .now) (a .arena .now) _ (c .before .before .before .scan-objects .ensures) _ (c .before .end .given .1) (c .before .before .before .before .before .before .pre)
 
 returns-2 : tie.Need-returns-2
-returns-2 c = let a = c .before .before .before .before .before .before .before .args in rows-good (a .h) (a .tables .now) (a .arena .now) _ (c .before .before .before .before .scan-objects .ensures) _ (c .before .before .end .given .1) _ (c .entries-ok .ensures)
+returns-2 c = let a = c .before .before .before .before .before .before .before .args in rows-good (a .most) (a .h) (a .tables .now) (a .arena .now) _ (c .before .before .before .before .scan-objects .ensures) _ (c .before .before .end .given .1) _ (c .entries-ok .ensures)
 
 pub rows-ok-spec : {M : Type 1} → statement M
 rows-ok-spec =

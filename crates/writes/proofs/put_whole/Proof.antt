@@ -1,13 +1,13 @@
 -- `writes::put_whole` meets its contract: refused, or the digest, then the object. Assumes nothing.
 use mathlib.Core.Path.{refl, sym, _∙_}
-use mathlib.Core.List.{[]}
 use borrow.Author.Needs.{needs}
 use Rattle.number.specs.Number.{AreBytes}
-use Rattle.machine.specs.Calls.{nothing}
+use Rattle.machine.specs.Calls.{nothing, noBuffers}
+use Rattle.machine.specs.Pairs.{pairList}
 use Rattle.layout.specs.Memory.{stateOf}
 use Rattle.contract.specs.Made.{memory}
 use Rattle.contract.proofs.MadeLaws.{judged, done}
-use Rattle.writes.proofs.Putting.{put-accepted, put-ready, put-stands}
+use Rattle.writes.proofs.Putting.{put-accepted, put-ready, pairs-taken, put-stands}
 use Rattle.writes.proofs.put_whole.Statement.{statement}
 use Rattle.writes.proofs.put_whole.Tie as tie
 
@@ -29,11 +29,15 @@ digest-requires c κs = search needs
 put-object-requires : tie.Need-put-object-requires
 put-object-requires c κs =
     let k = c .before .before .before in
-    let s = k .before .before .before .before .before .before .before .before in
+    let s = k .before .before .before .before .before .before .before .before .before in
     let a = s .args in
-    let b : AreBytes (a .tables .now) = λ j. k .before .before .before .before .before .before .before .slice-known .given j .fits in
+    let b : AreBytes (a .tables .now) = λ j. k .before .before .before .before .before .before .before .before .slice-known .given j .fits in
     let d = c .before .before .digest in
-    (s .pre, put-ready (a .stamp .0) (a .path .now) (a .content .now) (d .result) (d .ensures) (a .tables .now) (a .arena .now) b (s .pre) (sym (k .before .put-judge .ensures) ∙ k .if1 .left))
+    let ps = pairList (a .pairs .now) in
+    let accepted = sym (k .before .put-judge .ensures) ∙ k .if1 .left in (
+      pairs-taken (a .stamp .0) (a .path .now) (a .content .now) ps (d .result) (d .ensures) (a .tables .now) (a .arena .now) accepted,
+      (s .pre, put-ready (a .stamp .0) (a .path .now) (a .content .now) ps (d .result) (d .ensures) (a .tables .now) (a .arena .now) b (s .pre) accepted),
+    )
 
 same-length-3 : tie.Need-same-length-3
 same-length-3 c = search needs
@@ -44,12 +48,13 @@ same-length-4 c = search needs
 returns-2 : tie.Need-returns-2
 returns-2 c =
     let k = c .before .before .before .before .before .before .before .before in
-    let a = k .before .before .before .before .before .before .before .before .args in
+    let a = k .before .before .before .before .before .before .before .before .before .args in
     let d = c .before .before .before .before .before .before .before .digest in
     let o = c .before .before .before .before .put-object in
-    let accepted = put-accepted (memory (a .tables .now) (a .arena .now)) (a .stamp .0) (a .path .now) (a .content .now) (sym (k .before .put-judge .ensures) ∙ k .if1 .left) in
-    let stands = put-stands (a .stamp .0) (a .path .now) (a .content .now) (d .result) (d .ensures) (stateOf (a .tables .now) (a .arena .now)) (o .last .0) (o .last .1 .0) (o .ensures) in
-    (done nothing [] _ accepted refl stands (o .kept .0) (o .kept .1 .0), tt)
+    let ps = pairList (a .pairs .now) in
+    let accepted = put-accepted (memory (a .tables .now) (a .arena .now)) (a .stamp .0) (a .path .now) (a .content .now) ps (sym (k .before .put-judge .ensures) ∙ k .if1 .left) in
+    let stands = put-stands (a .stamp .0) (a .path .now) (a .content .now) ps (d .result) (d .ensures) (stateOf (a .tables .now) (a .arena .now)) (o .last .0) (o .last .1 .0) (o .ensures) in
+    (done nothing noBuffers _ accepted refl stands (o .kept .0) (o .kept .1 .0), tt)
 
 pub put-whole-spec : {M : Type 1} → statement M
 put-whole-spec =

@@ -25,30 +25,50 @@ rathnodi-delete-requires : tie.Need-rathnodi-delete-requires
 rathnodi-delete-requires c κs = search needs
 
 same-length : tie.Need-same-length
-same-length c = c .before .before .before .before .rathnodi-delete .kept .0 ∙ c .before .before .before .before .before .before .before .before .before .before .before .before .before .before .before .before .before .before .before .before .rathnodi-copy .kept .0 ∙ c .before .before .before .before .before .before .before .before .before .before .before .before .before .before .before .before .before .before .before .before .before .before .before .before .before .before .before .before .before .before .before .before .before .before .before .before .before .before .before .before .before .before .rathnodi-put .kept .0
+same-length c =
+    let d = c .before .before .before .before in
+    let copied = d .before .before .before .before .before .before .before .before .before .before .before .before .before .before .before .before in
+    let first = copied .before .before .before .before .before .before .before .before .before .before .before .before .before .before .before .before .before .before .before .before .before .before .before .before .before .before .before .before in
+    d .rathnodi-delete .kept .0 ∙ copied .rathnodi-copy .kept .0 ∙ first .rathnodi-put .kept .0
 
 same-length-2 : tie.Need-same-length-2
-same-length-2 c = c .before .before .before .before .rathnodi-delete .kept .1 .0 ∙ c .before .before .before .before .before .before .before .before .before .before .before .before .before .before .before .before .before .before .before .before .rathnodi-copy .kept .1 .0 ∙ c .before .before .before .before .before .before .before .before .before .before .before .before .before .before .before .before .before .before .before .before .before .before .before .before .before .before .before .before .before .before .before .before .before .before .before .before .before .before .before .before .before .before .rathnodi-put .kept .1 .0
+same-length-2 c =
+    let d = c .before .before .before .before in
+    let copied = d .before .before .before .before .before .before .before .before .before .before .before .before .before .before .before .before in
+    let first = copied .before .before .before .before .before .before .before .before .before .before .before .before .before .before .before .before .before .before .before .before .before .before .before .before .before .before .before .before in
+    d .rathnodi-delete .kept .1 .0 ∙ copied .rathnodi-copy .kept .1 .0 ∙ first .rathnodi-put .kept .1 .0
 
 same-length-3 : tie.Need-same-length-3
-same-length-3 c = search needs
+same-length-3 c = c .before .before .before .before .before .before .before .before .before .before .before .before .before .before .before .before .before .before .before .before .before .before .before .before .before .before .before .before .before .before .before .before .before .before .before .before .before .before .rathnodi-get .kept .1 .1 .1 .0
 
 same-length-4 : tie.Need-same-length-4
-same-length-4 c = search needs
+same-length-4 c = c .before .before .before .before .before .before .before .before .before .before .before .before .before .before .before .before .before .before .before .before .before .before .before .before .before .before .before .before .before .before .before .before .before .before .before .before .before .before .rathnodi-get .kept .1 .1 .1 .1 .0
 
 same-length-5 : tie.Need-same-length-5
-same-length-5 c = search needs
+same-length-5 c = c .before .before .before .before .before .before .before .before .before .before .before .before .before .before .before .before .before .before .before .before .before .before .before .before .before .before .before .before .before .before .before .before .before .before .before .before .before .before .rathnodi-get .kept .1 .1 .1 .1 .1 .0
 
 same-length-6 : tie.Need-same-length-6
-same-length-6 c = search needs
+same-length-6 c = c .before .before .before .before .before .before .before .before .before .before .before .before .before .before .before .before .before .before .before .before .before .before .before .before .before .before .before .rathnodi-head .kept .1 .1 .1 .0
 
 same-length-7 : tie.Need-same-length-7
-same-length-7 c = search needs
+same-length-7 c = c .before .before .before .before .before .before .before .before .before .before .before .before .before .before .before .before .before .before .before .before .before .before .before .before .before .before .before .rathnodi-head .kept .1 .1 .1 .1 .0
+
+same-length-8 : tie.Need-same-length-8
+same-length-8 c = search needs
+
+same-length-9 : tie.Need-same-length-9
+same-length-9 c = search needs
 
 returns : tie.Need-returns
 unfolding shelfEvents
 returns c =
-    call (put (c .before .before .before .before .before .before .before .before .before .before .before .before .before .before .before .before .before .before .before .before .before .before .before .before .before .before .before .before .before .before .before .before .before .before .before .before .before .before .before .before .before .before .rathnodi-put .ensures)) (call (get (c .before .before .before .before .before .before .before .before .before .before .before .before .before .before .before .before .before .before .before .before .before .before .before .before .before .before .before .before .before .before .before .before .before .rathnodi-get .ensures)) (call (head (c .before .before .before .before .before .before .before .before .before .before .before .before .before .before .before .before .before .before .before .before .before .before .before .before .before .rathnodi-head .ensures)) (call (copy (c .before .before .before .before .before .before .before .before .before .before .before .before .before .before .before .before .before .before .before .before .rathnodi-copy .ensures)) (call (list (c .before .before .before .before .before .before .before .before .before .before .before .rathnodi-list .ensures)) (call (delete (c .before .before .before .before .rathnodi-delete .ensures)) stop)))))
+    let d = c .before .before .before .before in
+    let listed = d .before .before .before .before .before .before .before in
+    let copied = listed .before .before .before .before .before .before .before .before .before in
+    let about = copied .before .before .before .before .before .before .before in
+    let got = about .before .before .before .before .before .before .before .before .before .before .before in
+    let first = got .before .before .before .before .before .before .before .before .before .before in
+    call (put _ (first .rathnodi-put .ensures)) (call (get (got .rathnodi-get .ensures)) (call (head (about .rathnodi-head .ensures)) (call (copy (copied .rathnodi-copy .ensures)) (call (list (listed .rathnodi-list .ensures)) (call (delete (d .rathnodi-delete .ensures)) stop)))))
 
 pub shelve-spec : {M : Type 1} → statement M
 shelve-spec =
@@ -67,4 +87,6 @@ shelve-spec =
     same-length-5
     same-length-6
     same-length-7
+    same-length-8
+    same-length-9
     returns)

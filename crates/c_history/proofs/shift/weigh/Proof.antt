@@ -22,10 +22,20 @@ rathnodi-abort-requires : tie.Need-rathnodi-abort-requires
 rathnodi-abort-requires c κs = search needs
 
 same-length : tie.Need-same-length
-same-length c = c .before .before .before .before .rathnodi-abort .kept .0 ∙ c .before .before .before .before .before .before .before .before .before .before .before .rathnodi-commit .kept .0 ∙ c .before .before .before .before .before .before .before .before .before .before .before .before .before .before .before .before .before .before .before .before .before .before .before .before .before .before .before .before .before .rathnodi-part .kept .0 ∙ c .before .before .before .before .before .before .before .before .before .before .before .before .before .before .before .before .before .before .before .before .before .before .before .before .before .before .before .before .before .before .before .before .before .before .before .before .before .before .before .rathnodi-initiate .kept .0
+same-length c =
+    let gone = c .before .before .before .before in
+    let joined = gone .before .before .before .before .before .before .before in
+    let second = joined .before .before .before .before .before .before .before .before .before .before .before .before .before .before .before .before .before .before in
+    let first = second .before .before .before .before .before .before .before .before .before .before in
+    gone .rathnodi-abort .kept .0 ∙ joined .rathnodi-commit .kept .0 ∙ second .rathnodi-part .kept .0 ∙ first .rathnodi-initiate .kept .0
 
 same-length-2 : tie.Need-same-length-2
-same-length-2 c = c .before .before .before .before .rathnodi-abort .kept .1 .0 ∙ c .before .before .before .before .before .before .before .before .before .before .before .rathnodi-commit .kept .1 .0 ∙ c .before .before .before .before .before .before .before .before .before .before .before .before .before .before .before .before .before .before .before .before .before .before .before .before .before .before .before .before .before .rathnodi-part .kept .1 .0 ∙ c .before .before .before .before .before .before .before .before .before .before .before .before .before .before .before .before .before .before .before .before .before .before .before .before .before .before .before .before .before .before .before .before .before .before .before .before .before .before .before .rathnodi-initiate .kept .1 .0
+same-length-2 c =
+    let gone = c .before .before .before .before in
+    let joined = gone .before .before .before .before .before .before .before in
+    let second = joined .before .before .before .before .before .before .before .before .before .before .before .before .before .before .before .before .before .before in
+    let first = second .before .before .before .before .before .before .before .before .before .before in
+    gone .rathnodi-abort .kept .1 .0 ∙ joined .rathnodi-commit .kept .1 .0 ∙ second .rathnodi-part .kept .1 .0 ∙ first .rathnodi-initiate .kept .1 .0
 
 same-length-3 : tie.Need-same-length-3
 same-length-3 c = search needs
@@ -42,7 +52,12 @@ same-length-6 c = search needs
 returns : tie.Need-returns
 unfolding weighEvents
 returns c =
-    call (initiate (c .before .before .before .before .before .before .before .before .before .before .before .before .before .before .before .before .before .before .before .before .before .before .before .before .before .before .before .before .before .before .before .before .before .before .before .before .before .before .before .rathnodi-initiate .ensures)) (call (part (c .before .before .before .before .before .before .before .before .before .before .before .before .before .before .before .before .before .before .before .before .before .before .before .before .before .before .before .before .before .rathnodi-part .ensures)) (call (uploads (c .before .before .before .before .before .before .before .before .before .before .before .before .before .before .before .before .before .before .rathnodi-uploads .ensures)) (call (commit _ (c .before .before .before .before .before .before .before .before .before .before .before .rathnodi-commit .ensures)) (call (abort (c .before .before .before .before .rathnodi-abort .ensures)) stop))))
+    let gone = c .before .before .before .before in
+    let joined = gone .before .before .before .before .before .before .before in
+    let listed = joined .before .before .before .before .before .before .before in
+    let second = listed .before .before .before .before .before .before .before .before .before .before .before in
+    let first = second .before .before .before .before .before .before .before .before .before .before in
+    call (initiate _ (first .rathnodi-initiate .ensures)) (call (part (second .rathnodi-part .ensures)) (call (uploads (listed .rathnodi-uploads .ensures)) (call (commit _ (joined .rathnodi-commit .ensures)) (call (abort (gone .rathnodi-abort .ensures)) stop))))
 
 pub weigh-spec : {M : Type 1} → statement M
 weigh-spec =

@@ -1,10 +1,13 @@
--- `edit::objects::add_object` meets its contract: one row is put in, and its data turned into place. Assumes nothing.
-use Rattle.number.specs.Number.{AreBytes}
-use mathlib.Core.Path.{ap}
-use Rattle.layout.specs.declared.Header.{Header}
-use Rattle.edit.proofs.ObjectEdits.{header-inside, path-most, size-small, some-room, add-row, add-base, add-data, add-stands}
+-- `edit::objects::add_object` meets its contract: one row is put in, and its block turned into place. Assumes nothing.
+use Prim.Native.Nat.{ℕ, _≤_}
+use mathlib.Core.Path.{_≡_, ap}
+use mathlib.Core.List.{List}
 use native.Mathlib.Omega.{arith}
+use lib.ListN.{length}
 use borrow.Author.Needs.{needs}
+use Rattle.number.specs.Number.{AreBytes}
+use Rattle.layout.specs.declared.Header.{Header}
+use Rattle.edit.proofs.ObjectEdits as edits
 use Rattle.edit.proofs.objects.add_object.Statement.{statement}
 use Rattle.edit.proofs.objects.add_object.Tie as tie
 
@@ -14,66 +17,54 @@ find-object-requires c κs = search needs
 rows-end-requires : tie.Need-rows-end-requires
 rows-end-requires c κs = search needs
 
+-- what the laws say, once the places are found
+module _ (k : tie.After-rows-end) where
+  abbrev start : tie.Start
+  start = k .before .before .before .before .before .before .before .before .before .before
+
+  abbrev find : tie.After-find-object
+  find = k .before .before .before
+
+  abbrev t : List ℕ
+  t = start .args .tables .now
+
+  abbrev a : List ℕ
+  a = start .args .arena .now
+
+  abbrev path : List ℕ
+  path = start .args .path .now
+
+  known : AreBytes t
+  known = λ j. k .before .before .before .before .before .before .before .before .before .slice-known .given j .fits
+
+  adds : edits.Adding t a path (find .find-object .result) (k .rows-end .result) (start .args .stamp) (start .args .kind) (start .args .count) (start .args .digest) (start .args .lengths .now) (start .args .size)
+  adds =
+      edits.adding t a known (start .pre .is-whole) path (find .find-object .result) (find .find-object .ensures) (k .rows-end .result) (k .rows-end .ensures)
+      (start .args .stamp) (start .args .kind) (start .args .count) (start .args .digest) (start .args .lengths .now) (start .args .size) (start .pre)
+
 read-header-requires : tie.Need-read-header-requires
-read-header-requires c κs =
-    let a = c .before .before .before .before .before .before .before .before .before .before .args in
-    let b : AreBytes (a .tables .now) = λ j. c .before .before .before .before .before .before .before .before .before .slice-known .given j .fits in
-    header-inside (a .tables .now) (a .arena .now) b (c .before .before .before .before .before .before .before .before .before .before .pre .is-whole)
+read-header-requires c κs = let k = c .before in edits.header-inside (t k) (a k) (known k) (start k .pre .is-whole)
 
-cast-t26 : tie.Need-cast-t26
-cast-t26 c =
-    let a = c .before .before .before .before .before .before .before .before .before .before .before .args in
-    let b : AreBytes (a .tables .now) = λ j. c .before .before .before .before .before .before .before .before .before .before .slice-known .given j .fits in
-    let p = c .before .before .before .before .before .before .before .before .before .before .before .pre in
-    let f = c .before .before .before .before .before .find-object in
-    let e = c .before .before .rows-end in
-    let z = size-small (a .tables .now) (a .arena .now) b (p .is-whole) (a .path .now) (f .result) (f .ensures) (e .result) (e .ensures) (a .stamp) (a .kind) (a .count) (a .digest) (a .size) p in omega arith
+cast-t27 : tie.Need-cast-t27
+cast-t27 c = let z = adds (c .before .before) .small in omega arith
 
-cast-t28 : tie.Need-cast-t28
-cast-t28 c =
-    let a = c .before .before .before .before .before .before .before .before .before .before .before .args in
-    let b : AreBytes (a .tables .now) = λ j. c .before .before .before .before .before .before .before .before .before .before .slice-known .given j .fits in
-    let p = c .before .before .before .before .before .before .before .before .before .before .before .pre in
-    let f = c .before .before .before .before .before .find-object in
-    let e = c .before .before .rows-end in
-    let z = path-most (a .tables .now) (a .arena .now) b (p .is-whole) (a .path .now) (f .result) (f .ensures) (e .result) (e .ensures) (a .stamp) (a .kind) (a .count) (a .digest) (a .size) p in omega arith
+cast-t30 : tie.Need-cast-t30
+cast-t30 c = let z = adds (c .before .before) .few in omega arith
 
-add-t29 : tie.Need-add-t29
-add-t29 c =
-    let a = c .before .before .before .before .before .before .before .before .before .before .before .before .args in
-    let b : AreBytes (a .tables .now) = λ j. c .before .before .before .before .before .before .before .before .before .before .before .slice-known .given j .fits in
-    let p = c .before .before .before .before .before .before .before .before .before .before .before .before .pre in
-    let f = c .before .before .before .before .before .before .find-object in
-    let e = c .before .before .before .rows-end in
-    let h = c .before .read-header .ensures in
-    let z = some-room (a .tables .now) (a .arena .now) b (p .is-whole) (a .path .now) (f .result) (f .ensures) (e .result) (e .ensures) (a .stamp) (a .kind) (a .count) (a .digest) (a .size) p in omega (arith, ap (λ (x : Header). x .objects) h)
+cast-t32 : tie.Need-cast-t32
+cast-t32 c = let z = adds (c .before .before) .short in omega arith
+
+add-t33 : tie.Need-add-t33
+add-t33 c = let z = adds (c .before .before .before) .another in omega (arith, ap (λ (x : Header). x .objects) (c .before .read-header .ensures))
 
 insert-row-requires : tie.Need-insert-row-requires
-insert-row-requires c κs =
-    let a = c .before .before .before .before .before .before .before .before .before .before .before .before .before .args in
-    let b : AreBytes (a .tables .now) = λ j. c .before .before .before .before .before .before .before .before .before .before .before .before .slice-known .given j .fits in
-    let p = c .before .before .before .before .before .before .before .before .before .before .before .before .before .pre in
-    let f = c .before .before .before .before .before .before .before .find-object in
-    let e = c .before .before .before .before .rows-end in
-    add-row (a .tables .now) (a .arena .now) b (p .is-whole) (a .path .now) (f .result) (f .ensures) (e .result) (e .ensures) (a .stamp) (a .kind) (a .count) (a .digest) (a .size) p
+insert-row-requires c κs = adds (c .before .before .before .before) .row
 
 sub-rotate : tie.Need-sub-rotate
-sub-rotate c =
-    let a = c .before .before .before .before .before .before .before .before .before .before .before .before .before .before .before .before .before .args in
-    let b : AreBytes (a .tables .now) = λ j. c .before .before .before .before .before .before .before .before .before .before .before .before .before .before .before .before .slice-known .given j .fits in
-    let p = c .before .before .before .before .before .before .before .before .before .before .before .before .before .before .before .before .before .pre in
-    let f = c .before .before .before .before .before .before .before .before .before .before .before .find-object in
-    let e = c .before .before .before .before .before .before .before .before .rows-end in
-    let z = add-base (a .tables .now) (a .arena .now) b (p .is-whole) (a .path .now) (f .result) (f .ensures) (e .result) (e .ensures) (a .stamp) (a .kind) (a .count) (a .digest) (a .size) p in omega arith
+sub-rotate c = let z = adds (c .before .before .before .before .before .before .before .before) .base in omega arith
 
 rotate-requires : tie.Need-rotate-requires
-rotate-requires c κs =
-    let a = c .before .before .before .before .before .before .before .before .before .before .before .before .before .before .before .before .before .args in
-    let b : AreBytes (a .tables .now) = λ j. c .before .before .before .before .before .before .before .before .before .before .before .before .before .before .before .before .slice-known .given j .fits in
-    let p = c .before .before .before .before .before .before .before .before .before .before .before .before .before .before .before .before .before .pre in
-    let f = c .before .before .before .before .before .before .before .before .before .before .before .find-object in
-    let e = c .before .before .before .before .before .before .before .before .rows-end in
-    add-data (a .tables .now) (a .arena .now) b (p .is-whole) (a .path .now) (f .result) (f .ensures) (e .result) (e .ensures) (a .stamp) (a .kind) (a .count) (a .digest) (a .size) p
+rotate-requires c κs = adds (c .before .before .before .before .before .before .before .before) .room
 
 same-length : tie.Need-same-length
 same-length c = search needs
@@ -83,13 +74,11 @@ same-length-2 c = search needs
 
 returns : tie.Need-returns
 returns c =
-    let a = c .before .before .before .before .before .before .before .before .before .before .before .before .before .before .before .before .before .before .before .before .args in
-    let b : AreBytes (a .tables .now) = λ j. c .before .before .before .before .before .before .before .before .before .before .before .before .before .before .before .before .before .before .before .slice-known .given j .fits in
-    let p = c .before .before .before .before .before .before .before .before .before .before .before .before .before .before .before .before .before .before .before .before .pre in
-    let f = c .before .before .before .before .before .before .before .before .before .before .before .before .before .before .find-object in
-    let e = c .before .before .before .before .before .before .before .before .before .before .before .rows-end in
-    add-stands (a .tables .now) (a .arena .now) b (p .is-whole) (a .path .now) (f .result) (f .ensures) (e .result) (e .ensures) (a .stamp) (a .kind) (a .count) (a .digest) (a .size) p (c .before .before .before .before .before .before .before .before .before .read-header .result) (c .before .before .before .before .before .before .insert-row .last .0) (c .before .before .rotate .last .0)
-    (c .before .before .before .before .before .before .before .before .before .read-header .ensures) (c .before .before .before .before .before .before .insert-row .ensures) (c .before .before .rotate .ensures) (c .before .before .before .before .before .before .insert-row .kept .0) (c .before .before .rotate .kept .0)
+    let rotate = c .before .before .rotate in
+    let insert = c .before .before .before .before .before .before .insert-row in
+    let header = c .before .before .before .before .before .before .before .before .before .read-header in
+    let k = c .before .before .before .before .before .before .before .before .before .before .before in
+    adds k .stands (header .result) (insert .last .0) (rotate .last .0) (header .ensures) (insert .ensures) (rotate .ensures) (insert .kept .0) (rotate .kept .0)
 
 pub add-object-spec : {M : Type 1} → statement M
 add-object-spec =
@@ -98,9 +87,10 @@ add-object-spec =
     find-object-requires
     rows-end-requires
     read-header-requires
-    cast-t26
-    cast-t28
-    add-t29
+    cast-t27
+    cast-t30
+    cast-t32
+    add-t33
     insert-row-requires
     sub-rotate
     rotate-requires

@@ -2,7 +2,6 @@
 use Prim.Native.Nat.{ℕ, _+_}
 use mathlib.Core.Path.{_≡_, refl, sym, ap, _∙_}
 use mathlib.Core.List.{List}
-use native.Mathlib.Omega.{arith}
 use lib.ListN.{length, take}
 use Rattle.md5.specs.Md5.{bytesOf}
 use Rattle.md5.specs.Md5Laws.{length-bytesOf}
@@ -24,23 +23,34 @@ write-row-requires c κs = search needs
 add-n : tie.Need-add-n
 add-n c = search needs
 
+add-n-2 : tie.Need-add-n-2
+add-n-2 c = search needs
+
 array-share-prefix-row : tie.Need-array-share-prefix-row
 array-share-prefix-row c = search needs
 
 -- the front of the local array
-front : (k : tie.After-write-row)
-    → let a = k .before .before .before .before .args in
-    take (headLength + length (a .path .now)) (k .write-row .last .0) ≡ rowBytes (a .h) (bytesOf (a .digest)) (a .path .now)
-front k =
-    let a = k .before .before .before .before .args in
-    row-front _ (k .write-row .last .0) (bytesOf (a .digest)) (a .path .now) (a .h) (headLength + length (a .path .now)) (length-bytesOf (a .digest)) refl (k .write-row .ensures)
+module _ (k : tie.After-write-row) where
+  abbrev entry : tie.Start
+  entry = k .before .before .before .before .before
 
-front-length : (k : tie.After-write-row)
-    → let a = k .before .before .before .before .args in
-    length (take (headLength + length (a .path .now)) (k .write-row .last .0)) ≡ headLength + length (a .path .now)
-front-length k =
-    let a = k .before .before .before .before .args in
-    ap length (front k) ∙ length-rowBytes (a .h) (bytesOf (a .digest)) (a .path .now) (length-bytesOf (a .digest))
+  abbrev path : List ℕ
+  path = entry .args .path .now
+
+  abbrev lengths : List ℕ
+  lengths = entry .args .lengths .now
+
+  abbrev digest : List ℕ
+  digest = bytesOf (entry .args .digest)
+
+  abbrev n : ℕ
+  n = headLength + length path + length lengths
+
+  front : take n (k .write-row .last .0) ≡ rowBytes (entry .args .h) digest path lengths
+  front = row-front _ (k .write-row .last .0) digest path lengths (entry .args .h) n (length-bytesOf (entry .args .digest)) refl (k .write-row .ensures)
+
+  front-length : length (take n (k .write-row .last .0)) ≡ n
+  front-length = ap length front ∙ length-rowBytes (entry .args .h) digest path lengths (length-bytesOf (entry .args .digest))
 
 slice-aggregate-splice : tie.Need-slice-aggregate-splice
 slice-aggregate-splice c = sym (front-length (c .before .before .before))
@@ -48,8 +58,8 @@ slice-aggregate-splice c = sym (front-length (c .before .before .before))
 splice-requires : tie.Need-splice-requires
 splice-requires c κs =
     let k = c .before .before .before in
-    let p = k .before .before .before .before .pre in
-    (omega (arith, p .1), (omega (arith, p .3), omega (arith, front-length k, p .3)))
+    let p = k .before .before .before .before .before .pre in
+    (omega (arith, p .within), (omega (arith, p .room), omega (arith, front-length k, p .room)))
 
 write-header-requires : tie.Need-write-header-requires
 write-header-requires c κs = search needs
@@ -62,7 +72,7 @@ returns c =
     let header = c .before .before in
     let splice = header .before .before .before .before in
     let row = splice .before .before .before .before in
-    let a = row .before .before .before .before .args in
+    let a = row .before .before .before .before .before .args in
     header .write-header .ensures
     ∙ ap (λ (t : List ℕ). headed t (a .header)) (splice .splice .ensures ∙ ap (λ (r : List ℕ). spliced (a .tables .now) (a .at) 0 (a .used) r) (front row))
 
@@ -73,6 +83,7 @@ insert-row-spec =
     slice-aggregate-write-row
     write-row-requires
     add-n
+    add-n-2
     array-share-prefix-row
     slice-aggregate-splice
     splice-requires

@@ -36,23 +36,26 @@ known : (k : tie.After-read-header)
     (p .absent) (a .digest) (a .size) (p .room) (p .valid)
 known k = adding _ _ _ _ _ _ _ _ _ _ _ _ _ _ _ _ _ _ _
 
-cast-t25 : tie.Need-cast-t25
-cast-t25 c = let z = known c .fits in omega arith
+cast-t26 : tie.Need-cast-t26
+cast-t26 c = let z = known c .fits in omega arith
 
-add-t27 : tie.Need-add-t27
-add-t27 c = let z = known (c .before) .count in omega arith
+add-t28 : tie.Need-add-t28
+add-t28 c = let z = known (c .before) .count in omega arith
 
 slice-aggregate-insert-row : tie.Need-slice-aggregate-insert-row
 slice-aggregate-insert-row c = search needs
 
+slice-aggregate-insert-row-2 : tie.Need-slice-aggregate-insert-row-2
+slice-aggregate-insert-row-2 c = search needs
+
 insert-row-requires : tie.Need-insert-row-requires
-insert-row-requires c κs = known (c .before .before .before) .rows
+insert-row-requires c κs = known (c .before .before .before .before) .rows
 
 sub-rotate : tie.Need-sub-rotate
-sub-rotate c = let z = known (c .before .before .before .before .before .before .before) .base in omega arith
+sub-rotate c = let z = known (c .before .before .before .before .before .before .before .before) .base in omega arith
 
 rotate-requires : tie.Need-rotate-requires
-rotate-requires c κs = known (c .before .before .before .before .before .before .before) .content
+rotate-requires c κs = known (c .before .before .before .before .before .before .before .before) .content
 
 same-length : tie.Need-same-length
 same-length c = search needs
@@ -64,7 +67,7 @@ returns : tie.Need-returns
 returns c =
     let two = c .before .before in
     let one = two .before .before .before .before in
-    known (one .before .before .before .before) .stands (one .insert-row .last .0) (two .rotate .last .0)
+    known (one .before .before .before .before .before) .stands (one .insert-row .last .0) (two .rotate .last .0)
     (one .insert-row .ensures) (two .rotate .ensures) (one .insert-row .kept .0) (two .rotate .kept .0)
 
 pub add-part-spec : {M : Type 1} → statement M
@@ -74,9 +77,10 @@ add-part-spec =
     find-part-requires
     rows-end-requires
     read-header-requires
-    cast-t25
-    add-t27
+    cast-t26
+    add-t28
     slice-aggregate-insert-row
+    slice-aggregate-insert-row-2
     insert-row-requires
     sub-rotate
     rotate-requires

@@ -1,8 +1,15 @@
--- `edit_uploads::uploads::open_upload` meets its contract: one row without data is put after all rows. Assumes nothing.
-use Rattle.edit.proofs.ObjectEdits.{header-inside}
-use Rattle.edit_uploads.proofs.UploadEdits.{Opening, opening}
+-- `edit_uploads::uploads::open_upload` meets its contract: the block goes after the last byte held, and its row after all rows. Assumes nothing.
+use Prim.Native.Nat.{ℕ}
+use mathlib.Core.Path.{_≡_, sym}
+use mathlib.Core.List.{List}
 use native.Mathlib.Omega.{arith}
+use lib.ListN.{length, take}
+use lib.Seq.{length-take-le}
 use borrow.Author.Needs.{needs}
+use Rattle.number.specs.Number.{AreBytes}
+use Rattle.edit.specs.Blocks.{keptOf}
+use Rattle.edit.proofs.ObjectEdits.{header-inside}
+use Rattle.edit_uploads.proofs.UploadEdits.{Opening, opening, Opened, after-block}
 use Rattle.edit_uploads.proofs.uploads.open_upload.Statement.{statement}
 use Rattle.edit_uploads.proofs.uploads.open_upload.Tie as tie
 
@@ -11,38 +18,90 @@ rows-end-requires c κs = search needs
 
 read-header-requires : tie.Need-read-header-requires
 read-header-requires c κs =
-    let k = c .before .before .before .before .before in
-    let a = k .before .args in
-    header-inside (a .tables .now) (a .arena .now) (λ j. k .slice-known .given j .fits) (k .before .pre .0)
+    let y = c .before .before .before .before .before .before .before in
+    let a = y .before .args in
+    header-inside (a .tables .now) (a .arena .now) (λ j. y .slice-known .given j .fits) (y .before .pre .1 .0)
 
--- what is known once the header is read
-known : (k : tie.After-read-header) → let o = k .before .before in let y = o .before .before .before .before in let a = y .before .args in
-    Opening (a .tables .now) (a .arena .now) (λ j. y .slice-known .given j .fits) (y .before .pre .0) (o .rows-end .result) (o .rows-end .ensures) (k .read-header .result) (k .read-header .ensures)
-    (a .stamp) (a .path .now) (y .before .pre .1)
-known k = opening _ _ _ _ _ _ _ _ _ _ _
+-- once the header is read
+module _ (k : tie.After-read-header) where
+  abbrev start : tie.Start
+  start = k .before .before .before .before .before .before .before .before .before
 
-cast-t15 : tie.Need-cast-t15
-cast-t15 c = let z = known (c .before) .number in omega arith
+  abbrev end : tie.After-rows-end
+  end = k .before .before
 
-cast-t17 : tie.Need-cast-t17
-cast-t17 c = let z = known (c .before) .path in omega arith
+  bytes : AreBytes (start .args .tables .now)
+  bytes = λ j. k .before .before .before .before .before .before .before .before .slice-known .given j .fits
 
-add-t18 : tie.Need-add-t18
-add-t18 c = let z = known (c .before .before) .number in omega arith
+  begun : Opening (start .args .tables .now) (start .args .arena .now) bytes (start .pre .1 .0) (end .rows-end .result) (end .rows-end .ensures) (k .read-header .result) (k .read-header .ensures)
+      (start .args .stamp) (start .args .path .now) (keptOf (start .args .pairs .now)) (start .pre .1 .1)
+  begun = opening _ _ _ _ _ _ _ _ _ _ _ _
 
-add-t19 : tie.Need-add-t19
-add-t19 c = let z = known (c .before .before .before) .count in omega arith
+slice-aggregate-write-block : tie.Need-slice-aggregate-write-block
+slice-aggregate-write-block c = search needs
+
+slice-aggregate-write-block-2 : tie.Need-slice-aggregate-write-block-2
+slice-aggregate-write-block-2 c = search needs
+
+write-block-requires : tie.Need-write-block-requires
+write-block-requires c κs = let k = c .before .before .before in record { taken = start k .pre .0; room = begun k .room; lengths-room = omega arith }
+
+-- once the block is written
+module _ (w : tie.After-write-block) where
+  abbrev k : tie.After-read-header
+  k = w .before .before .before .before
+
+  abbrev n : ℕ
+  n = w .write-block .result .lengths
+
+  abbrev lengths : List ℕ
+  lengths = take n (w .write-block .last .1 .1 .1 .1 .0)
+
+  lengths-length : length lengths ≡ n
+  lengths-length = let z = w .write-block .ensures .few in length-take-le n (w .write-block .last .1 .1 .1 .1 .0) (omega (arith, w .write-block .kept .1 .1 .1 .1 .0))
+
+  done : Opened (start k .args .tables .now) (start k .args .arena .now) (bytes k) (start k .pre .1 .0) (end k .rows-end .result) (end k .rows-end .ensures) (k .read-header .result) (k .read-header .ensures)
+      (start k .args .stamp) (start k .args .path .now) (keptOf (start k .args .pairs .now)) (start k .pre .1 .1)
+      (w .write-block .last .0) n (w .write-block .result .bytes) (w .write-block .ensures .bytes) (w .write-block .ensures .block) (w .write-block .kept .0) lengths lengths-length (w .write-block .ensures .lengths)
+  done = after-block _ _ _ _ _ _ _ _ _ _ _ _ _ _ _ _ _ _ _ _ _
+
+cast-t28 : tie.Need-cast-t28
+cast-t28 c = let z = done (c .before .before .before .before) .small in omega arith
+
+cast-t29 : tie.Need-cast-t29
+cast-t29 c = let z = begun (c .before .before .before .before .before .before .before .before .before) .number in omega arith
+
+cast-t31 : tie.Need-cast-t31
+cast-t31 c = search needs
+
+cast-t33 : tie.Need-cast-t33
+cast-t33 c = let z = begun (c .before .before .before .before .before .before .before .before .before) .path in omega arith
+
+add-t34 : tie.Need-add-t34
+add-t34 c = let z = begun (c .before .before .before .before .before .before .before .before .before .before) .number in omega arith
+
+add-t35 : tie.Need-add-t35
+add-t35 c = let z = begun (c .before .before .before .before .before .before .before .before .before .before .before) .count in omega arith
+
+array-share-prefix-lengths : tie.Need-array-share-prefix-lengths
+array-share-prefix-lengths c = search needs
+
+slice-aggregate-insert-row : tie.Need-slice-aggregate-insert-row
+slice-aggregate-insert-row c = sym (lengths-length (c .before .before .before .before .before .before .before .before .before))
 
 insert-row-requires : tie.Need-insert-row-requires
-insert-row-requires c κs = known (c .before .before .before .before) .room
+insert-row-requires c κs = done (c .before .before .before .before .before .before .before .before .before) .room
 
 same-length : tie.Need-same-length
 same-length c = search needs
 
+same-length-2 : tie.Need-same-length-2
+same-length-2 c = search needs
+
 returns : tie.Need-returns
 returns c =
     let i = c .before .before in
-    known (i .before .before .before .before .before) .stands (i .insert-row .last .0) (i .insert-row .ensures) (i .insert-row .kept .0)
+    done (i .before .before .before .before .before .before .before .before .before .before) .stands (i .insert-row .last .0) (i .insert-row .ensures) (i .insert-row .kept .0)
 
 pub open-upload-spec : {M : Type 1} → statement M
 open-upload-spec =
@@ -50,10 +109,18 @@ open-upload-spec =
     (tie.spec
     rows-end-requires
     read-header-requires
-    cast-t15
-    cast-t17
-    add-t18
-    add-t19
+    slice-aggregate-write-block
+    slice-aggregate-write-block-2
+    write-block-requires
+    cast-t28
+    cast-t29
+    cast-t31
+    cast-t33
+    add-t34
+    add-t35
+    array-share-prefix-lengths
+    slice-aggregate-insert-row
     insert-row-requires
     same-length
+    same-length-2
     returns)

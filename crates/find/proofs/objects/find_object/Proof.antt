@@ -17,11 +17,6 @@ use Rattle.layout.proofs.WholeLaws.{whole-stands}
 use Rattle.find.proofs.ObjectSearch.{Passed, Turn, passed-none, passed-all, object-inside, object-turn}
 use Rattle.find.proofs.objects.find_object.Statement.{statement}
 use Rattle.find.proofs.objects.find_object.Tie as tie
-use Rattle.find.proofs.objects.find_object.Reads as reads
-use Rattle.find.proofs.objects.find_object.Lts as lts
-use Rattle.find.proofs.counts.read_counts.Reads as read-counts-reads
-use Rattle.order.proofs.compare.Reads as compare-reads
-use Rattle.row.proofs.read_head.Reads as read-head-reads
 
 abbrev Inv-loop : tie.InvT-loop
 Inv-loop tables arena path objects at₀ base₀ i₀ at base i = Passed (stateOf tables arena) path i at base
@@ -121,11 +116,17 @@ enum-told-3 c = search needs
 returns-2 : tie.Need-returns-2 Inv-loop μ-loop
 returns-2 c = let d = c .before .before in turn (d .before .before .before) .less (answer-less _ (compared d _ (c .enum-told3 .given .1)))
 
+span-requires : tie.Need-span-requires Inv-loop μ-loop
+span-requires c κs = search needs
+
+add-at : tie.Need-add-at Inv-loop μ-loop
+add-at c = omega (arith, inside (c .before .before .before .before .before .before), c .span .ensures)
+
 cast-base : tie.Need-cast-base Inv-loop μ-loop
 cast-base c = search needs
 
 add-base : tie.Need-add-base Inv-loop μ-loop
-add-base c = omega (arith, turn (c .before .before .before .before .before .before) .arena-inside)
+add-base c = omega (arith, turn (c .before .before .before .before .before .before .before) .arena-inside, c .before .before .before .before .before .before .before .before .before .before .before .before .before .before .good .1 .0 .0)
 
 add-i : tie.Need-add-i Inv-loop μ-loop
 add-i c = omega arith
@@ -134,7 +135,9 @@ loop-less : tie.Need-loop-less Inv-loop μ-loop
 loop-less c = omega arith
 
 loop-again : tie.Need-loop-again Inv-loop μ-loop
-loop-again c = let d = c .before .before .before in turn (d .before .before .before) .greater (answer-greater _ (compared d _ (c .before .enum-told .given .1)))
+loop-again c =
+    let d = c .before .before .before .before in
+    rw (c .before .span .ensures) (turn (d .before .before .before) .greater (answer-greater _ (compared d _ (c .before .before .enum-told .given .1))))
 
 returns-3 : tie.Need-returns-3 Inv-loop μ-loop
 returns-3 c = let k = c .before in passed-all (s k) (start k .args .path .now) (k .loop .i) (k .loop .at) (k .loop .base) (k .loop .inv) (let n = c .loop-test .left in omega (arith, counted k))
@@ -160,6 +163,8 @@ find-object-spec =
     returns
     enum-told-3
     returns-2
+    span-requires
+    add-at
     cast-base
     add-base
     add-i

@@ -29,10 +29,20 @@ get-requires-2 : tie.Need-get-requires-2
 get-requires-2 c κs = search needs
 
 same-length : tie.Need-same-length
-same-length c = c .before .before .before .before .before .before .before .before .before .before .commit .kept .0 ∙ c .before .before .before .before .before .before .before .before .before .before .before .before .before .before .before .before .before .before .before .before .before .before .before .before .part2 .kept .0 ∙ c .before .before .before .before .before .before .before .before .before .before .before .before .before .before .before .before .before .before .before .before .before .before .before .before .before .before .before .before .before .before .before .part .kept .0 ∙ c .before .before .before .before .before .before .before .before .before .before .before .before .before .before .before .before .before .before .before .before .before .before .before .before .before .before .before .before .before .before .before .before .before .before .before .before .initiate .kept .0
+same-length c =
+    let committed = c .before .before .before .before .before .before .before .before .before .before .before .before .before in
+    let second = committed .before .before .before .before .before .before .before .before .before .before .before .before .before .before .before .before .before in
+    let first = second .before .before .before .before .before .before .before in
+    let opened = first .before .before .before .before .before .before .before in
+    committed .commit .kept .0 ∙ second .part2 .kept .0 ∙ first .part .kept .0 ∙ opened .initiate .kept .0
 
 same-length-2 : tie.Need-same-length-2
-same-length-2 c = search needs
+same-length-2 c =
+    let committed = c .before .before .before .before .before .before .before .before .before .before .before .before .before in
+    let second = committed .before .before .before .before .before .before .before .before .before .before .before .before .before .before .before .before .before in
+    let first = second .before .before .before .before .before .before .before in
+    let opened = first .before .before .before .before .before .before .before in
+    committed .commit .kept .1 .0 ∙ second .part2 .kept .1 .0 ∙ first .part .kept .1 .0 ∙ opened .initiate .kept .1 .0
 
 same-length-3 : tie.Need-same-length-3
 same-length-3 c = search needs
@@ -40,10 +50,22 @@ same-length-3 c = search needs
 same-length-4 : tie.Need-same-length-4
 same-length-4 c = search needs
 
+same-length-5 : tie.Need-same-length-5
+same-length-5 c = search needs
+
+same-length-6 : tie.Need-same-length-6
+same-length-6 c = search needs
+
 returns : tie.Need-returns
 unfolding batchTrace partList
 returns c =
-    call (c .before .before .before .before .before .before .before .before .before .before .before .before .before .before .before .before .before .before .before .before .before .before .before .before .before .before .before .before .before .before .before .before .before .before .before .before .initiate .ensures) (call (c .before .before .before .before .before .before .before .before .before .before .before .before .before .before .before .before .before .before .before .before .before .before .before .before .before .before .before .before .before .before .before .part .ensures) (call (c .before .before .before .before .before .before .before .before .before .before .before .before .before .before .before .before .before .before .before .before .before .before .before .before .part2 .ensures) (call (c .before .before .before .before .before .before .before .before .before .before .before .before .before .before .before .before .get .ensures) (call (c .before .before .before .before .before .before .before .before .before .before .commit .ensures .0) (call (c .before .before .get2 .ensures) stop)))))
+    let late = c .before .before .before .before in
+    let committed = late .before .before .before .before .before .before .before .before .before in
+    let early = committed .before .before .before .before .before .before .before .before in
+    let second = early .before .before .before .before .before .before .before .before .before in
+    let first = second .before .before .before .before .before .before .before in
+    let opened = first .before .before .before .before .before .before .before in
+    call (opened .initiate .ensures) (call (first .part .ensures) (call (second .part2 .ensures) (call (early .get .ensures) (call (committed .commit .ensures .0) (call (late .get2 .ensures) stop)))))
 
 pub weigh-spec : {M : Type 1} → statement M
 weigh-spec =
@@ -60,4 +82,6 @@ weigh-spec =
     same-length-2
     same-length-3
     same-length-4
+    same-length-5
+    same-length-6
     returns)

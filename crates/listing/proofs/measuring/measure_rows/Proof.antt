@@ -62,7 +62,7 @@ module _ (c : tie.In-loop Inv-loop μ-loop) where
 
 -- its path, by the head that was read
 path-inside : (c : tie.After-read-head Inv-loop μ-loop) → c .before .before .loop .at + span (c .read-head .result) ≤ length (t (c .before .before))
-path-inside c = omega (arith, inside (c .before), ap (λ (x : Head). x .pathlen) (c .read-head .ensures))
+path-inside c = omega (arith, inside (c .before), ap (λ (x : Head). span x) (c .read-head .ensures))
 
 read-head-requires : tie.Need-read-head-requires Inv-loop μ-loop
 read-head-requires c κs = let z = inside c in omega arith

@@ -18,7 +18,7 @@ write-record-requires : tie.Need-write-record-requires
 write-record-requires c κs =
     let k = c .before .before .before .before .before .before .before in
     let a = k .args in
-    (k .pre .0, one-room (a .prefix .now) (a .suffix .now) (drop (a .at) (a .tables .now)) (a .answer .now) (a .to) (said-yes (c .before .before .has-row .ensures) (c .before .if1 .left)) (k .pre .1))
+    (k .pre .0, one-room (a .prefix .now) (a .suffix .now) (drop (a .at) (a .tables .now)) (a .answer .now) (a .to) (said-yes (c .before .before .has-row .ensures) (c .before .if1 .left)) (k .pre .1), k .pre .2)
 
 same-length : tie.Need-same-length
 same-length c = search needs

@@ -10,7 +10,7 @@ use Rattle.row.specs.declared.Head.{Head}
 use Rattle.row.specs.Row.{headAt, span}
 use Rattle.layout.specs.Memory.{stateOf, Stands}
 use Rattle.layout.proofs.WholeLaws.{whole-stands}
-use Rattle.listing.proofs.ObjectRows.{row-inside}
+use Rattle.listing.proofs.ObjectRows.{row-inside, pairs-inside}
 use Rattle.listing.proofs.RowsWritten.{Written, written-none, written-room, written-next, written-all}
 use Rattle.listing.proofs.writing.write_rows.Statement.{statement}
 use Rattle.listing.proofs.writing.write_rows.Tie as tie
@@ -60,13 +60,13 @@ module _ (c : tie.In-loop Inv-loop μ-loop) where
 
 -- its path, by the head that was read
 path-inside : (c : tie.After-read-head Inv-loop μ-loop) → c .before .before .loop .at + span (c .read-head .result) ≤ length (t (c .before .before))
-path-inside c = omega (arith, inside (c .before), ap (λ (x : Head). x .pathlen) (c .read-head .ensures))
+path-inside c = omega (arith, inside (c .before), ap (λ (x : Head). span x) (c .read-head .ensures))
 
 read-head-requires : tie.Need-read-head-requires Inv-loop μ-loop
 read-head-requires c κs = let z = inside c in omega arith
 
 write-row-requires : tie.Need-write-row-requires Inv-loop μ-loop
-write-row-requires c κs = let k = c .before .before in let g = k .before in (inside k, written-room (t g) (a g) (s g) (stands g) (start g .args .prefix .now) (start g .args .suffix .now) (start g .args .answer .now) (g .loop .answer) (g .loop .i) (g .loop .at) (g .loop .to) (g .loop .inv) (more k) (start g .pre .1))
+write-row-requires c κs = let k = c .before .before in let g = k .before in (inside k, written-room (t g) (a g) (s g) (stands g) (start g .args .prefix .now) (start g .args .suffix .now) (start g .args .answer .now) (g .loop .answer) (g .loop .i) (g .loop .at) (g .loop .to) (g .loop .inv) (more k) (start g .pre .1), pairs-inside (t g) (a g) (s g) (stands g) (g .loop .i) (g .loop .at) (g .loop .inv .rows) (more k))
 
 span-requires : tie.Need-span-requires Inv-loop μ-loop
 span-requires c κs = search needs

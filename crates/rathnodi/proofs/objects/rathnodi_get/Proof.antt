@@ -20,9 +20,15 @@ same-length c = search needs
 same-length-2 : tie.Need-same-length-2
 same-length-2 c = search needs
 
+same-length-3 : tie.Need-same-length-3
+same-length-3 c = search needs
+
 returns-2 : tie.Need-returns-2
-returns-2 c = got _ (get-tells _ _) _ _ _ _ _ (c .before .before .before .before .before .before .before .before .if1 .left) (c .before .before .before .before .before .before .get .result) _ (c .before .before .before .before .before .before .get .ensures) (c .before .before .found .ensures .0) (c .before .before .found .ensures .1)
+returns-2 c =
+    let r = c .before .before .found in
+    let d = c .before .before .before .before .before .before .before .before in
+    got _ (get-tells _ _ _) _ _ _ _ _ (d .before .before .before .if1 .left) (d .get .result) _ (d .get .ensures) (r .ensures .0) (r .ensures .1)
 
 pub rathnodi-get-spec : {M : Type 1} → statement M
 rathnodi-get-spec =
-    tie.close (tie.spec returns get-requires found-requires same-length same-length-2 returns-2)
+    tie.close (tie.spec returns get-requires found-requires same-length same-length-2 same-length-3 returns-2)

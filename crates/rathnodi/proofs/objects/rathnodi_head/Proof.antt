@@ -17,9 +17,15 @@ found-requires c κs = search needs
 same-length : tie.Need-same-length
 same-length c = search needs
 
+same-length-2 : tie.Need-same-length-2
+same-length-2 c = search needs
+
 returns-2 : tie.Need-returns-2
-returns-2 c = got _ (head-tells _) _ _ _ _ _ (c .before .before .before .before .before .if1 .left) (c .before .before .before .before .head .result) _ (c .before .before .before .before .head .ensures) (c .before .before .found .ensures .0) (c .before .before .found .ensures .1)
+returns-2 c =
+    let r = c .before .before .found in
+    let d = c .before .before .before .before .before .before in
+    got _ (head-tells _ _) _ _ _ _ _ (d .before .before .if1 .left) (d .head .result) _ (d .head .ensures) (r .ensures .0) (r .ensures .1)
 
 pub rathnodi-head-spec : {M : Type 1} → statement M
 rathnodi-head-spec =
-    tie.close (tie.spec returns head-requires found-requires same-length returns-2)
+    tie.close (tie.spec returns head-requires found-requires same-length same-length-2 returns-2)

@@ -24,7 +24,10 @@ same-length-3 : tie.Need-same-length-3
 same-length-3 c = search needs
 
 returns-2 : tie.Need-returns-2
-returns-2 c = initiated _ (initiate-tells _ _) _ _ _ _ _ (c .before .before .before .before .before .before .before .before .before .if1 .left) (c .before .before .before .before .before .before .initiate .result) (c .before .before .before .before .before .before .initiate .ensures) (c .before .before .opened .ensures .0) (c .before .before .opened .ensures .1)
+returns-2 c =
+    let r = c .before .before .opened in
+    let d = c .before .before .before .before .before .before .before .before in
+    initiated _ (initiate-tells _ _ _) _ _ _ _ _ (d .before .before .before .if1 .left) (d .initiate .result) (d .initiate .ensures) (r .ensures .0) (r .ensures .1)
 
 pub rathnodi-initiate-spec : {M : Type 1} → statement M
 rathnodi-initiate-spec =

@@ -34,12 +34,12 @@ put-u16-requires-2 c κs = search needs
 put-requires : tie.Need-put-requires
 put-requires c κs = search needs
 
-put-u32-requires-5 : tie.Need-put-u32-requires-5
-put-u32-requires-5 c κs = search needs
+write-pairs-requires : tie.Need-write-pairs-requires
+write-pairs-requires c κs = search needs
 
 -- the places after each write, from the last to the first
 module _ (c : tie.After-slice-known10) where
-  abbrev p₉ : tie.After-put-u325
+  abbrev p₉ : tie.After-write-pairs
   p₉ = c .before .before
 
   abbrev p₈ : tie.After-put
@@ -68,7 +68,7 @@ module _ (c : tie.After-slice-known10) where
 
 same-length : tie.Need-same-length
 same-length c =
-    p₉ c .put-u325 .kept .0 ∙ p₈ c .put .kept .0 ∙ p₇ c .put-u162 .kept .0 ∙ p₆ c .put-u16 .kept .0 ∙ p₅ c .put-u324 .kept .0
+    p₉ c .write-pairs .kept .0 ∙ p₈ c .put .kept .0 ∙ p₇ c .put-u162 .kept .0 ∙ p₆ c .put-u16 .kept .0 ∙ p₅ c .put-u324 .kept .0
     ∙ p₄ c .put-u323 .kept .0 ∙ p₃ c .put-u322 .kept .0 ∙ p₂ c .put-u32 .kept .0 ∙ p₁ c .put-u64 .kept .0
 
 returns : tie.Need-returns
@@ -76,10 +76,10 @@ returns c =
     let w = p₆ c .before in
     let start = p₁ c .before .before .before in
     let a = start .args in
-    written (a .reply .now) (start .pre) (a .created) (a .size) (a .upload) (a .records) (a .bytes) (a .kind) (a .more) (a .count) (bytesOf (a .digest))
+    written (a .reply .now) (start .pre) (a .created) (a .size) (a .upload) (a .records) (a .bytes) (a .kind) (a .more) (a .count) (bytesOf (a .digest)) (a .pairs) (a .pairsize)
     (w .pair .result) (w .pair .ensures .0) (w .pair .ensures .1) (w .pair .ensures .2) (length-bytesOf (a .digest))
     (p₁ c .put-u64 .ensures) (p₂ c .put-u32 .ensures) (p₃ c .put-u322 .ensures) (p₄ c .put-u323 .ensures) (p₅ c .put-u324 .ensures)
-    (p₆ c .put-u16 .ensures) (p₇ c .put-u162 .ensures) (p₈ c .put .ensures) (p₉ c .put-u325 .ensures)
+    (p₆ c .put-u16 .ensures) (p₇ c .put-u162 .ensures) (p₈ c .put .ensures) (p₉ c .write-pairs .ensures)
 
 pub write-fields-spec : {M : Type 1} → statement M
 write-fields-spec =
@@ -94,6 +94,6 @@ write-fields-spec =
     put-u16-requires
     put-u16-requires-2
     put-requires
-    put-u32-requires-5
+    write-pairs-requires
     same-length
     returns)

@@ -5,8 +5,9 @@ use mathlib.Core.List.{List}
 use native.Mathlib.Nat.{sub-zero}
 use borrow.Author.Needs.{needs}
 use lib.ListN.{length, drop}
-use Rattle.scan.specs.declared.Offset.{Offset}
+use Rattle.row.specs.declared.Head.{Head}
 use Rattle.row.specs.Row.{span}
+use Rattle.scan.specs.declared.Offset.{Offset}
 use Rattle.scan.specs.declared.Reading.the-variants.{Fits}
 use Rattle.scan.specs.Scan.{readingOf, entriesOk}
 use Rattle.scan.proofs.Turns.{row-in, data-in, digest-length}
@@ -16,16 +17,16 @@ use Rattle.scan.proofs.entries.entries_ok.Statement.{statement}
 use Rattle.scan.proofs.entries.entries_ok.Tie as tie
 
 abbrev Inv-loop : tie.InvT-loop
-Inv-loop t arena uploads parts next rows at₀ base₀ m₀ opened₀ i₀ at base m opened i =
-    (entriesOk next uploads opened₀ rows m₀ (record { at = at₀; base = base₀ }) t arena
-    ≡ entriesOk next uploads opened (rows - i) m (record { at = at; base = base }) t arena)
+Inv-loop t arena uploads parts next most rows at₀ base₀ m₀ opened₀ i₀ at base m opened i =
+    (entriesOk most next uploads opened₀ rows m₀ (record { at = at₀; base = base₀ }) t arena
+    ≡ entriesOk most next uploads opened (rows - i) m (record { at = at; base = base }) t arena)
     × (at ≤ length t)
     × (base ≤ length arena)
     × (i ≤ rows)
     × (opened ≤ i)
 
 abbrev μ-loop : tie.MeasureT-loop
-μ-loop t arena uploads parts next rows at₀ base₀ m₀ opened₀ i₀ at base m opened i = rows - i
+μ-loop t arena uploads parts next most rows at₀ base₀ m₀ opened₀ i₀ at base m opened i = rows - i
 
 abbrev tables : tie.At-loop Inv-loop μ-loop → List ℕ
 tables c = c .before .before .before .args .t .now
@@ -37,14 +38,21 @@ abbrev here : tie.At-loop Inv-loop μ-loop → Offset
 here c = record { at = c .loop .at; base = c .loop .base }
 
 -- what was read is a row that fits, and ends in the tables
-fits : (c : tie.After-h Inv-loop μ-loop) → readingOf (drop (here (c .before .before .before .before) .at) (tables (c .before .before .before .before))) (drop (here (c .before .before .before .before) .base) (content (c .before .before .before .before))) ≡ Fits (c .h .given .0 .0)
-fits c = sym (c .before .before .read-row .ensures) ∙ c .h .given .1
+module _ (c : tie.After-h Inv-loop μ-loop) where
+  abbrev turn : tie.At-loop Inv-loop μ-loop
+  turn = c .before .before .before .before
 
-ends : (c : tie.After-h Inv-loop μ-loop) → c .before .before .before .before .loop .at + span (c .h .given .0 .0) ≤ length (tables (c .before .before .before .before))
-ends c = row-in (tables (c .before .before .before .before)) (content (c .before .before .before .before)) (here (c .before .before .before .before)) (c .h .given .0 .0) (fits c)
+  abbrev head : Head
+  head = c .h .given .0 .0
 
-data-ends : (c : tie.After-h Inv-loop μ-loop) → c .before .before .before .before .loop .base + c .h .given .0 .0 .size ≤ length (content (c .before .before .before .before))
-data-ends c = data-in (tables (c .before .before .before .before)) (content (c .before .before .before .before)) (here (c .before .before .before .before)) (c .h .given .0 .0) (fits c) (omega arith)
+  fits : readingOf (drop (turn .loop .at) (tables turn)) (drop (turn .loop .base) (content turn)) ≡ Fits head
+  fits = sym (c .before .before .read-row .ensures) ∙ c .h .given .1
+
+  ends : turn .loop .at + span head ≤ length (tables turn)
+  ends = row-in (tables turn) (content turn) (here turn) head fits
+
+  data-ends : turn .loop .base + head .size ≤ length (content turn)
+  data-ends = data-in (tables turn) (content turn) (here turn) head fits (omega arith)
 
 add-rows : tie.Need-add-rows Inv-loop μ-loop
 add-rows c = omega arith
@@ -65,7 +73,7 @@ returns : tie.Need-returns Inv-loop μ-loop
 returns c =
     let k = c .before .before .before .before in
     let a = k .before .before .before .args in
-    sym (k .loop .inv .0 ∙ entries-short (tables k) (content k) (a .next) (a .uploads) (k .loop .opened) (a .uploads + a .parts) (k .loop .i) (k .loop .m) (here k) (c .before .before .before .loop-test .taken) (sym (c .before .before .read-row .ensures) ∙ c .enum-told .given .1))
+    sym (k .loop .inv .0 ∙ entries-short (tables k) (content k) (a .most) (a .next) (a .uploads) (k .loop .opened) (a .uploads + a .parts) (k .loop .i) (k .loop .m) (here k) (c .before .before .before .loop-test .taken) (sym (c .before .before .read-row .ensures) ∙ c .enum-told .given .1))
 
 add-digest : tie.Need-add-digest Inv-loop μ-loop
 add-digest c = omega (arith, ends (c .before))
@@ -79,6 +87,21 @@ cast-end c = omega arith
 add-end : tie.Need-add-end Inv-loop μ-loop
 add-end c = omega (arith, ends (c .before .before))
 
+cast-after : tie.Need-cast-after Inv-loop μ-loop
+cast-after c = omega arith
+
+mul-after : tie.Need-mul-after Inv-loop μ-loop
+mul-after c = omega (arith, ends (c .before .before .before))
+
+add-after : tie.Need-add-after Inv-loop μ-loop
+add-after c = omega (arith, ends (c .before .before .before))
+
+cast-data-end : tie.Need-cast-data-end Inv-loop μ-loop
+cast-data-end c = omega arith
+
+add-data-end : tie.Need-add-data-end Inv-loop μ-loop
+add-data-end c = omega (arith, data-ends (c .before .before .before .before))
+
 sub-entry-ok : tie.Need-sub-entry-ok Inv-loop μ-loop
 sub-entry-ok c = omega arith
 
@@ -86,7 +109,7 @@ part-entry-ok-start : tie.Need-part-entry-ok-start Inv-loop μ-loop
 part-entry-ok-start c = omega arith
 
 part-entry-ok-end : tie.Need-part-entry-ok-end Inv-loop μ-loop
-part-entry-ok-end c = omega (arith, ends (c .before .before))
+part-entry-ok-end c = omega (arith, ends (c .before .before .before .before))
 
 sub-entry-ok-2 : tie.Need-sub-entry-ok-2 Inv-loop μ-loop
 sub-entry-ok-2 c = omega arith
@@ -95,16 +118,34 @@ part-entry-ok-start-2 : tie.Need-part-entry-ok-start-2 Inv-loop μ-loop
 part-entry-ok-start-2 c = omega arith
 
 part-entry-ok-end-2 : tie.Need-part-entry-ok-end-2 Inv-loop μ-loop
-part-entry-ok-end-2 c = omega (arith, ends (c .before .before .before))
+part-entry-ok-end-2 c = omega (arith, ends (c .before .before .before .before .before))
+
+sub-entry-ok-3 : tie.Need-sub-entry-ok-3 Inv-loop μ-loop
+sub-entry-ok-3 c = omega arith
+
+part-entry-ok-start-3 : tie.Need-part-entry-ok-start-3 Inv-loop μ-loop
+part-entry-ok-start-3 c = omega arith
+
+part-entry-ok-end-3 : tie.Need-part-entry-ok-end-3 Inv-loop μ-loop
+part-entry-ok-end-3 c = omega (arith, ends (c .before .before .before .before .before .before))
+
+sub-entry-ok-4 : tie.Need-sub-entry-ok-4 Inv-loop μ-loop
+sub-entry-ok-4 c = omega arith
+
+part-entry-ok-start-4 : tie.Need-part-entry-ok-start-4 Inv-loop μ-loop
+part-entry-ok-start-4 c = omega arith
+
+part-entry-ok-end-4 : tie.Need-part-entry-ok-end-4 Inv-loop μ-loop
+part-entry-ok-end-4 c = omega (arith, data-ends (c .before .before .before .before .before .before .before))
 
 entry-ok-requires : tie.Need-entry-ok-requires Inv-loop μ-loop
-entry-ok-requires c κs = let k = c .before .before .before .before .before .before .before .before in digest-length (tables k) (content k) (here k) _ (fits (c .before .before .before .before))
+entry-ok-requires c κs = let k = c .before .before .before .before .before .before .before .before .before .before .before .before in digest-length (tables k) (content k) (here k) _ (fits (c .before .before .before .before .before .before .before .before))
 
 returns-2 : tie.Need-returns-2 Inv-loop μ-loop
 returns-2 c =
-    let k = c .before .before .before .before .before .before .before .before .before .before in
+    let k = c .before .before .before .before .before .before .before .before .before .before .before .before .before .before in
     let a = k .before .before .before .args in
-    sym (k .loop .inv .0 ∙ entries-wrong (tables k) (content k) (a .next) (a .uploads) (k .loop .opened) (a .uploads + a .parts) (k .loop .i) (k .loop .m) (here k) (c .before .before .before .before .before .before .before .before .before .loop-test .taken) (λ j. k .before .before .shared-slice-known .given j .fits) _ (fits (c .before .before .before .before .before .before)) _ (c .before .entry-ok .ensures) (c .if1 .taken))
+    sym (k .loop .inv .0 ∙ entries-wrong (tables k) (content k) (a .most) (a .next) (a .uploads) (k .loop .opened) (a .uploads + a .parts) (k .loop .i) (k .loop .m) (here k) (c .before .before .before .before .before .before .before .before .before .before .before .before .before .loop-test .taken) (λ j. k .before .before .shared-slice-known .given j .fits) _ (fits (c .before .before .before .before .before .before .before .before .before .before)) _ (c .before .entry-ok .ensures) (c .if1 .taken))
 
 mark-after-requires : tie.Need-mark-after-requires Inv-loop μ-loop
 mark-after-requires c κs = search needs
@@ -113,38 +154,32 @@ opening-requires : tie.Need-opening-requires Inv-loop μ-loop
 opening-requires c κs = search needs
 
 add-opened : tie.Need-add-opened Inv-loop μ-loop
-add-opened c = omega (arith, c .opening .ensures, opens-small (c .before .before .before .before .before .before .before .before .h .given .0 .0), c .before .before .before .before .before .before .before .before .before .before .before .before .before .before .before .fits .uploads, c .before .before .before .before .before .before .before .before .before .before .before .before .before .before .before .fits .parts)
-
-cast-base : tie.Need-cast-base Inv-loop μ-loop
-cast-base c = omega arith
-
-add-base : tie.Need-add-base Inv-loop μ-loop
-add-base c = omega (arith, data-ends (c .before .before .before .before .before .before .before .before .before), c .before .before .before .before .before .before .before .before .before .before .before .before .before .before .before .before .good .1 .0 .0)
+add-opened c = omega (arith, c .opening .ensures, opens-small (head (c .before .before .before .before .before .before .before .before .before .before .before .before)), c .before .before .before .before .before .before .before .before .before .before .before .before .before .before .before .loop-test .taken, c .before .before .before .before .before .before .before .before .before .before .before .before .before .before .before .before .loop .inv, c .before .before .before .before .before .before .before .before .before .before .before .before .before .before .before .before .before .before .before .fits .uploads, c .before .before .before .before .before .before .before .before .before .before .before .before .before .before .before .before .before .before .before .fits .parts)
 
 add-i : tie.Need-add-i Inv-loop μ-loop
-add-i c = omega (arith, c .before .before .before .before .before .before .before .before .before .before .before .before .before .before .before .before .fits .uploads, c .before .before .before .before .before .before .before .before .before .before .before .before .before .before .before .before .fits .parts)
+add-i c = omega (arith, c .before .before .before .before .before .before .before .before .before .before .before .before .before .before .before .loop-test .taken, c .before .before .before .before .before .before .before .before .before .before .before .before .before .before .before .before .before .before .before .fits .uploads, c .before .before .before .before .before .before .before .before .before .before .before .before .before .before .before .before .before .before .before .fits .parts)
 
 loop-less : tie.Need-loop-less Inv-loop μ-loop
-loop-less c = omega arith
+loop-less c = omega (arith, c .before .before .before .before .before .before .before .before .before .before .before .before .before .before .before .loop-test .taken)
 
 loop-again : tie.Need-loop-again Inv-loop μ-loop
 loop-again c =
-    let k = c .before .before .before .before .before .before .before .before .before .before .before .before .before in
+    let k = c .before .before .before .before .before .before .before .before .before .before .before .before .before .before .before .before in
     let a = k .before .before .before .args in (
       k .loop .inv .0
-          ∙ entries-next (tables k) (content k) (a .next) (a .uploads) (k .loop .opened) (a .uploads + a .parts) (k .loop .i) (k .loop .m) (here k) (c .before .before .before .before .before .before .before .before .before .before .before .before .loop-test .taken) (λ j. k .before .before .shared-slice-known .given j .fits) _ (fits (c .before .before .before .before .before .before .before .before .before)) _ (c .before .before .before .before .entry-ok .ensures) (c .before .before .before .if1 .left)
-          ∙ rw (c .before .opening .ensures, c .before .before .mark-after .ensures),
-      omega (arith, ends (c .before .before .before .before .before .before .before .before .before)),
-      data-ends (c .before .before .before .before .before .before .before .before .before),
-      omega arith,
-      omega (arith, c .before .opening .ensures, opens-small (c .before .before .before .before .before .before .before .before .before .h .given .0 .0)),
+          ∙ entries-next (tables k) (content k) (a .most) (a .next) (a .uploads) (k .loop .opened) (a .uploads + a .parts) (k .loop .i) (k .loop .m) (here k) (c .before .before .before .before .before .before .before .before .before .before .before .before .before .before .before .loop-test .taken) (λ j. k .before .before .shared-slice-known .given j .fits) _ (fits (c .before .before .before .before .before .before .before .before .before .before .before .before)) _ (c .before .before .before .entry-ok .ensures) (c .before .before .if1 .left)
+          ∙ rw (c .opening .ensures, c .before .mark-after .ensures),
+      omega (arith, ends (c .before .before .before .before .before .before .before .before .before .before .before .before)),
+      data-ends (c .before .before .before .before .before .before .before .before .before .before .before .before),
+      omega (arith, c .before .before .before .before .before .before .before .before .before .before .before .before .before .before .before .loop-test .taken),
+      omega (arith, c .opening .ensures, opens-small (head (c .before .before .before .before .before .before .before .before .before .before .before .before)), k .loop .inv),
     )
 
 returns-3 : tie.Need-returns-3 Inv-loop μ-loop
 returns-3 c =
     let k = c .before in
     let a = k .before .before .before .args in
-    sym (k .loop .inv .0 ∙ entries-end (tables k) (content k) (a .next) (a .uploads) (k .loop .opened) (a .uploads + a .parts) (k .loop .i) (k .loop .m) (here k) (c .loop-test .left))
+    sym (k .loop .inv .0 ∙ entries-end (tables k) (content k) (a .most) (a .next) (a .uploads) (k .loop .opened) (a .uploads + a .parts) (k .loop .i) (k .loop .m) (here k) (c .loop-test .left))
 
 pub entries-ok-spec : {M : Type 1} → statement M
 entries-ok-spec =
@@ -162,19 +197,28 @@ entries-ok-spec =
     add-path
     cast-end
     add-end
+    cast-after
+    mul-after
+    add-after
+    cast-data-end
+    add-data-end
     sub-entry-ok
     part-entry-ok-start
     part-entry-ok-end
     sub-entry-ok-2
     part-entry-ok-start-2
     part-entry-ok-end-2
+    sub-entry-ok-3
+    part-entry-ok-start-3
+    part-entry-ok-end-3
+    sub-entry-ok-4
+    part-entry-ok-start-4
+    part-entry-ok-end-4
     entry-ok-requires
     returns-2
     mark-after-requires
     opening-requires
     add-opened
-    cast-base
-    add-base
     add-i
     loop-less
     loop-again

@@ -29,12 +29,16 @@ returns-6 : tie.Need-returns-6
 unfolding all partRule
 returns-6 c = search tests
 
-stored-part-ok-requires : tie.Need-stored-part-ok-requires
-stored-part-ok-requires c κs = search needs
-
 returns-7 : tie.Need-returns-7
 unfolding all partRule
 returns-7 c = search tests
+
+stored-part-ok-requires : tie.Need-stored-part-ok-requires
+stored-part-ok-requires c κs = search needs
+
+returns-8 : tie.Need-returns-8
+unfolding all partRule
+returns-8 c = search tests
 
 pub part-ok-spec : {M : Type 1} → statement M
 part-ok-spec =
@@ -46,5 +50,6 @@ part-ok-spec =
     returns-4
     returns-5
     returns-6
+    returns-7
     stored-part-ok-requires
-    returns-7)
+    returns-8)

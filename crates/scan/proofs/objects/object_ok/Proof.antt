@@ -1,9 +1,12 @@
 -- `scan::objects::object_ok` meets its contract: the tests are the definition's. Assumes nothing.
-use Prim.Native.Nat.{_≤_, _<_}
-use mathlib.Core.Bool.{cond}
+use Prim.Native.Nat.{_-_, _≤_, _<_}
+use mathlib.Core.Path.{_≡_, sym, _∙_}
+use mathlib.Core.Bool.{_&&_, cond}
 use lib.Dec.{eqb}
+use lib.ListN.{take, drop}
+use Rattle.order.specs.Order.{byBytes}
 use Rattle.names.proofs.Tests.{tests, said-no, said-yes}
-use Rattle.layout.specs.Rules.{all, objectRule, plainKind, partsMost}
+use Rattle.layout.specs.Rules.{all, isLess, pairsRule, objectRule, plainKind, partsMost}
 use borrow.Author.Needs.{needs}
 use Rattle.scan.proofs.objects.object_ok.Statement.{statement}
 use Rattle.scan.proofs.objects.object_ok.Tie as tie
@@ -25,7 +28,7 @@ most-parts-requires c κs = search needs
 
 returns-4 : tie.Need-returns-4
 unfolding all objectRule
-returns-4 c = let h = c .before .before .before .before .before .before .before .before .before .before .before .args .h in
+returns-4 c = let h = c .before .before .before .before .before .before .before .before .before .before .before .before .before .args .h in
     let m : cond (eqb (h .kind) plainKind) 0 partsMost < h .count = rw (c .before .before .most-parts .ensures) at (c .if4 .taken) in
     search tests
 
@@ -34,9 +37,21 @@ stored-path-ok-at-requires c κs = search needs
 
 returns-5 : tie.Need-returns-5
 unfolding all objectRule
-returns-5 c = let h = c .before .before .before .before .before .before .before .before .before .before .before .before .before .args .h in
+returns-5 c = let h = c .before .before .before .before .before .before .before .before .before .before .before .before .before .before .before .args .h in
     let m : h .count ≤ cond (eqb (h .kind) plainKind) 0 partsMost = rw (c .before .before .before .before .most-parts .ensures) at (c .before .before .if4 .left) in
     search (tests, said-no (c .before .stored-path-ok-at .ensures) (c .if5 .taken))
+
+-- what is left of the rule once the path has passed
+passed : (c : tie.Else5)
+    → let a = c .before .before .before .before .before .before .before .before .before .before .before .before .before .before .before .args in
+    let path = take (a .end - a .path) (drop (a .path) (a .t .now)) in
+    objectRule (a .most) (a .last .now) (a .h) path (a .lengths .now) (a .content .now)
+    ≡ (isLess (byBytes (a .last .now) path) && pairsRule (a .most) (a .h) (a .lengths .now) (a .content .now))
+unfolding all objectRule
+passed c =
+    let h = c .before .before .before .before .before .before .before .before .before .before .before .before .before .before .before .args .h in
+    let m : h .count ≤ cond (eqb (h .kind) plainKind) 0 partsMost = rw (c .before .before .before .before .most-parts .ensures) at (c .before .before .if4 .left) in
+    search (tests, said-yes (c .before .stored-path-ok-at .ensures) (c .if5 .left))
 
 sub-ascend : tie.Need-sub-ascend
 sub-ascend c = search needs
@@ -51,10 +66,13 @@ ascend-requires : tie.Need-ascend-requires
 ascend-requires c κs = search needs
 
 returns-6 : tie.Need-returns-6
-unfolding all objectRule
-returns-6 c = let h = c .before .before .before .before .before .before .before .before .before .before .before .before .before .before .before .args .h in
-    let m : h .count ≤ cond (eqb (h .kind) plainKind) 0 partsMost = rw (c .before .before .before .before .before .before .most-parts .ensures) at (c .before .before .before .before .if4 .left) in
-    search (tests, said-yes (c .before .before .before .stored-path-ok-at .ensures) (c .before .before .if5 .left))
+returns-6 c = sym (passed (c .before .before .before) ∙ rw (said-no (c .before .ascend .ensures) (c .if6 .taken)))
+
+pairs-ok-requires : tie.Need-pairs-ok-requires
+pairs-ok-requires c κs = search needs
+
+returns-7 : tie.Need-returns-7
+returns-7 c = c .pairs-ok .ensures ∙ sym (passed (c .before .before .before .before) ∙ rw (said-yes (c .before .before .ascend .ensures) (c .before .if6 .left)))
 
 pub object-ok-spec : {M : Type 1} → statement M
 object-ok-spec =
@@ -71,4 +89,6 @@ object-ok-spec =
     part-ascend-start
     part-ascend-end
     ascend-requires
-    returns-6)
+    returns-6
+    pairs-ok-requires
+    returns-7)

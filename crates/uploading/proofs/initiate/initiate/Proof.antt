@@ -11,19 +11,25 @@ whole-requires c κs = search needs
 same-length : tie.Need-same-length
 same-length c = search needs
 
+same-length-2 : tie.Need-same-length-2
+same-length-2 c = search needs
+
 returns : tie.Need-returns
 returns c = not-whole (said-no (c .before .whole .ensures) (c .if1 .taken))
 
 initiate-whole-requires : tie.Need-initiate-whole-requires
-initiate-whole-requires c κs = said-yes (c .before .before .whole .ensures) (c .before .if1 .left)
+initiate-whole-requires c κs = said-yes (c .before .before .before .whole .ensures) (c .before .before .if1 .left)
 
-same-length-2 : tie.Need-same-length-2
-same-length-2 c = search needs
+same-length-3 : tie.Need-same-length-3
+same-length-3 c = search needs
+
+same-length-4 : tie.Need-same-length-4
+same-length-4 c = search needs
 
 returns-2 : tie.Need-returns-2
 returns-2 c =
-    let k = c .before .before .before .before in
-    let p = c .before .before .initiate-whole .ensures in
+    let k = c .before .before .before .before .before .before .before in
+    let p = c .before .before .before .before .initiate-whole .ensures in
     over-whole (said-yes (k .before .whole .ensures) (k .if1 .left)) p
 
 pub initiate-spec : {M : Type 1} → statement M
@@ -32,7 +38,9 @@ initiate-spec =
     (tie.spec
     whole-requires
     same-length
+    same-length-2
     returns
     initiate-whole-requires
-    same-length-2
+    same-length-3
+    same-length-4
     returns-2)

@@ -1,9 +1,12 @@
 -- `uploading::initiate::initiate_judge` meets its contract: one law for each check. Assumes nothing.
-use Rattle.number.specs.Number.{AreBytes}
-use mathlib.Core.Path.{sym, _∙_}
-use borrow.Author.Tests.{not-true, not-false}
-use Rattle.uploading.proofs.Initiating.{header-inside, bad-stamp, bad-path, full, used-up, opened}
+use mathlib.Core.Path.{_≡_}
+use mathlib.Core.Bool.{true, false}
 use borrow.Author.Needs.{needs}
+use Rattle.names.proofs.Tests.{said-no, said-yes}
+use Rattle.machine.specs.Names.{stampOk, newPathOk}
+use Rattle.machine.specs.Pairs.{pairsOk, pairList}
+use Rattle.contract.specs.Made.{memory}
+use Rattle.uploading.proofs.Initiating.{bad, initiate-judged}
 use Rattle.uploading.proofs.initiate.initiate_judge.Statement.{statement}
 use Rattle.uploading.proofs.initiate.initiate_judge.Tie as tie
 
@@ -12,56 +15,49 @@ stamp-ok-requires c κs = search needs
 
 returns : tie.Need-returns
 returns c =
-    let a = c .before .before .before .before .before .args in
-    let b : AreBytes (a .tables .now) = λ j. c .before .before .before .before .shared-slice-known .given j .fits in
-    let w = c .before .before .before .before .before .pre in
-    bad-stamp (a .tables .now) (a .arena .now) (a .path .now) b w (a .stamp .0) (sym (c .before .stamp-ok .ensures) ∙ not-true _ (c .if1 .taken))
+    let a = c .before .before .before .before .before .before .args in
+    bad (memory (a .tables .now) (a .arena .now)) (a .stamp .0) (a .path .now) (pairList (a .pairs .now)) (rw (said-no (c .before .stamp-ok .ensures) (c .if1 .taken)))
 
 new-path-ok-requires : tie.Need-new-path-ok-requires
 new-path-ok-requires c κs = search needs
 
 returns-2 : tie.Need-returns-2
 returns-2 c =
-    let a = c .before .before .before .before .before .before .before .args in
-    let b : AreBytes (a .tables .now) = λ j. c .before .before .before .before .before .before .shared-slice-known .given j .fits in
-    let w = c .before .before .before .before .before .before .before .pre in
-    bad-path (a .tables .now) (a .arena .now) (a .path .now) b w (a .stamp .0) (sym (c .before .before .before .stamp-ok .ensures) ∙ not-false _ (c .before .before .if1 .left)) (sym (c .before .new-path-ok .ensures) ∙ not-true _ (c .if2 .taken))
+    let a = c .before .before .before .before .before .before .before .before .args in
+    let one : stampOk (a .stamp .0) ≡ true = said-yes (c .before .before .before .stamp-ok .ensures) (c .before .before .if1 .left) in
+    bad (memory (a .tables .now) (a .arena .now)) (a .stamp .0) (a .path .now) (pairList (a .pairs .now)) (rw (one, said-no (c .before .new-path-ok .ensures) (c .if2 .taken)))
 
-read-counts-requires : tie.Need-read-counts-requires
-read-counts-requires c κs = search needs
+judge-requires : tie.Need-judge-requires
+judge-requires c κs = search needs
+
+-- stamp and path are good
+module _ (c : tie.Else2) where
+  abbrev start : tie.Start
+  start = c .before .before .before .before .before .before .before .before
+
+  good-stamp : stampOk (start .args .stamp .0) ≡ true
+  good-stamp = said-yes (c .before .before .before .stamp-ok .ensures) (c .before .before .if1 .left)
+
+  good-path : newPathOk (start .args .path .now) ≡ true
+  good-path = said-yes (c .before .new-path-ok .ensures) (c .if2 .left)
 
 returns-3 : tie.Need-returns-3
 returns-3 c =
-    let a = c .before .before .before .before .before .before .before .before .before .args in
-    let b : AreBytes (a .tables .now) = λ j. c .before .before .before .before .before .before .before .before .shared-slice-known .given j .fits in
-    let w = c .before .before .before .before .before .before .before .before .before .pre in
-    let n = c .before .read-counts in
-    full (a .tables .now) (a .arena .now) (a .path .now) b w (a .stamp .0) (sym (c .before .before .before .before .before .stamp-ok .ensures) ∙ not-false _ (c .before .before .before .before .if1 .left)) (sym (c .before .before .before .new-path-ok .ensures) ∙ not-false _ (c .before .before .if2 .left)) (n .result .uploads) (n .ensures .uploads) (c .if3 .taken)
+    let k = c .before .before in
+    let a = start k .args in
+    let bad-pairs : pairsOk (pairList (a .pairs .now)) ≡ false = said-no (c .before .judge .ensures) (c .if3 .taken) in
+    bad (memory (a .tables .now) (a .arena .now)) (a .stamp .0) (a .path .now) (pairList (a .pairs .now)) (rw (good-stamp k, good-path k, bad-pairs))
 
-read-header-requires : tie.Need-read-header-requires
-read-header-requires c κs =
-    let a = c .before .before .before .before .before .before .before .before .before .args in
-    let b : AreBytes (a .tables .now) = λ j. c .before .before .before .before .before .before .before .before .shared-slice-known .given j .fits in
-    let w = c .before .before .before .before .before .before .before .before .before .pre in
-    header-inside (a .tables .now) (a .arena .now) (a .path .now) b w (a .stamp .0)
+initiate-room-requires : tie.Need-initiate-room-requires
+initiate-room-requires c κs = (start (c .before .before) .pre, said-yes (c .before .judge .ensures) (c .if3 .left))
 
 returns-4 : tie.Need-returns-4
 returns-4 c =
-    let a = c .before .before .before .before .before .before .before .before .before .before .before .before .args in
-    let b : AreBytes (a .tables .now) = λ j. c .before .before .before .before .before .before .before .before .before .before .before .shared-slice-known .given j .fits in
-    let w = c .before .before .before .before .before .before .before .before .before .before .before .before .pre in
-    let n = c .before .before .before .before .read-counts in
-    let h = c .before .before .read-header in
-    used-up (a .tables .now) (a .arena .now) (a .path .now) b w (a .stamp .0) (sym (c .before .before .before .before .before .before .before .before .stamp-ok .ensures) ∙ not-false _ (c .before .before .before .before .before .before .before .if1 .left)) (sym (c .before .before .before .before .before .before .new-path-ok .ensures) ∙ not-false _ (c .before .before .before .before .before .if2 .left)) (n .result .uploads) (n .ensures .uploads) (c .before .before .before .if3 .left) (h .result) (h .ensures) (c .if4 .taken)
-
-returns-5 : tie.Need-returns-5
-returns-5 c =
-    let a = c .before .before .before .before .before .before .before .before .before .before .before .before .args in
-    let b : AreBytes (a .tables .now) = λ j. c .before .before .before .before .before .before .before .before .before .before .before .shared-slice-known .given j .fits in
-    let w = c .before .before .before .before .before .before .before .before .before .before .before .before .pre in
-    let n = c .before .before .before .before .read-counts in
-    let h = c .before .before .read-header in
-    opened (a .tables .now) (a .arena .now) (a .path .now) b w (a .stamp .0) (sym (c .before .before .before .before .before .before .before .before .stamp-ok .ensures) ∙ not-false _ (c .before .before .before .before .before .before .before .if1 .left)) (sym (c .before .before .before .before .before .before .new-path-ok .ensures) ∙ not-false _ (c .before .before .before .before .before .if2 .left)) (n .result .uploads) (n .ensures .uploads) (c .before .before .before .if3 .left) (h .result) (h .ensures) (c .if4 .left)
+    let e = c .before in
+    let k = e .before .before in
+    let a = start k .args in
+    initiate-judged (memory (a .tables .now) (a .arena .now)) (a .stamp .0) (a .path .now) (pairList (a .pairs .now)) (good-stamp k) (good-path k) (said-yes (e .before .judge .ensures) (e .if3 .left))
+    (c .initiate-room .result) (c .initiate-room .ensures (a .stamp .0) (a .path .now))
 
 pub initiate-judge-spec : {M : Type 1} → statement M
 initiate-judge-spec =
@@ -71,8 +67,7 @@ initiate-judge-spec =
     returns
     new-path-ok-requires
     returns-2
-    read-counts-requires
+    judge-requires
     returns-3
-    read-header-requires
-    returns-4
-    returns-5)
+    initiate-room-requires
+    returns-4)

@@ -1,11 +1,11 @@
 -- `uploading::part::part_whole` meets its contract: refused, or the digest, then the part. Assumes nothing.
 use Prim.Native.Nat.{ℕ}
 use mathlib.Core.Path.{sym, ap, _∙_}
-use mathlib.Core.List.{List, []}
+use mathlib.Core.List.{List}
 use borrow.Author.Needs.{needs}
 use Rattle.number.specs.Number.{AreBytes}
 use Rattle.machine.specs.Etags.{plain}
-use Rattle.machine.specs.Calls.{etag}
+use Rattle.machine.specs.Calls.{etag, noBuffers}
 use Rattle.contract.specs.Answers.{success}
 use Rattle.contract.specs.Made.{memory}
 use Rattle.contract.proofs.MadeLaws.{judged, done}
@@ -52,7 +52,7 @@ returns-2 c =
     let o = c .before .before .before .before .put-part in
     let accepted = part-accepted (memory (a .tables .now) (a .arena .now)) (a .upload .0) (a .number .0) (a .content .now) z in
     let stands = part-stands (a .tables .now) (a .arena .now) (a .content .now) (a .upload .0) (a .number .0) (d .result) z (d .ensures) (o .last .0) (o .last .1 .0) (o .ensures) in
-    done _ [] _ accepted (ap (λ (x : List ℕ). success (etag (plain x)) []) (part-digest (a .content .now) (d .result) (d .ensures))) stands (o .kept .0) (o .kept .1 .0)
+    done _ noBuffers _ accepted (ap (λ (x : List ℕ). success (etag (plain x)) noBuffers) (part-digest (a .content .now) (d .result) (d .ensures))) stands (o .kept .0) (o .kept .1 .0)
 
 pub part-whole-spec : {M : Type 1} → statement M
 part-whole-spec =

@@ -1,9 +1,16 @@
--- `writes::judges::put_judge` meets its contract: stamp and path, then the ceilings. Assumes nothing.
+-- `writes::judges::put_judge` meets its contract: stamp, path and pairs, then the ceilings. Assumes nothing.
+use mathlib.Core.Path.{_≡_, sym, ap, _∙_}
+use mathlib.Core.Bool.{true}
+use mathlib.Core.List.{List}
+use Prim.Native.Nat.{ℕ, _+_}
+use native.Mathlib.Omega.{arith}
+use lib.ListN.{length}
+use borrow.Author.Needs.{needs}
+use Rattle.machine.specs.Pairs.{pairsOk, pairMap, pairsHeld, pairList}
+use Rattle.machine.proofs.PairLaws.{formed-is, held-is, kept-held, taken-kept}
 use Rattle.names.proofs.Tests.{said-no, said-yes}
 use Rattle.contract.specs.Made.{memory}
 use Rattle.writes.proofs.Putting.{put-bad, put-judged}
-use borrow.Author.Needs.{needs}
-use mathlib.Core.Path.{refl}
 use Rattle.writes.proofs.judges.put_judge.Statement.{statement}
 use Rattle.writes.proofs.judges.put_judge.Tie as tie
 
@@ -12,29 +19,68 @@ stamp-ok-requires c κs = search needs
 
 returns : tie.Need-returns
 returns c =
-    let a = c .before .before .before .before .before .before .args in
+    let a = c .before .before .before .before .before .before .before .args in
     let no = said-no (c .before .stamp-ok .ensures) (c .if1 .taken) in
-    put-bad (memory (a .tables .now) (a .arena .now)) (a .stamp .0) (a .path .now) (a .content .now) (rw no)
+    put-bad (memory (a .tables .now) (a .arena .now)) (a .stamp .0) (a .path .now) (a .content .now) (pairList (a .pairs .now)) (rw no)
 
 new-path-ok-requires : tie.Need-new-path-ok-requires
 new-path-ok-requires c κs = search needs
 
 returns-2 : tie.Need-returns-2
 returns-2 c =
-    let a = c .before .before .before .before .before .before .before .before .args in
+    let a = c .before .before .before .before .before .before .before .before .before .args in
     let yes = said-yes (c .before .before .before .stamp-ok .ensures) (c .before .before .if1 .left) in
     let no = said-no (c .before .new-path-ok .ensures) (c .if2 .taken) in
-    put-bad (memory (a .tables .now) (a .arena .now)) (a .stamp .0) (a .path .now) (a .content .now) (rw (yes, no))
+    put-bad (memory (a .tables .now) (a .arena .now)) (a .stamp .0) (a .path .now) (a .content .now) (pairList (a .pairs .now)) (rw (yes, no))
+
+judge-requires : tie.Need-judge-requires
+judge-requires c κs = search needs
+
+returns-3 : tie.Need-returns-3
+returns-3 c =
+    let a = c .before .before .before .before .before .before .before .before .before .before .before .args in
+    let yes = said-yes (c .before .before .before .before .before .stamp-ok .ensures) (c .before .before .before .before .if1 .left) in
+    let also = said-yes (c .before .before .before .new-path-ok .ensures) (c .before .before .if2 .left) in
+    let no = said-no (c .before .judge .ensures) (c .if3 .taken) in
+    put-bad (memory (a .tables .now) (a .arena .now)) (a .stamp .0) (a .path .now) (a .content .now) (pairList (a .pairs .now)) (rw (yes, also, no))
+
+-- the pairs were judged
+module _ (k : tie.Else3) where
+  abbrev start : tie.Start
+  start = k .before .before .before .before .before .before .before .before .before .before .before
+
+  taken : pairsOk (pairList (start .args .pairs .now)) ≡ true
+  taken = said-yes (k .before .judge .ensures) (k .if3 .left)
+
+held-requires : tie.Need-held-requires
+held-requires c κs = formed-is _ (taken c)
+
+-- what is counted is what is kept
+module _ (h : tie.After-held) where
+  abbrev ps : List ℕ
+  ps = start (h .before) .args .pairs .now
+
+  held-there : h .held .result ≡ pairsHeld (pairMap (pairList ps))
+  held-there = h .held .ensures ∙ sym (held-is (pairList ps) (taken (h .before)))
+
+add-n : tie.Need-add-n
+add-n c =
+    let s = start (c .before) in
+    let z = kept-held (pairMap (pairList (ps c))) (taken-kept (pairList (ps c)) (taken (c .before))) in
+    omega (arith, held-there c)
 
 object-judge-requires : tie.Need-object-judge-requires
 object-judge-requires c κs = search needs
 
-returns-3 : tie.Need-returns-3
-returns-3 c =
-    let a = c .before .before .before .before .before .before .before .before .before .args in
-    let yes = said-yes (c .before .before .before .before .stamp-ok .ensures) (c .before .before .before .if1 .left) in
-    let also = said-yes (c .before .before .new-path-ok .ensures) (c .before .if2 .left) in
-    put-judged (memory (a .tables .now) (a .arena .now)) (a .stamp .0) (a .path .now) (a .content .now) yes also (c .object-judge .result) (c .object-judge .ensures (a .stamp .0) (a .content .now) refl)
+returns-4 : tie.Need-returns-4
+returns-4 c =
+    let h = c .before in
+    let k = h .before in
+    let a = start k .args in
+    let yes = said-yes (k .before .before .before .before .before .stamp-ok .ensures) (k .before .before .before .before .if1 .left) in
+    let also = said-yes (k .before .before .before .new-path-ok .ensures) (k .before .before .if2 .left) in
+    put-judged (memory (a .tables .now) (a .arena .now)) (a .stamp .0) (a .path .now) (a .content .now) (pairList (a .pairs .now)) yes also (taken k) (c .object-judge .result)
+    (c .object-judge .ensures (a .stamp .0) (a .content .now) (pairMap (pairList (a .pairs .now))) (ap (λ (n : ℕ). n + length (a .content .now)) (sym (held-there h))))
 
 pub put-judge-spec : {M : Type 1} → statement M
 put-judge-spec =
@@ -44,5 +90,9 @@ put-judge-spec =
     returns
     new-path-ok-requires
     returns-2
+    judge-requires
+    returns-3
+    held-requires
+    add-n
     object-judge-requires
-    returns-3)
+    returns-4)

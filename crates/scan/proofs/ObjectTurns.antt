@@ -1,19 +1,20 @@
 -- A turn of the scan of objects. Assumes nothing.
-use Prim.Native.Nat.{ℕ, _+_, _-_, _≤_, _<_}
+use Prim.Native.Nat.{ℕ, _+_, _-_, _*_, _≤_, _<_}
 use mathlib.Core.Path.{_≡_, sym, _∙_}
 use mathlib.Core.Bool.{Bool, true, false, not}
 use mathlib.Core.List.{List}
-use lib.ListN.{drop}
+use native.Mathlib.Nat.{add-sub-cancel-left}
+use lib.ListN.{take, drop}
 use Rattle.number.specs.Number.{AreBytes}
 use Rattle.row.specs.declared.Head.{Head}
-use Rattle.row.specs.Row.{rowAt}
+use Rattle.row.specs.Row.{headLength, rowAt}
 use Rattle.scan.specs.declared.Offset.{Offset}
 use Rattle.scan.specs.declared.Reading.the-variants.{Short, Fits}
 use Rattle.scan.specs.declared.Scan.the-variants.{Bad, Good}
 use Rattle.layout.specs.Rules.{objectRule, objectOk, objectNext}
 use Rattle.scan.specs.Scan.{readingOf, past, objectScan}
 use borrow.Author.Tests.{not-true, not-false}
-use Rattle.scan.proofs.Turns.{pathPart, lengthsPart, contentPart, head-of, path-of, lengths-of, content-of, good-end, past-end, good-short, good-wrong, good-next, past-next}
+use Rattle.scan.proofs.Turns.{pathPart, head-of, path-of, lengths-of, content-of, good-end, past-end, good-short, good-wrong, good-next, past-next}
 
 module _ (t a : List ℕ) (most n i : ℕ) (last : List ℕ) (o : Offset) where
   pub objects-end : n ≤ i → objectScan most (n - i) last o t a ≡ Good o
@@ -26,9 +27,9 @@ module _ (t a : List ℕ) (most n i : ℕ) (last : List ℕ) (o : Offset) where
     objects-short e = rw (good-short (List ℕ) (objectOk most) objectNext t a n i last o l e)
 
     module _ (bytes : AreBytes t) (h : Head) (f : readingOf (drop (o .at) t) (drop (o .base) a) ≡ Fits h) (r : Bool)
-        (e : r ≡ objectRule most last h (pathPart t o h) (lengthsPart t o h) (contentPart a o h)) where
+        (e : r ≡ objectRule most last h (pathPart t o h) (take (2 * h .pairs) (drop (o .at + headLength + h .pathlen) t)) (take (h .size) (drop (o .base) a))) where
       judged : objectOk most last (rowAt (drop (o .at) t) (drop (o .base) a)) ≡ r
-      judged = rw (head-of t a o h f bytes, path-of t a o h f bytes, lengths-of t a o h f bytes, content-of t a o h f bytes) (sym e)
+      judged = rw (head-of t a o h f bytes, path-of t a o h f bytes, lengths-of t a o h f bytes, content-of t a o h f bytes, add-sub-cancel-left (o .at + headLength + h .pathlen) (2 * h .pairs), add-sub-cancel-left (o .base) (h .size)) (sym e)
 
       pub objects-wrong : not r ≡ true → objectScan most (n - i) last o t a ≡ Bad
       unfolding objectScan

@@ -4,9 +4,9 @@ use mathlib.Core.Path.{_≡_, refl, sym, ap, _∙_}
 use mathlib.Core.Bool.{Bool, true, false, _&&_, cond}
 use mathlib.Core.List.{List}
 use native.Mathlib.Omega.{arith}
-use borrow.Author.Tests.{eqb-true, eqb-false}
+use borrow.Author.Tests.{eqb-true, eqb-false, le-leb}
 use lib.Dec.{leb, eqb, lit<}
-use lib.ListN.{length, take, drop, replicate, length-drop}
+use lib.ListN.{length, take, drop, replicate, length-take, length-drop}
 use lib.Seq.{take-all}
 use Rattle.number.specs.Number.{fromLe, AreBytes}
 use Rattle.number.proofs.NumberLaws.{fromLe-same}
@@ -18,7 +18,7 @@ use Rattle.order.specs.declared.Order.{Order}
 use Rattle.order.specs.declared.Order.the-variants.{Less, Equal, Greater}
 use Rattle.machine.proofs.Options.{both}
 use Rattle.stored_pairs.specs.Stored.{blockOk}
-use Rattle.stored_pairs.proofs.Blocks.{block}
+use Rattle.stored_pairs.proofs.Blocks.{block, block-none}
 use Rattle.row.specs.declared.Head.{Head}
 use Rattle.row.specs.Row.{headAt, spanAt, inside, headLength, span}
 use Rattle.scan.specs.declared.Reading.the-variants.{Short, Fits}
@@ -76,3 +76,7 @@ module _ (d : List ℕ) (lo hi : ℕ) (b : AreBytes d) (n : length d ≡ 16) (l 
 pub lengths-few : (most : ℕ) (h : Head) (lengths content : List ℕ) → pairsRule most h lengths content ≡ true → length lengths ≤ 16
 unfolding pairsRule
 lengths-few most h lengths content e = block lengths content (both (leb (h .pairs) most) (blockOk lengths content) e .1) .few
+
+-- a row without pairs may stand
+pub no-pairs : (most n : ℕ) (t content : List ℕ) → n ≡ 0 → leb n most && blockOk (take (2 * n) t) content ≡ true
+no-pairs most n t content e = rw (le-leb n most (omega arith), block-none (take (2 * n) t) content (omega (arith, length-take (2 * n) t)))

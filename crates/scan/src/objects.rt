@@ -2,7 +2,7 @@
 ghost use mathlib.Core.Path.{_≡_};
 ghost use mathlib.Core.Bool.{cond};
 ghost use mathlib.Core.List.{[]};
-ghost use Prim.Native.Nat.{_-_, _≤_};
+ghost use Prim.Native.Nat.{_+_, _-_, _*_, _≤_};
 ghost use lib.Dec.{eqb};
 ghost use lib.ListN.{length, take, drop};
 ghost use Rattle.order.specs.Order.{byBytes};
@@ -37,7 +37,8 @@ fn ascend(a: &[u8], b: &[u8]) -> bool
     }
 }
 
-// Whether the row of an object, with its path from `path` to `end`, may stand after one whose path is `last`.
+// Whether the row of an object, with its path from `path` to `end` and its block at `base`, may stand after one whose path
+// is `last`.
 fn object_ok(
     most: u8,
     last: &[u8],
@@ -45,12 +46,12 @@ fn object_ok(
     t: &[u8],
     path: usize,
     end: usize,
-    lengths: &[u8],
-    content: &[u8],
+    arena: &[u8],
+    base: usize,
 ) -> bool
-    requires { ⌜ (33 ≤ path) × (path ≤ end) × (end ≤ length (now t)) ⌝ }
+    requires { ⌜ (33 ≤ path) × (path ≤ end) × (end + 2 * h .pairs ≤ length (now t)) × (base + h .size ≤ length (now arena)) ⌝ }
     ensures { λ r. ⌜ r ≡ objectRule most (now (last .entry)) h (take (end - path) (drop path (now (t .entry))))
-        (now (lengths .entry)) (now (content .entry)) ⌝ }
+        (take (2 * h .pairs) (drop end (now (t .entry)))) (take (h .size) (drop base (now (arena .entry)))) ⌝ }
 {
     if h.number != 0 {
         return false;
@@ -70,7 +71,7 @@ fn object_ok(
     if !ascend(last, &t[path..end]) {
         return false;
     }
-    rows::pairs_ok(most, h, lengths, content)
+    rows::pairs_ok_at(most, h, t, end, arena, base)
 }
 
 // Whether the rows of objects stand from `from` on, and where they end. The path of the row passed stands from `last` to
@@ -92,16 +93,7 @@ pub(crate) fn scan_objects(t: &[u8], arena: &[u8], from: Offset, rows: u16, most
         let end = path + h.pathlen as usize;
         let next = end + 2 * h.pairs as usize;
         let data_end = base + h.size as usize;
-        if !object_ok(
-            most,
-            &t[last..last_end],
-            h,
-            t,
-            path,
-            end,
-            &t[end..next],
-            &arena[base..data_end],
-        ) {
+        if !object_ok(most, &t[last..last_end], h, t, path, end, arena, base) {
             return Scan::Bad;
         }
         last = path;

@@ -1,7 +1,7 @@
 // One row of memory that need not be whole.
 ghost use mathlib.Core.Path.{_≡_};
-ghost use Prim.Native.Nat.{_≤_};
-ghost use lib.ListN.{length, drop};
+ghost use Prim.Native.Nat.{_+_, _*_, _≤_};
+ghost use lib.ListN.{length, take, drop};
 ghost use Rattle.layout.specs.Rules.{pairsRule};
 ghost use Rattle.scan.specs.Scan.{readingOf};
 use crate::Reading;
@@ -34,4 +34,17 @@ pub(crate) fn pairs_ok(most: u8, h: Head, lengths: &[u8], content: &[u8]) -> boo
         return false;
     }
     stored_pairs::block_ok(lengths, content)
+}
+
+// The same of a row whose lengths stand at `at` and its block at `base`.
+pub(crate) fn pairs_ok_at(most: u8, h: Head, t: &[u8], at: usize, arena: &[u8], base: usize) -> bool
+    requires { ⌜ (at + 2 * h .pairs ≤ length (now t)) × (base + h .size ≤ length (now arena)) ⌝ }
+    ensures { λ r. ⌜ r ≡ pairsRule most h (take (2 * h .pairs) (drop at (now (t .entry)))) (take (h .size) (drop base (now (arena .entry)))) ⌝ }
+{
+    if h.pairs == 0 {
+        return true;
+    }
+    let end = at + 2 * h.pairs as usize;
+    let data_end = base + h.size as usize;
+    pairs_ok(most, h, &t[at..end], &arena[base..data_end])
 }

@@ -1,5 +1,5 @@
 -- `scan::objects::object_ok` meets its contract: the tests are the definition's. Assumes nothing.
-use Prim.Native.Nat.{_-_, _≤_, _<_}
+use Prim.Native.Nat.{_-_, _*_, _≤_, _<_}
 use mathlib.Core.Path.{_≡_, sym, _∙_}
 use mathlib.Core.Bool.{_&&_, cond}
 use lib.Dec.{eqb}
@@ -28,7 +28,7 @@ most-parts-requires c κs = search needs
 
 returns-4 : tie.Need-returns-4
 unfolding all objectRule
-returns-4 c = let h = c .before .before .before .before .before .before .before .before .before .before .before .before .before .args .h in
+returns-4 c = let h = c .before .before .before .before .before .before .before .before .before .before .before .before .args .h in
     let m : cond (eqb (h .kind) plainKind) 0 partsMost < h .count = rw (c .before .before .most-parts .ensures) at (c .if4 .taken) in
     search tests
 
@@ -37,19 +37,21 @@ stored-path-ok-at-requires c κs = search needs
 
 returns-5 : tie.Need-returns-5
 unfolding all objectRule
-returns-5 c = let h = c .before .before .before .before .before .before .before .before .before .before .before .before .before .before .before .args .h in
+returns-5 c = let h = c .before .before .before .before .before .before .before .before .before .before .before .before .before .before .args .h in
     let m : h .count ≤ cond (eqb (h .kind) plainKind) 0 partsMost = rw (c .before .before .before .before .most-parts .ensures) at (c .before .before .if4 .left) in
     search (tests, said-no (c .before .stored-path-ok-at .ensures) (c .if5 .taken))
 
 -- what is left of the rule once the path has passed
 passed : (c : tie.Else5)
-    → let a = c .before .before .before .before .before .before .before .before .before .before .before .before .before .before .before .args in
+    → let a = c .before .before .before .before .before .before .before .before .before .before .before .before .before .before .args in
     let path = take (a .end - a .path) (drop (a .path) (a .t .now)) in
-    objectRule (a .most) (a .last .now) (a .h) path (a .lengths .now) (a .content .now)
-    ≡ (isLess (byBytes (a .last .now) path) && pairsRule (a .most) (a .h) (a .lengths .now) (a .content .now))
+    let lengths = take (2 * a .h .pairs) (drop (a .end) (a .t .now)) in
+    let content = take (a .h .size) (drop (a .base) (a .arena .now)) in
+    objectRule (a .most) (a .last .now) (a .h) path lengths content
+    ≡ (isLess (byBytes (a .last .now) path) && pairsRule (a .most) (a .h) lengths content)
 unfolding all objectRule
 passed c =
-    let h = c .before .before .before .before .before .before .before .before .before .before .before .before .before .before .before .args .h in
+    let h = c .before .before .before .before .before .before .before .before .before .before .before .before .before .before .args .h in
     let m : h .count ≤ cond (eqb (h .kind) plainKind) 0 partsMost = rw (c .before .before .before .before .most-parts .ensures) at (c .before .before .if4 .left) in
     search (tests, said-yes (c .before .stored-path-ok-at .ensures) (c .if5 .left))
 
@@ -68,11 +70,11 @@ ascend-requires c κs = search needs
 returns-6 : tie.Need-returns-6
 returns-6 c = sym (passed (c .before .before .before) ∙ rw (said-no (c .before .ascend .ensures) (c .if6 .taken)))
 
-pairs-ok-requires : tie.Need-pairs-ok-requires
-pairs-ok-requires c κs = search needs
+pairs-ok-at-requires : tie.Need-pairs-ok-at-requires
+pairs-ok-at-requires c κs = search needs
 
 returns-7 : tie.Need-returns-7
-returns-7 c = c .pairs-ok .ensures ∙ sym (passed (c .before .before .before .before) ∙ rw (said-yes (c .before .before .ascend .ensures) (c .before .if6 .left)))
+returns-7 c = c .pairs-ok-at .ensures ∙ sym (passed (c .before .before .before .before) ∙ rw (said-yes (c .before .before .ascend .ensures) (c .before .if6 .left)))
 
 pub object-ok-spec : {M : Type 1} → statement M
 object-ok-spec =
@@ -90,5 +92,5 @@ object-ok-spec =
     part-ascend-end
     ascend-requires
     returns-6
-    pairs-ok-requires
+    pairs-ok-at-requires
     returns-7)

@@ -106,48 +106,30 @@ part-object-ok-start c = omega arith
 part-object-ok-end : tie.Need-part-object-ok-end Inv-loop μ-loop
 part-object-ok-end c = omega arith
 
-sub-object-ok-2 : tie.Need-sub-object-ok-2 Inv-loop μ-loop
-sub-object-ok-2 c = omega arith
-
-part-object-ok-start-2 : tie.Need-part-object-ok-start-2 Inv-loop μ-loop
-part-object-ok-start-2 c = omega arith
-
-part-object-ok-end-2 : tie.Need-part-object-ok-end-2 Inv-loop μ-loop
-part-object-ok-end-2 c = omega (arith, ends (c .before .before .before .before .before))
-
-sub-object-ok-3 : tie.Need-sub-object-ok-3 Inv-loop μ-loop
-sub-object-ok-3 c = omega arith
-
-part-object-ok-start-3 : tie.Need-part-object-ok-start-3 Inv-loop μ-loop
-part-object-ok-start-3 c = omega arith
-
-part-object-ok-end-3 : tie.Need-part-object-ok-end-3 Inv-loop μ-loop
-part-object-ok-end-3 c = omega (arith, data-ends (c .before .before .before .before .before .before))
-
 object-ok-requires : tie.Need-object-ok-requires Inv-loop μ-loop
-object-ok-requires c κs = omega (arith, ends (c .before .before .before .before .before .before .before))
+object-ok-requires c κs = omega (arith, ends (c .before .before .before .before .before), data-ends (c .before .before .before .before .before))
 
 returns-2 : tie.Need-returns-2 Inv-loop μ-loop
 returns-2 c =
-    let k = c .before .before .before .before .before .before .before .before .before .before .before .before .before in
+    let k = c .before .before .before .before .before .before .before .before .before .before .before in
     let a = k .before .before .before .args in
-    sym (k .loop .inv .0 ∙ objects-wrong (tables k) (content k) (a .most) (a .rows) (k .loop .i) _ (here k) (c .before .before .before .before .before .before .before .before .before .before .before .before .loop-test .taken) (λ j. k .before .before .shared-slice-known .given j .fits) _ (fits (c .before .before .before .before .before .before .before .before .before)) _ (c .before .object-ok .ensures) (c .if1 .taken))
+    sym (k .loop .inv .0 ∙ objects-wrong (tables k) (content k) (a .most) (a .rows) (k .loop .i) _ (here k) (c .before .before .before .before .before .before .before .before .before .before .loop-test .taken) (λ j. k .before .before .shared-slice-known .given j .fits) _ (fits (c .before .before .before .before .before .before .before)) _ (c .before .object-ok .ensures) (c .if1 .taken))
 
 add-i : tie.Need-add-i Inv-loop μ-loop
-add-i c = omega (arith, c .before .before .before .before .before .before .before .before .before .before .before .before .loop-test .taken, c .before .before .before .before .before .before .before .before .before .before .before .before .before .before .before .before .fits .rows)
+add-i c = omega (arith, c .before .before .before .before .before .before .before .before .before .before .loop-test .taken, c .before .before .before .before .before .before .before .before .before .before .before .before .before .before .fits .rows)
 
 loop-less : tie.Need-loop-less Inv-loop μ-loop
 loop-less c = omega arith
 
 loop-again : tie.Need-loop-again Inv-loop μ-loop
 loop-again c =
-    let k = c .before .before .before .before .before .before .before .before .before .before .before .before .before in
+    let k = c .before .before .before .before .before .before .before .before .before .before .before in
     let a = k .before .before .before .args in (
-      k .loop .inv .0 ∙ objects-next (tables k) (content k) (a .most) (a .rows) (k .loop .i) _ (here k) (c .before .before .before .before .before .before .before .before .before .before .before .before .loop-test .taken) (λ j. k .before .before .shared-slice-known .given j .fits) _ (fits (c .before .before .before .before .before .before .before .before .before)) _ (c .before .object-ok .ensures) (c .if1 .left),
+      k .loop .inv .0 ∙ objects-next (tables k) (content k) (a .most) (a .rows) (k .loop .i) _ (here k) (c .before .before .before .before .before .before .before .before .before .before .loop-test .taken) (λ j. k .before .before .shared-slice-known .given j .fits) _ (fits (c .before .before .before .before .before .before .before)) _ (c .before .object-ok .ensures) (c .if1 .left),
       omega arith,
       omega arith,
-      omega (arith, ends (c .before .before .before .before .before .before .before .before .before)),
-      data-ends (c .before .before .before .before .before .before .before .before .before),
+      omega (arith, ends (c .before .before .before .before .before .before .before)),
+      data-ends (c .before .before .before .before .before .before .before),
       omega arith,
     )
 
@@ -179,12 +161,6 @@ scan-objects-spec =
     sub-object-ok
     part-object-ok-start
     part-object-ok-end
-    sub-object-ok-2
-    part-object-ok-start-2
-    part-object-ok-end-2
-    sub-object-ok-3
-    part-object-ok-start-3
-    part-object-ok-end-3
     object-ok-requires
     returns-2
     add-i

@@ -1,6 +1,6 @@
 -- Tables carried over: refused by a length or by the former test, or copied, and then they stand for the same state. Assumes nothing.
 use Prim.Native.Nat.{ℕ, _+_, _≤_}
-use mathlib.Core.Path.{_≡_, refl, ap, _∙_}
+use mathlib.Core.Path.{_≡_, refl, sym, ap, _∙_, subst}
 use mathlib.Core.Bool.{true, false}
 use mathlib.Core.List.{List, _++_, append-assoc}
 use native.Mathlib.Omega.{arith}
@@ -13,7 +13,8 @@ use Rattle.layout.specs.Header.{encodeHeader}
 use Rattle.layout.specs.Memory.{rowsOf, tablesLength, formerTablesLength, formerWhole, stateOf, StandsOf, Stands}
 use Rattle.layout.proofs.WholeLaws.{wholeOf-stands}
 use Rattle.layout.proofs.StandsLaws.{stands-state, stands-whole}
-use Rattle.carries.specs.Carry.{carriable, carried, Carried}
+use Rattle.carries.specs.Carry.{carriable, carried, WithoutPairs, Carried}
+use Rattle.carries.proofs.NoPairs.{former-without}
 
 module _ (former a t : List ℕ) where
   refused : carriable former a t ≡ false → Carried former a t 1 t
@@ -24,6 +25,7 @@ module _ (former a t : List ℕ) where
         stands = λ z. absurd (omega arith);
         is-whole = λ z. absurd (omega arith);
         state = λ z. absurd (omega arith);
+        no-pairs = λ z. absurd (omega arith);
         tables-length = refl;
       }
 
@@ -81,5 +83,6 @@ module _ (former a t : List ℕ) where
               stands = λ _. stands;
               is-whole = λ _. stands-whole t′ a s stands;
               state = λ _. stands-state t′ a s stands;
+              no-pairs = λ _. subst WithoutPairs (sym (stands-state t′ a s stands)) (former-without former a w);
               tables-length = keeps;
             }

@@ -92,10 +92,10 @@ fn head_and_show(tables: &[u8], arena: &[u8], path: &[u8], pairs: &mut [u8]) {
 }
 
 // An answer buffer of dots.
-fn dots() -> [u8; 512]
-    ensures { λ r. ⌜ length r ≡ 512 ⌝ }
+fn dots() -> [u8; 1024]
+    ensures { λ r. ⌜ length r ≡ 1024 ⌝ }
 {
-    [b'.'; 512]
+    [b'.'; 1024]
 }
 
 // LIST or UPLOADS, over a buffer as long as the line says.

@@ -8,7 +8,7 @@
 //   TABLES length and ARENA length, which print so many of the first bytes.
 // A list's entries are separated by commas, and `+` there is an odd byte; a place is start:length, and `*n` is n places 0:0; a pair is
 // key=value. Pairs may be left out, and so may `second`, the length of the second answer buffer. An arena has
-// at most 4,096 bytes, a buffer at most 512; it starts as dots. A line that begins with another word is a comment.
+// at most 4,096 bytes, a buffer at most 1,024; it starts as dots. A line that begins with another word is a comment.
 mod dispatch;
 
 use libc::STDIN_FILENO;

@@ -36,72 +36,40 @@ macro_rules! faulty {
     };
 }
 
-/// A store with another PUT, of tables, arena, stamp, path, data and pairs.
-macro_rules! faulty_puts {
-    ($name:ident, |$t:ident, $a:ident, $s:ident, $p:ident, $d:ident, $q:ident| $body:block) => {
-        faulty!($name {
-            fn put(
-                &mut self,
-                $t: &mut [u8],
-                $a: &mut [u8],
-                $s: u64,
-                $p: &[u8],
-                $d: &[u8],
-                $q: &[u8],
-            ) -> u32 $body
-        });
+/// A macro of stores with another such call, whose arguments a closure names. `$d` is a dollar, for
+/// that macro's own names.
+macro_rules! faulty_calls {
+    ($d:tt $stores:ident: $call:ident($($arg:ident: $type:ty),*)) => {
+        macro_rules! $stores {
+            ($d name:ident, |$($d $arg:ident),*| $d body:block) => {
+                faulty!($d name { fn $call(&mut self, $($d $arg: $type),*) -> u32 $d body });
+            };
+        }
     };
 }
 
-/// A store with another GET, of tables, arena, path, answer, second answer and reply.
-macro_rules! faulty_gets {
-    ($name:ident, |$t:ident, $a:ident, $p:ident, $b:ident, $q:ident, $r:ident| $body:block) => {
-        faulty!($name {
-            fn get(
-                &mut self,
-                $t: &[u8],
-                $a: &[u8],
-                $p: &[u8],
-                $b: &mut [u8],
-                $q: &mut [u8],
-                $r: &mut [u8],
-            ) -> u32 $body
-        });
-    };
-}
-
-/// A store with another HEAD, of tables, arena, path, second answer and reply.
-macro_rules! faulty_heads {
-    ($name:ident, |$t:ident, $a:ident, $p:ident, $q:ident, $r:ident| $body:block) => {
-        faulty!($name {
-            fn head(
-                &mut self,
-                $t: &[u8],
-                $a: &[u8],
-                $p: &[u8],
-                $q: &mut [u8],
-                $r: &mut [u8],
-            ) -> u32 $body
-        });
-    };
-}
-
-/// A store with another INITIATE, of tables, arena, stamp, path, pairs and reply.
-macro_rules! faulty_initiates {
-    ($name:ident, |$t:ident, $a:ident, $s:ident, $p:ident, $q:ident, $r:ident| $body:block) => {
-        faulty!($name {
-            fn initiate(
-                &mut self,
-                $t: &mut [u8],
-                $a: &mut [u8],
-                $s: u64,
-                $p: &[u8],
-                $q: &[u8],
-                $r: &mut [u8],
-            ) -> u32 $body
-        });
-    };
-}
+faulty_calls!($ faulty_puts: put(
+    t: &mut [u8], a: &mut [u8], stamp: u64, path: &[u8], data: &[u8], pairs: &[u8]
+));
+faulty_calls!($ faulty_gets: get(
+    t: &[u8], a: &[u8], path: &[u8], answer: &mut [u8], pairs: &mut [u8], reply: &mut [u8]
+));
+faulty_calls!($ faulty_heads: head(
+    t: &[u8], a: &[u8], path: &[u8], pairs: &mut [u8], reply: &mut [u8]
+));
+faulty_calls!($ faulty_initiates: initiate(
+    t: &mut [u8], a: &mut [u8], stamp: u64, path: &[u8], pairs: &[u8], reply: &mut [u8]
+));
+faulty_calls!($ faulty_copies: copy(
+    t: &mut [u8], a: &mut [u8], stamp: u64, source: &[u8], destination: &[u8]
+));
+faulty_calls!($ faulty_carries: carry_over(former: &[u8], a: &[u8], t: &mut [u8]));
+faulty_calls!($ faulty_deletes: delete_objects(
+    t: &mut [u8], a: &mut [u8], names: &[u8], places: &[u8], results: &mut [u8]
+));
+faulty_calls!($ faulty_sweeps: sweep(
+    t: &mut [u8], a: &mut [u8], stamp: u64, most: u32, reply: &mut [u8]
+));
 
 /// A store whose PUT and INITIATE see other pairs: two faults, one of each call.
 macro_rules! faulty_pairs {
@@ -111,31 +79,6 @@ macro_rules! faulty_pairs {
         });
         faulty_initiates!($initiate, |t, a, stamp, path, pairs, reply| {
             slices::initiate(t, a, stamp, path, &changed_pairs(pairs, $change), reply)
-        });
-    };
-}
-
-/// A store with another COPY, of tables, arena, stamp, source and destination.
-macro_rules! faulty_copies {
-    ($name:ident, |$t:ident, $a:ident, $s:ident, $p:ident, $d:ident| $body:block) => {
-        faulty!($name {
-            fn copy(
-                &mut self,
-                $t: &mut [u8],
-                $a: &mut [u8],
-                $s: u64,
-                $p: &[u8],
-                $d: &[u8],
-            ) -> u32 $body
-        });
-    };
-}
-
-/// A store with another carry_over, of former tables, arena and tables.
-macro_rules! faulty_carries {
-    ($name:ident, |$f:ident, $a:ident, $t:ident| $body:block) => {
-        faulty!($name {
-            fn carry_over(&mut self, $f: &[u8], $a: &[u8], $t: &mut [u8]) -> u32 $body
         });
     };
 }
@@ -233,38 +176,6 @@ fn other_keys(t: &[u8], a: &[u8], passes: impl Fn(&[u8], &[u8]) -> bool) -> Vec<
     };
     row();
     arena
-}
-
-/// A store with another DELETE_OBJECTS, of tables, arena, names, places and results.
-macro_rules! faulty_deletes {
-    ($name:ident, |$t:ident, $a:ident, $n:ident, $p:ident, $r:ident| $body:block) => {
-        faulty!($name {
-            fn delete_objects(
-                &mut self,
-                $t: &mut [u8],
-                $a: &mut [u8],
-                $n: &[u8],
-                $p: &[u8],
-                $r: &mut [u8],
-            ) -> u32 $body
-        });
-    };
-}
-
-/// A store with another SWEEP, of tables, arena, stamp, most and reply.
-macro_rules! faulty_sweeps {
-    ($name:ident, |$t:ident, $a:ident, $s:ident, $m:ident, $r:ident| $body:block) => {
-        faulty!($name {
-            fn sweep(
-                &mut self,
-                $t: &mut [u8],
-                $a: &mut [u8],
-                $s: u64,
-                $m: u32,
-                $r: &mut [u8],
-            ) -> u32 $body
-        });
-    };
 }
 
 /// The open uploads: number and start.

@@ -1,7 +1,7 @@
 -- The front of a row written anew, with the same data: what the steps require, and what memory then stands for. Assumes nothing.
 use Prim.Native.Nat.{ℕ, _+_, _*_, _<_}
 use mathlib.Core.Path.{_≡_, sym, ap, ap₂, _∙_}
-use mathlib.Core.List.{List, [], _∷_, _++_, append-assoc, append-nil}
+use mathlib.Core.List.{List, [], _∷_, _++_, append-assoc}
 use native.Mathlib.Omega.{arith}
 use lib.ListN.{length, drop, length-append}
 use Rattle.number.specs.Number.{over, written}
@@ -15,7 +15,7 @@ use Rattle.machine.proofs.MapSums.{length-insert}
 use Rattle.row.specs.declared.Head.{Head}
 use Rattle.row.specs.Row.{Row, encodeRows, contentsOf, headAt, headOf, rowBytes, headLength}
 use Rattle.row.proofs.RowLaws.{encode-append, contents-append}
-use Rattle.row.proofs.RowFields.{length-rowBytes}
+use Rattle.row.proofs.RowFields.{length-rowBytes, row-parts}
 use Rattle.layout.specs.Rules.{plainKind}
 use Rattle.layout.specs.Header.{encodeHeader}
 use Rattle.layout.specs.Memory.{rowsOf, objectRow, stateOf, Stands}
@@ -35,10 +35,6 @@ contents-cons r r′ rs e = ap (λ (d : List ℕ). d ++ contentsOf rs) e
 -- the bytes of rows, with the front of one apart
 abbrev frontOf : Row → List ℕ
 frontOf r = rowBytes (headOf r) (r .digest) [] []
-
-row-parts : (h : Head) (digest path lengths : List ℕ) → rowBytes h digest path lengths ≡ rowBytes h digest [] [] ++ (path ++ lengths)
-unfolding rowBytes
-row-parts h digest path lengths = simp (append-assoc, append-nil)
 
 fronted : (header free : List ℕ) (xs : List Row) (r : Row) (ys : List Row)
     → header ++ (encodeRows (xs ++ (r ∷ ys)) ++ free) ≡ (header ++ encodeRows xs) ++ (frontOf r ++ ((r .path ++ r .lengths) ++ (encodeRows ys ++ free)))

@@ -52,6 +52,11 @@ row-fields b b₁ b₂ b₃ b₄ digest path lengths h l e₁ e₂ e₃ e₄ =
     let l₃ : length ((x ++ digest) ++ path) ≡ headLength + length path = omega (arith, length-append (x ++ digest) path) in
     front-next b b₃ b₄ ((x ++ digest) ++ path) lengths (headLength + length path) (length lengths) q₃ l₃ e₄ ∙ simp (append-assoc, append-nil)
 
+-- the front of a row, then its path and lengths
+pub row-parts : (h : Head) (digest path lengths : List ℕ) → rowBytes h digest path lengths ≡ rowBytes h digest [] [] ++ (path ++ lengths)
+unfolding rowBytes
+row-parts h digest path lengths = simp (append-assoc, append-nil)
+
 pub length-rowBytes : (h : Head) (digest path lengths : List ℕ) → length digest ≡ 16 → length (rowBytes h digest path lengths) ≡ headLength + length path + length lengths
 unfolding rowBytes fields
 length-rowBytes h digest path lengths l = simp (length-append, length-le, l) (omega arith)

@@ -9,17 +9,18 @@ use lib.ListN.{length, take, drop, length-append}
 use Rattle.number.specs.Number.{le, over, AreBytes}
 use Rattle.md5.specs.declared.words.Digest.{Digest}
 use Rattle.md5.specs.Md5.{bytesOf}
-use Rattle.order.proofs.OrderLaws.{numbers, compare-above}
+use Rattle.order.proofs.OrderLaws.{numbers}
 use Rattle.buffer.specs.Buffer.{spliced}
 use Rattle.buffer.proofs.Rotating.{none-left}
-use Rattle.machine.specs.Map.{isSome, Map, byNumber, lookup, Every, total}
+use Rattle.machine.specs.Map.{isSome, Map, byNumber, lookup, total}
 use Rattle.machine.specs.Names.{Bytes}
 use Rattle.machine.specs.Pairs.{pairsHeld}
-use Rattle.machine.specs.State.{Upload, State, held, uploadLength, partsIn, withUpload, withoutUpload, withNext}
+use Rattle.machine.specs.State.{Upload, State, held, partsIn, withUpload, withoutUpload, withNext}
 use Rattle.machine.specs.Steps.{newUpload}
 use Rattle.machine.specs.Valid.{Valid, UploadOk}
 use Rattle.machine.proofs.MapSums.{length-insert, length-remove, total-insert, total-remove, total-share}
 use Rattle.machine.proofs.MapLaws.{lookup-insert, every-lookup}
+pub use Rattle.machine.proofs.Counts.{no-upload, held-open}
 use Rattle.machine.proofs.KeepsValid.{without-upload-valid}
 use Rattle.machine.proofs.PairLaws.{kept-few, kept-held}
 use Rattle.stored_pairs.specs.Stored.{pairLengths, pairBytes}
@@ -48,16 +49,6 @@ use Rattle.edit.proofs.Standing.{removed}
 use Rattle.edit.proofs.Tail.{tail-stands, tail-read}
 use Rattle.edit.specs.Rows.{Insertable}
 use Rattle.edit.proofs.OneRow as row
-
--- no upload has the next number
-pub no-upload : (N : ℕ) (us : Map ℕ Upload) → Every (UploadOk N) us → lookup byNumber N us ≡ none
-no-upload N [] v = refl
-no-upload N (e ∷ us) v = rw (compare-above N (e .0) (v .0 .high)) (no-upload N us (v .1))
-
--- an upload opened adds the bytes of its pairs to those held
-pub held-open : (s : State) (stamp : ℕ) (p : Bytes) (m : Map Bytes Bytes) → Every (UploadOk (s .N)) (s .U) → held s + pairsHeld m ≡ held (withNext (withUpload s (s .N) (newUpload stamp p m)))
-unfolding held
-held-open s stamp p m v = omega (arith, rw (no-upload (s .N) (s .U) v) at (total-insert numbers uploadLength (s .N) (newUpload stamp p m) (s .U)))
 
 -- the digest of a row that has none
 abbrev zeroDigest : Digest

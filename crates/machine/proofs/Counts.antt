@@ -1,20 +1,21 @@
 -- What a proof about code meets: each ceiling by the one count that a call can pass, and what a call does to the bytes held.
 -- Assumes nothing.
 use Prim.Native.Nat.{ℕ, _+_, _≤_}
-use mathlib.Core.Path.{_≡_, _∙_}
-use mathlib.Core.List.{List}
-use mathlib.Core.Option.{some}
+use mathlib.Core.Path.{_≡_, refl, _∙_}
+use mathlib.Core.List.{List, [], _∷_}
+use mathlib.Core.Option.{none, some}
 use native.Mathlib.Omega.{arith}
 use borrow.Author.Tests.{le-leb}
 use lib.Dec.{leb}
 use lib.ListN.{length}
 use Rattle.order.specs.Order.{byBytes}
-use Rattle.order.proofs.OrderLaws.{numbers, bytes}
-use Rattle.machine.specs.Map.{Map, byNumber, lookup, insert, remove, total, owed}
+use Rattle.order.proofs.OrderLaws.{numbers, bytes, compare-above}
+use Rattle.machine.specs.Map.{Map, byNumber, lookup, insert, remove, Every, total, owed}
 use Rattle.machine.specs.Names.{Bytes}
+use Rattle.machine.specs.Pairs.{pairsHeld}
 use Rattle.machine.specs.State.{Object, Part, Upload, State, withObject, withoutObject, withUpload, withoutUpload, withNext, withPart, objectLength, partLength, uploadLength, partsIn, held, counted}
 use Rattle.machine.specs.Steps.{fit, newUpload, joinedObject}
-use Rattle.machine.specs.Valid.{Valid}
+use Rattle.machine.specs.Valid.{Valid, UploadOk}
 use Rattle.machine.proofs.Options.{and-true}
 use Rattle.machine.proofs.MapSums.{total-insert, total-remove, length-insert, length-remove}
 use Rattle.machine.proofs.Fit.{fit-contents}
@@ -44,6 +45,11 @@ module _ (A : ℕ) (s : State) (v : Valid A s) where
       let a : length (insert byNumber u y (s .U)) ≤ 16 = omega (arith, v .opens, rw e at (length-insert numbers u y (s .U))) in
       rw (le-leb _ _ (v .paths), le-leb _ _ a)
 
+-- no upload has the next number
+pub no-upload : (N : ℕ) (us : Map ℕ Upload) → Every (UploadOk N) us → lookup byNumber N us ≡ none
+no-upload N [] v = refl
+no-upload N (e ∷ us) v = rw (compare-above N (e .0) (v .0 .high)) (no-upload N us (v .1))
+
 -- the bytes held, and the parts: what was there is taken off, and what comes is added
 module _ (s : State) where
   pub held-put : (p : Bytes) (y : Object) → held (withObject s p y) + owed objectLength (lookup byBytes p (s .O)) ≡ held s + objectLength y
@@ -57,6 +63,11 @@ module _ (s : State) where
   pub held-upload : (u : ℕ) (y : Upload) → held (withUpload s u y) + owed uploadLength (lookup byNumber u (s .U)) ≡ held s + uploadLength y
   unfolding held
   held-upload u y = omega (arith, total-insert numbers uploadLength u y (s .U))
+
+  -- an upload opened adds the bytes of its pairs
+  pub held-open : (stamp : ℕ) (p : Bytes) (m : Map Bytes Bytes) → Every (UploadOk (s .N)) (s .U) → held s + pairsHeld m ≡ held (withNext (withUpload s (s .N) (newUpload stamp p m)))
+  unfolding held
+  held-open stamp p m v = omega (arith, rw (no-upload (s .N) (s .U) v) at (total-insert numbers uploadLength (s .N) (newUpload stamp p m) (s .U)))
 
   pub held-abort : (u : ℕ) → held (withoutUpload s u) + owed uploadLength (lookup byNumber u (s .U)) ≡ held s
   unfolding held

@@ -21,27 +21,43 @@ fn formed(pairs: &[u8]) -> bool
     true
 }
 
-// 1 where the first pair is kept, 0 where it is dropped.
-fn kept_one(rest: &[u8]) -> usize
-    requires { ⌜ frontFits (now rest) ≡ true ⌝ }
-    ensures { λ r. ⌜ (r ≡ length (kept (frontPair (now (rest .entry)) ∷ []))) × (r ≤ 1) ⌝ }
-{
-    if crate::rules::system_key(crate::front::key(rest)) {
-        return 0;
-    }
-    1
+// How many pairs are kept, and how many bytes their keys and values have.
+struct Kept {
+    pairs: usize,
+    bytes: usize,
 }
 
-// The first pair's bytes of key and value, 0 where it is dropped.
-fn held_one(rest: &[u8]) -> usize
+// Of the first pair alone: 0 where it is dropped.
+fn kept_first(rest: &[u8]) -> Kept
     requires { ⌜ frontFits (now rest) ≡ true ⌝ }
-    ensures { λ r. ⌜ (r ≡ pairsHeld (kept (frontPair (now (rest .entry)) ∷ [])))
-        × (r ≤ frontSize (now (rest .entry))) ⌝ }
+    ensures { λ r. ⌜ (r .pairs ≡ length (kept (frontPair (now (rest .entry)) ∷ [])))
+        × (r .bytes ≡ pairsHeld (kept (frontPair (now (rest .entry)) ∷ [])))
+        × (r .pairs ≤ 1)
+        × (r .bytes ≤ frontSize (now (rest .entry))) ⌝ }
 {
     if crate::rules::system_key(crate::front::key(rest)) {
-        return 0;
+        return Kept { pairs: 0, bytes: 0 };
     }
-    crate::front::size(rest) - 2
+    let bytes = crate::front::size(rest) - 2;
+    Kept { pairs: 1, bytes }
+}
+
+// Of all pairs.
+fn kept_all(pairs: &[u8]) -> Kept
+    requires { ⌜ every pairOk (pairList (now pairs)) ≡ true ⌝ }
+    ensures { λ r. ⌜ (r .pairs ≡ length (kept (pairList (now (pairs .entry)))))
+        × (r .bytes ≡ pairsHeld (kept (pairList (now (pairs .entry))))) ⌝ }
+{
+    let mut n: usize = 0;
+    let mut bytes: usize = 0;
+    let mut at = 0;
+    while at < pairs.len() {
+        let first = kept_first(&pairs[at..]);
+        n += first.pairs;
+        bytes += first.bytes;
+        at = crate::front::end(pairs, at);
+    }
+    Kept { pairs: n, bytes }
 }
 
 // How many pairs are kept.
@@ -49,13 +65,8 @@ pub fn count(pairs: &[u8]) -> usize
     requires { ⌜ every pairOk (pairList (now pairs)) ≡ true ⌝ }
     ensures { λ r. ⌜ r ≡ length (kept (pairList (now (pairs .entry)))) ⌝ }
 {
-    let mut n: usize = 0;
-    let mut at = 0;
-    while at < pairs.len() {
-        n += kept_one(&pairs[at..]);
-        at = crate::front::end(pairs, at);
-    }
-    n
+    let all = kept_all(pairs);
+    all.pairs
 }
 
 // How many bytes of keys and values are kept.
@@ -63,13 +74,8 @@ pub fn held(pairs: &[u8]) -> usize
     requires { ⌜ every pairOk (pairList (now pairs)) ≡ true ⌝ }
     ensures { λ r. ⌜ r ≡ pairsHeld (kept (pairList (now (pairs .entry)))) ⌝ }
 {
-    let mut n: usize = 0;
-    let mut at = 0;
-    while at < pairs.len() {
-        n += held_one(&pairs[at..]);
-        at = crate::front::end(pairs, at);
-    }
-    n
+    let all = kept_all(pairs);
+    all.bytes
 }
 
 // Whether one of the pairs has the key.

@@ -3,6 +3,14 @@ ghost use Prim.Native.Nat.{_+_, _≤_};
 ghost use lib.ListN.{length};
 ghost use Rattle.io.specs.Counts.{Counts};
 
+// The kinds of lists: part numbers as COMMIT takes them, 16 bits each; places as DELETE_OBJECTS takes them from C, two numbers of 32 bits
+// each; pairs as PUT and INITIATE take them. The low byte of a number is first.
+pub const PART_NUMBERS: u8 = 0;
+
+pub const PLACES: u8 = 1;
+
+pub const PAIRS: u8 = 2;
+
 // The index of the first such byte, from an index on; the text's length where there is none.
 pub fn find(text: &[u8], from: usize, byte: u8) -> usize
     requires { ⌜ from ≤ length (now text) ⌝ }
@@ -119,41 +127,6 @@ fn put_place(text: &[u8], out: &mut [u8], n: usize) -> usize
     n + 8
 }
 
-// An entry of a list of places or of part numbers, at index n. `+` is one odd byte. Answers the index after it.
-fn put_entry(text: &[u8], out: &mut [u8], n: usize, places: bool) -> usize
-    requires { ⌜ n + 8 ≤ length (now out) ⌝ }
-    ensures { λ r. ⌜ r ≤ length (now (out .entry)) ⌝ }
-{
-    if text.len() == 1 {
-        if text[0] == b'+' {
-            return n + 1;
-        }
-    }
-    if places {
-        return put_place(text, out, n);
-    }
-    number::put_u16(out, n, part_number(text));
-    n + 2
-}
-
-// A list, its entries separated by commas, in bytes: part numbers as COMMIT takes them, 16 bits each, or places as DELETE_OBJECTS takes
-// them from C, two numbers of 32 bits each; low byte first. Answers how many bytes it has.
-pub fn list_bytes(list: &[u8], places: bool, out: &mut [u8]) -> usize
-    ensures { λ r. ⌜ Counts r (now (out .exit)) ⌝ }
-{
-    let mut at = 0;
-    let mut n: usize = 0;
-    while at < list.len() {
-        if out.len() < n + 8 {
-            return n;
-        }
-        let end = find(list, at, b',');
-        n = put_entry(&list[at..end], out, n, places);
-        at = end + 1;
-    }
-    n
-}
-
 // A key or a value at index n: its length in a byte, then its bytes. Answers the index after it; n where it does not fit.
 fn put_counted(text: &[u8], out: &mut [u8], n: usize) -> usize
     requires { ⌜ n ≤ length (now out) ⌝ }
@@ -171,31 +144,49 @@ fn put_counted(text: &[u8], out: &mut [u8], n: usize) -> usize
     n + 1 + m
 }
 
-// A pair, its key and its value separated by `=`, at index n. `+` is one odd byte. Answers the index after it.
+// A pair, its key and its value separated by `=`, at index n. Answers the index after it.
 fn put_pair(text: &[u8], out: &mut [u8], n: usize) -> usize
     requires { ⌜ n ≤ length (now out) ⌝ }
     ensures { λ r. ⌜ r ≤ length (now (out .entry)) ⌝ }
 {
-    if text.len() == 1 {
-        if text[0] == b'+' {
-            return put_counted(b"", out, n);
-        }
-    }
     let end = find(text, 0, b'=');
     let rest = skip(text, end, b'=');
     let value = put_counted(&text[0..end], out, n);
     put_counted(&text[rest..], out, value)
 }
 
-// Pairs, separated by commas, in bytes as PUT and INITIATE take them. Answers how many bytes they have.
-pub fn pair_bytes(list: &[u8], out: &mut [u8]) -> usize
+// An entry of a list, at index n. `+` is one odd byte. Answers the index after it.
+fn put_entry(text: &[u8], kind: u8, out: &mut [u8], n: usize) -> usize
+    requires { ⌜ n + 8 ≤ length (now out) ⌝ }
+    ensures { λ r. ⌜ r ≤ length (now (out .entry)) ⌝ }
+{
+    if text.len() == 1 {
+        if text[0] == b'+' {
+            return n + 1;
+        }
+    }
+    match kind {
+        PLACES => put_place(text, out, n),
+        PAIRS => put_pair(text, out, n),
+        _ => {
+            number::put_u16(out, n, part_number(text));
+            n + 2
+        }
+    }
+}
+
+// A list of one of these kinds, its entries separated by commas, in bytes. Answers how many bytes it has.
+pub fn list_bytes(list: &[u8], kind: u8, out: &mut [u8]) -> usize
     ensures { λ r. ⌜ Counts r (now (out .exit)) ⌝ }
 {
     let mut at = 0;
     let mut n: usize = 0;
     while at < list.len() {
+        if out.len() < n + 8 {
+            return n;
+        }
         let end = find(list, at, b',');
-        n = put_pair(&list[at..end], out, n);
+        n = put_entry(&list[at..end], kind, out, n);
         at = end + 1;
     }
     n

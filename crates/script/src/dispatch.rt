@@ -8,10 +8,12 @@ use lines::answers::print_result;
 use lines::answers::print_stored;
 use lines::answers::print_swept;
 use lines::answers::print_written;
+use lines::fields::PAIRS;
+use lines::fields::PART_NUMBERS;
+use lines::fields::PLACES;
 use lines::fields::field;
 use lines::fields::list_bytes;
 use lines::fields::number;
-use lines::fields::pair_bytes;
 use lines::fields::part_number;
 use lines::words::ABORT;
 use lines::words::ARENA;
@@ -44,7 +46,7 @@ ghost use lib.ListN.{length};
 // COMMIT of the list that the text says, at most 32 numbers: `list_bytes` asks room for a place, eight bytes, at each entry.
 fn commit(tables: &mut [u8], arena: &mut [u8], upload: u32, text: &[u8]) -> DoneAnswer {
     let mut list = [0u8; 70];
-    let n = list_bytes(text, false, &mut list);
+    let n = list_bytes(text, PART_NUMBERS, &mut list);
     store::commit(tables, arena, UploadNumber(upload), &list[..n])
 }
 
@@ -155,7 +157,7 @@ fn put(
     text: &[u8],
 ) -> DoneAnswer {
     let mut pairs = pairs_room();
-    let m = pair_bytes(text, &mut pairs);
+    let m = list_bytes(text, PAIRS, &mut pairs);
     store::put(tables, arena, Stamp(n), path, content, &pairs[..m])
 }
 
@@ -196,7 +198,7 @@ fn upload(line: &[u8]) -> u32 {
 
 fn initiate(tables: &mut [u8], arena: &mut [u8], line: &[u8]) -> InitiateAnswer {
     let mut pairs = pairs_room();
-    let m = pair_bytes(field(line, 3), &mut pairs);
+    let m = list_bytes(field(line, 3), PAIRS, &mut pairs);
     store::initiate(
         tables,
         arena,
@@ -249,7 +251,7 @@ fn delete_and_show(
     results: &mut [u8],
 ) {
     let mut places = places_room();
-    let n = list_bytes(text, true, &mut places);
+    let n = list_bytes(text, PLACES, &mut places);
     print_done(store::delete_packed(tables, arena, names, &places[..n], results));
     print_buffer(results, false);
 }

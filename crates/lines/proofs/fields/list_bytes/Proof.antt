@@ -7,10 +7,10 @@ use Rattle.lines.proofs.fields.list_bytes.Statement.{statement}
 use Rattle.lines.proofs.fields.list_bytes.Tie as tie
 
 abbrev Inv-loop : tie.InvT-loop
-Inv-loop list places out₀ at₀ n₀ out at n = (at ≤ length list + 1) × (n ≤ length out) × (length out ≡ length out₀)
+Inv-loop list kind out₀ at₀ n₀ out at n = (at ≤ length list + 1) × (n ≤ length out) × (length out ≡ length out₀)
 
 abbrev μ-loop : tie.MeasureT-loop
-μ-loop list places out₀ at₀ n₀ out at n = length list + 1 - at
+μ-loop list kind out₀ at₀ n₀ out at n = length list + 1 - at
 
 loop-holds : tie.Need-loop-holds Inv-loop μ-loop
 loop-holds c = omega arith

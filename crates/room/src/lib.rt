@@ -1,4 +1,4 @@
-// The room for an object or a part: the last refusals of PUT, COPY, PART and COMMIT, by number; 0 for none.
+// The room for an object, the pairs of an upload or a part: refusals of PUT, COPY, INITIATE, PART and COMMIT, by number; 0 for none.
 ghost use mathlib.Core.Path.{_≡_};
 ghost use mathlib.Core.Bool.{true, cond};
 ghost use Prim.Native.Nat.{_+_, _≤_};

@@ -14,7 +14,7 @@ use Rattle.layout.specs.Memory.{rowsOf, tablesLength, formerTablesLength, forme
 use Rattle.layout.proofs.WholeLaws.{wholeOf-stands}
 use Rattle.layout.proofs.StandsLaws.{stands-state, stands-whole}
 use Rattle.carries.specs.Carry.{carriable, carried, WithoutPairs, Carried}
-use Rattle.carries.proofs.NoPairs.{former-without}
+use Rattle.carries.proofs.WithoutPairs.{former-without}
 
 module _ (former a t : List ℕ) where
   refused : carriable former a t ≡ false → Carried former a t 1 t

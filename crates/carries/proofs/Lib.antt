@@ -1,2 +1,2 @@
 pub mod Carrying
-pub mod NoPairs
+pub mod WithoutPairs

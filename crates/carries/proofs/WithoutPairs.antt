@@ -20,22 +20,22 @@ use Rattle.layout.proofs.PairRows.{pairs-most}
 use Rattle.layout.proofs.ObjectLaws.{object-pairs}
 use Rattle.carries.specs.Carry.{WithoutPairs}
 
--- each row has no lengths of pairs
-abbrev BareRows : List Row → Type 0
-BareRows [] = Unit {0}
-BareRows (r ∷ rs) = (r .lengths ≡ []) × BareRows rs
+-- each row has no lengths, so no pairs
+abbrev RowsWithout : List Row → Type 0
+RowsWithout [] = Unit {0}
+RowsWithout (r ∷ rs) = (r .lengths ≡ []) × RowsWithout rs
 
 no-lengths : (t a : List ℕ) → headAt t .pairs ≡ 0 → rowAt t a .lengths ≡ []
 unfolding rowAt lengthsAt
 no-lengths t a e = ap (λ (n : ℕ). take (2 * n) (drop (headLength + headAt t .pathlen) t)) e
 
 -- rows by a rule that takes no pairs
-bare-rows : (S : Type 0) (ok : S → Row → Bool) (next : S → Row → S) → ((σ : S) (r : Row) → ok σ r ≡ true → r .pairs ≡ 0) → (n : ℕ) (σ : S) (t a : List ℕ) → good S ok next n σ t a ≡ true → BareRows (rowsAt n t a)
+rows-without : (S : Type 0) (ok : S → Row → Bool) (next : S → Row → S) → ((σ : S) (r : Row) → ok σ r ≡ true → r .pairs ≡ 0) → (n : ℕ) (σ : S) (t a : List ℕ) → good S ok next n σ t a ≡ true → RowsWithout (rowsAt n t a)
 unfolding rowsAt rowAt
-bare-rows S ok next none zero σ t a g = tt
-bare-rows S ok next none (suc n) σ t a g = (
+rows-without S ok next none zero σ t a g = tt
+rows-without S ok next none (suc n) σ t a g = (
   no-lengths t a (none σ (rowAt t a) (here-ok S ok next n σ t a g)),
-  bare-rows S ok next none n (next σ (rowAt t a)) (drop (spanAt t) t) (drop (headAt t .size) a) (rest-good S ok next n σ t a g),
+  rows-without S ok next none n (next σ (rowAt t a)) (drop (spanAt t) t) (drop (headAt t .size) a) (rest-good S ok next n σ t a g),
 )
 
 object-none : (last : List ℕ) (r : Row) → objectOk 0 last r ≡ true → r .pairs ≡ 0
@@ -53,15 +53,15 @@ no-pairs : (r : Row) → r .lengths ≡ [] → pairsOf r ≡ []
 unfolding pairsAt
 no-pairs r e = rw e
 
-bare-objects : (rs : List Row) → BareRows rs → Every (λ p x. x .pairs ≡ []) (objectsOf rs)
+objects-without : (rs : List Row) → RowsWithout rs → Every (λ p x. x .pairs ≡ []) (objectsOf rs)
 unfolding objectsOf
-bare-objects [] b = tt
-bare-objects (r ∷ rs) b = (no-pairs r (b .0), bare-objects rs (b .1))
+objects-without [] b = tt
+objects-without (r ∷ rs) b = (no-pairs r (b .0), objects-without rs (b .1))
 
-bare-uploads : (rs : List Row) → BareRows rs → Every (λ u x. x .pairs ≡ []) (nest rs .uploads)
+uploads-without : (rs : List Row) → RowsWithout rs → Every (λ u x. x .pairs ≡ []) (nest rs .uploads)
 unfolding nest
-bare-uploads [] b = tt
-bare-uploads (r ∷ rs) b = go (eqb (r .kind) uploadKind) refl (bare-uploads rs (b .1))
+uploads-without [] b = tt
+uploads-without (r ∷ rs) b = go (eqb (r .kind) uploadKind) refl (uploads-without rs (b .1))
   where
     go : (k : Bool) → eqb (r .kind) uploadKind ≡ k → Every (λ u x. x .pairs ≡ []) (nest rs .uploads) → Every (λ u x. x .pairs ≡ []) (nest (r ∷ rs) .uploads)
     go true e v = rw e (no-pairs r (b .0), v)
@@ -75,6 +75,6 @@ former-without t a w =
     let k = headerAt t .uploads + headerAt t .parts in
     let next = headerAt t .next in
     record {
-      objects = bare-objects _ (bare-rows (List ℕ) (objectOk 0) objectNext object-none n [] (drop headerLength t) a (g .1 .0));
-      uploads = bare-uploads _ (bare-rows Mark (entryOk 0 next) entryNext (entry-none next) k start (uploadTables t a) (uploadArena t a) (g .1 .1 .0));
+      objects = objects-without _ (rows-without (List ℕ) (objectOk 0) objectNext object-none n [] (drop headerLength t) a (g .1 .0));
+      uploads = uploads-without _ (rows-without Mark (entryOk 0 next) entryNext (entry-none next) k start (uploadTables t a) (uploadArena t a) (g .1 .1 .0));
     }

@@ -18,14 +18,17 @@ pub enum End {
 
 /// The code that the work gives, or the signal that ended it.
 pub fn apart(work: impl FnOnce() -> i32) -> End {
-    std::io::stdout().flush().expect("standard output");
+    // With the lock of standard output in hand, or another thread could have it in the child for ever.
+    let mut output = std::io::stdout().lock();
+    output.flush().expect("standard output");
     let process = unsafe { fork() };
     assert!(process >= 0, "fork");
     if process == 0 {
         let code = catch_unwind(AssertUnwindSafe(work)).unwrap_or(101);
-        let _ = std::io::stdout().flush();
+        let _ = output.flush();
         unsafe { _exit(code) }
     }
+    drop(output);
     let mut status = 0;
     let ended = unsafe { waitpid(process, &mut status, 0) };
     assert_eq!(ended, process, "waitpid");

@@ -16,8 +16,9 @@ pub fn shrink(list: &List, fails: impl FnMut(&List) -> Option<usize>) -> List {
     search.accepts(list.clone());
     loop {
         let before = search.best.clone();
-        search.fewer_steps();
+        // First, since lists over a small arena are quick to try.
         search.smaller_arena();
+        search.fewer_steps();
         search.fewer_uploads();
         search.fewer_parts();
         search.closer_stamps();
@@ -75,7 +76,8 @@ impl<F: FnMut(&List) -> Option<usize>> Search<F> {
     /// list starts late.
     fn smaller_arena(&mut self) {
         let before = self.best.arena;
-        for arena in [0, 1, 4, 16, 64, 256, 1024].into_iter().filter(|arena| *arena < before) {
+        let arenas = [0, 1, 4, 16, 64, 256, 1024, 4096, 16_384];
+        for arena in arenas.into_iter().filter(|arena| *arena < before) {
             let smaller = |list: &mut List| {
                 list.arena = arena;
                 let lent = list.steps.iter_mut().filter_map(Step::lending_mut);

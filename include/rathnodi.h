@@ -33,7 +33,8 @@
  * makes it bad. Paths are compared and listed by bytes, as they come: the two ways to write an accented letter, as one
  * character or as two, are two paths. Prefixes and suffixes are any bytes. The empty path is the root, which only get
  * and head take. Paths are not C strings: no zero byte ends them. A stamp is a count of seconds since the start of 1970,
- * at least 1. Stamps may go back: only sweep compares them. Part numbers are 1 to 11,000.
+ * at least 1. Stamps may go back: only sweep compares them. Part numbers are 1 to 10,000. Before version 3 they went to
+ * 11,000: a store from then may hold a higher part, which uploads counts, commit's list names and abort removes.
  *
  * Pairs of key and value may stand beside an object's data: a flour lot, a baker. A key is 1 to 32 bytes of 'a' to
  * 'z', '0' to '9' and '-'; a value is 0 to 64 bytes from 32 to 126. put and initiate take up to 8 pairs, in any order
@@ -62,10 +63,10 @@ extern "C" {
 #endif
 
 /* The version. MAJOR grows where a caller or a saved store has to change, MINOR where something is added. */
-#define RATHNODI_VERSION_MAJOR 2
+#define RATHNODI_VERSION_MAJOR 3
 #define RATHNODI_VERSION_MINOR 0
 #define RATHNODI_VERSION_PATCH 0
-/* The same as a text, "2.0.0" for example. */
+/* The same as a text, "3.0.0" for example. */
 #define RATHNODI_VERSION RATHNODI_DOTTED(RATHNODI_VERSION_MAJOR, RATHNODI_VERSION_MINOR, RATHNODI_VERSION_PATCH)
 #define RATHNODI_DOTTED(major, minor, patch) \
     RATHNODI_QUOTED(major) "." RATHNODI_QUOTED(minor) "." RATHNODI_QUOTED(patch)
@@ -99,7 +100,8 @@ extern "C" {
 #define RATHNODI_ARENA_MAX 1048576
 
 #define RATHNODI_PATH_MAX 128
-#define RATHNODI_PART_MAX 11000
+/* The last part number that part takes. */
+#define RATHNODI_PART_MAX 10000
 /* Ceilings: paths, open uploads, parts over all uploads. */
 #define RATHNODI_OBJECTS_MAX 256
 #define RATHNODI_UPLOADS_MAX 16

@@ -108,7 +108,7 @@ class Store:
         return f", upload {self.next - 1}"
 
     def part(self, upload, number, data):
-        need(1 <= number <= 11000 and upload in self.uploads, 2)
+        need(1 <= number <= 10000 and upload in self.uploads, 2)
         path, start, parts, pairs = self.uploads[upload]
         self.fit(self.objects, {**self.uploads, upload: (path, start, {**parts, number: data}, pairs)})
         return ", etag " + md5(data).hex()

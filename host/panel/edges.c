@@ -1,7 +1,7 @@
 /*
  * Bad input from C, answered as documents 01 and 02 say: wrong lengths, memory that is no store, bad arguments, places
  * outside the names, short answers, sweeps at the edge of what is due, pairs at the edge of each of their rules, former
- * tables that are no store. After each refusal every lent byte is compared. The last line counts.
+ * tables that are no store, a part of an older store. After each refusal every lent byte is compared. The last line counts.
  */
 #include <inttypes.h>
 #include <string.h>
@@ -257,7 +257,8 @@ static void bad_arguments(void)
     refused("part of upload 0", rathnodi_part(STORE, 0, 1, BYTES("A"), REPLY), RATHNODI_BAD_REQUEST);
     refused("part of upload 2", rathnodi_part(STORE, 2, 1, BYTES("A"), REPLY), RATHNODI_BAD_REQUEST);
     refused("part 0", rathnodi_part(STORE, 1, 0, BYTES("A"), REPLY), RATHNODI_BAD_REQUEST);
-    refused("part 11001", rathnodi_part(STORE, 1, 11001, BYTES("A"), REPLY), RATHNODI_BAD_REQUEST);
+    refused("part 10001", rathnodi_part(STORE, 1, 10001, BYTES("A"), REPLY), RATHNODI_BAD_REQUEST);
+    refused("part 11000", rathnodi_part(STORE, 1, 11000, BYTES("A"), REPLY), RATHNODI_BAD_REQUEST);
     refused("part 65535", rathnodi_part(STORE, 1, 65535, BYTES("A"), REPLY), RATHNODI_BAD_REQUEST);
     refused("commit of upload 2", rathnodi_commit(STORE, 2, BYTES("\1\0")), RATHNODI_BAD_REQUEST);
     refused("commit, none listed", rathnodi_commit(STORE, 1, BYTES("")), RATHNODI_BAD_REQUEST);
@@ -849,6 +850,37 @@ static void shared_arguments(void)
     check("the pairs are the data", memcmp(now.answer + 1, pair, 4) == 0 && memcmp(now.pairs_answer + 1, pair, 4) == 0);
 }
 
+/* Part 11000 of upload 1, as a store from before version 3 can hold it: its row is the first after the upload's, of 37
+ * bytes, and has its number 4 bytes in (docs/LAYOUT.md). */
+static void lend_older_part(void)
+{
+    uint8_t *number = now.tables + 1 + 18 + 37 + 4;
+    start_empty();
+    accepted("initiate", good(INITIATE));
+    accepted("part 10000", rathnodi_part(STORE, 1, RATHNODI_PART_MAX, BYTES("A"), REPLY));
+    check("its number", number[0] == (10000 & 255) && number[1] == 10000 >> 8 && number[2] == 0 && number[3] == 0);
+    number[0] = 11000 & 255;
+    number[1] = 11000 >> 8;
+    mark();
+}
+
+static void older_parts(void)
+{
+    static const uint8_t of_10000[] = {10000 & 255, 10000 >> 8}, of_11000[] = {11000 & 255, 11000 >> 8};
+    lend_older_part();
+    accepted("uploads, part 11000 there", good(UPLOADS));
+    check("part 11000 is counted", now.answer[1 + 14] == 1 && now.answer[1 + 15] == 0);
+    mark();
+    refused("part 11000, which is there", rathnodi_part(STORE, 1, 11000, BYTES("B"), REPLY), RATHNODI_BAD_REQUEST);
+    refused("commit, part 10000 for 11000", rathnodi_commit(STORE, 1, of_10000, 2), RATHNODI_BAD_REQUEST);
+    accepted("commit, part 11000", rathnodi_commit(STORE, 1, of_11000, 2));
+    accepted("get, what part 11000 was", rathnodi_get(STORE, BYTES("r"), ANSWER, PAIRS_ANSWER, REPLY));
+    check("its data", FIELD(uint32_t, 8) == 1 && now.answer[1] == 'A');
+    lend_older_part();
+    accepted("abort, part 11000 there", good(ABORT));
+    refused("abort, gone", good(ABORT), RATHNODI_BAD_REQUEST);
+}
+
 int main(void)
 {
     wrong_lengths();
@@ -863,6 +895,7 @@ int main(void)
     room_for_pairs();
     second_answers();
     former_tables();
+    older_parts();
     replies();
     shared_arguments();
     return counted("edges");

@@ -8,7 +8,7 @@ use borrow.Author.Tests.{lt-leb, ne-eqb}
 use lib.Dec.{leb, eqb}
 use lib.ListN.{length, take, drop}
 use Rattle.number.specs.Number.{AreBytes}
-use Rattle.machine.specs.Names.{Bytes, formerPathOk, storedPathOk}
+use Rattle.machine.specs.Names.{Bytes, formerPathOk, storedPathOk, storedPartOk}
 use Rattle.machine.specs.Pairs.{keptOk}
 use Rattle.machine.proofs.Rules.{former-ok}
 use Rattle.stored_pairs.specs.Stored.{sumOf, pairsAt, storedOk, blockOk}
@@ -22,7 +22,7 @@ use Rattle.layout.specs.Memory.{objectsGood, uploadsGood, uploadTables, uploadA
 use Rattle.layout.specs.Memory as memory
 use Rattle.layout.proofs.TestLaws.{all-true, true-all}
 use Rattle.layout.proofs.WholeLaws.{wholeOf-stands}
-use Rattle.former.specs.Former.{objectRuleBy, uploadRuleBy, entryRuleBy, objectOkBy, entryOkBy, wholeBy, formerWhole}
+use Rattle.former.specs.Former.{formerPartRule, objectRuleBy, uploadRuleBy, entryRuleBy, objectOkBy, entryOkBy, wholeBy, formerWhole}
 
 -- a row without pairs keeps their rule, whatever its block is
 no-pairs : (n : ℕ) (t c : List ℕ) → leb n 0 && blockOk (take (2 * n) t) c ≡ eqb n 0
@@ -46,7 +46,7 @@ module _ (t a : List ℕ) where
   object-is last = rw (no-pairs (headAt t .pairs) rest (take (headAt t .size) a))
 
   entry-is : (N : ℕ) (m : Mark) → entryOk 0 N m (rowAt t a) ≡ entryOkBy storedPathOk N m (rowAt t a)
-  unfolding entryOk entryRule entryRuleBy uploadRule uploadRuleBy pairsRule all rowAt lengthsAt
+  unfolding entryOk entryRule entryRuleBy uploadRule uploadRuleBy pairsRule partRule formerPartRule storedPartOk all rowAt lengthsAt
   entry-is N m = rw (no-block (headAt t .pairs) rest (take (headAt t .size) a) (length (take (headAt t .size) a)))
 
 -- two rules of rows that agree on rows of memory
@@ -93,8 +93,8 @@ module _ (was is : Bytes → Bool) (more : (p : Bytes) → was p ≡ true → is
   unfolding entryRuleBy
   entry-more N m r e = go (eqb (headOf r .kind) uploadKind) e
     where
-      go : (k : Bool) → cond k (uploadRuleBy was N m (headOf r) (r .digest) (r .path)) (partRule m (headOf r)) ≡ true
-          → cond k (uploadRuleBy is N m (headOf r) (r .digest) (r .path)) (partRule m (headOf r)) ≡ true
+      go : (k : Bool) → cond k (uploadRuleBy was N m (headOf r) (r .digest) (r .path)) (formerPartRule m (headOf r)) ≡ true
+          → cond k (uploadRuleBy is N m (headOf r) (r .digest) (r .path)) (formerPartRule m (headOf r)) ≡ true
       go true e = upload-more N m (headOf r) (r .digest) (r .path) e
       go false e = e
 

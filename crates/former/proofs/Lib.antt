@@ -1,2 +1,3 @@
 pub mod FormerWhole
 pub mod Grammar
+pub mod FormerParts

@@ -11,7 +11,7 @@ use lib.Dec.{leb}
 use lib.ListN.{length}
 use Rattle.order.proofs.OrderLaws.{numbers, bytes}
 use Rattle.machine.specs.Map.{Map, byNumber, lookup, total, Every}
-use Rattle.machine.specs.Names.{Bytes, newPathOk, stampOk, requestPartOk, lastUploadNumber}
+use Rattle.machine.specs.Names.{Bytes, newPathOk, stampOk, storedPartOk, lastUploadNumber}
 use Rattle.machine.specs.Pairs.{keptOk}
 use Rattle.machine.specs.Digest.{length-md5}
 use Rattle.machine.specs.State.{Object, Upload, State, fresh, withObject, withoutObject, withoutUpload, withPart, partsIn, held, counted}
@@ -91,7 +91,7 @@ upload-later N m a =
     every-change (UploadOk N) (UploadOk (N + 1)) m
     (λ k x o. record { low = o .low; high = let l = o .high in omega arith; path = o .path; stamp = o .stamp; pairs = o .pairs; sorted = o .sorted; each = o .each }) a
 
-pub part-ok : (N u n : ℕ) (x : Upload) (d : Bytes) → requestPartOk n ≡ true → UploadOk N u x → UploadOk N u (withPart x n (newPart d))
+pub part-ok : (N u n : ℕ) (x : Upload) (d : Bytes) → storedPartOk n ≡ true → UploadOk N u x → UploadOk N u (withPart x n (newPart d))
 part-ok N u n x d h o = record {
   low = o .low;
   high = o .high;
@@ -99,7 +99,7 @@ part-ok N u n x d h o = record {
   stamp = o .stamp;
   pairs = o .pairs;
   sorted = ascending-insert numbers n _ (x .parts) (o .sorted);
-  each = every-insert numbers PartOk n _ (x .parts) (record { number = part-stored n h; digest = length-md5 d }) (o .each);
+  each = every-insert numbers PartOk n _ (x .parts) (record { number = h; digest = length-md5 d }) (o .each);
 }
 
 opened-valid : (A : ℕ) (s : State) (t : ℕ) (p : Bytes) (m : Map Bytes Bytes) → stampOk t && newPathOk p ≡ true → keptOk m ≡ true →
@@ -119,7 +119,7 @@ opened-valid A s t p m h k c r l v = let b = both _ _ h in let q = counts _ c in
   room = leb-true _ _ r;
 }
 
-sent-valid : (A : ℕ) (s : State) (u : ℕ) (x : Upload) (n : ℕ) (d : Bytes) → requestPartOk n ≡ true → lookup byNumber u (s .U) ≡ some x →
+pub sent-valid : (A : ℕ) (s : State) (u : ℕ) (x : Upload) (n : ℕ) (d : Bytes) → storedPartOk n ≡ true → lookup byNumber u (s .U) ≡ some x →
     counted (withSent s u x n d) ≡ true → leb (held (withSent s u x n d)) A ≡ true → Valid A s → Valid A (withSent s u x n d)
 sent-valid A s u x n d h e c r v = let q = counts _ c in record {
   objects = v .objects;
@@ -143,7 +143,7 @@ effects-valid v (closes u x e more) w = effects-valid v more (without-upload-val
 
 does-valid : {A : ℕ} {s s′ : State} {k : Kind} {r : Answer} → Valid A s → Does A s k r s′ → Valid A s′
 does-valid v (opens-upload t p m h k c r l) = opened-valid _ _ t p m h k c r l v
-does-valid v (sets-part u x n d h e c r) = sent-valid _ _ u x n d h e c r v
+does-valid v (sets-part u x n d h e c r) = sent-valid _ _ u x n d (part-stored n h) e c r v
 does-valid v (has-effects q w more) = effects-valid v more v
 
 pub next-valid : (A : ℕ) (s : State) (c : Call) → Valid A s → Valid A (next A s c)

@@ -31,3 +31,4 @@ pub mod Apart
 pub mod Swaps
 pub mod SwapCases
 pub mod Sweep
+pub mod OlderParts

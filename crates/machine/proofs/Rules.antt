@@ -1,12 +1,15 @@
--- The rules for requests and for the store, one beside the other: what may be made may be held, and what is held may be asked for.
+-- The rules for requests and for the store, one beside the other: what may be made may be held, and a path that is held may be asked for.
 -- Assumes nothing.
 use Prim.Native.Nat.{ℕ}
 use mathlib.Core.Path.{_≡_, refl}
 use mathlib.Core.Bool.{Bool, true, false, _&&_, _||_, cond, false≢true}
 use mathlib.Core.List.{List, [], _∷_}
+use native.Mathlib.Omega.{arith}
+use borrow.Author.Tests.{leb-true, le-leb}
 use lib.Dec.{leb}
 use lib.ListN.{length}
-use Rattle.machine.specs.Names.{Bytes, Range, characters, visible, apart, formerPathOk, pathOk, requestPathOk, newPathOk, storedPathOk, requestPartOk, storedPartOk}
+use Rattle.machine.specs.Names.{Bytes, Range, characters, visible, apart, formerPathOk, pathOk, requestPathOk, newPathOk, storedPathOk, numberOk, requestPartOk, storedPartOk}
+use Rattle.machine.proofs.Options.{both}
 
 pub new-stored : (p : Bytes) → newPathOk p ≡ true → storedPathOk p ≡ true
 unfolding newPathOk storedPathOk
@@ -16,9 +19,17 @@ pub stored-requested : (p : Bytes) → storedPathOk p ≡ true → requestPathOk
 unfolding storedPathOk requestPathOk
 stored-requested p h = h
 
+-- E7: what PART takes it took before, and what it took before a store may hold
+part-number : (n : ℕ) → requestPartOk n ≡ true → numberOk n ≡ true
+unfolding requestPartOk numberOk
+part-number n h = let b = both (leb 1 n) (leb n 10000) h in let l = leb-true n 10000 (b .1) in rw (b .0, le-leb n 11000 (omega arith))
+
+pub number-stored : (n : ℕ) → numberOk n ≡ true → storedPartOk n ≡ true
+unfolding storedPartOk
+number-stored n h = h
+
 pub part-stored : (n : ℕ) → requestPartOk n ≡ true → storedPartOk n ≡ true
-unfolding requestPartOk storedPartOk
-part-stored n h = h
+part-stored n h = number-stored n (part-number n h)
 
 -- the root is no path of a store
 pub stored-not-root : storedPathOk [] ≡ true → ⊥

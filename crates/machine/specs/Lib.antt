@@ -21,3 +21,4 @@ pub mod Cases
 pub mod PairSteps
 pub mod Swaps
 pub mod SwapCases
+pub mod OlderParts

@@ -2,7 +2,7 @@
 use Prim.Native.Nat.{ℕ}
 use mathlib.Core.Path.{_≡_, refl}
 use mathlib.Core.List.{List, [], _∷_, _++_, map}
-use Rattle.machine.specs.Names.{Bytes, pathOk, requestPathOk, newPathOk, stampOk, numberOk, requestPartOk}
+use Rattle.machine.specs.Names.{Bytes, pathOk, requestPathOk, newPathOk, stampOk, requestPartOk}
 use Rattle.machine.specs.Pairs.{pairsOk, pairMap, encodePairs}
 use Rattle.machine.specs.Digest.{md5}
 use Rattle.machine.specs.Etags.{absent, plain, joined}
@@ -119,5 +119,5 @@ abbrev pub replies : (arena : ℕ) → List Call → List Reply
 replies arena cs = map (λ (e : Call × Reply). e .1) (trace arena fresh cs)
 
 pub marked-answered : map (λ (w : MarkedOrder). replies (w .arena) (w .calls)) marked ≡ map (λ (w : MarkedOrder). w .replies) marked
-unfolding _else_then_ given act putAt objectAt deleteAt abortAt counted held pathOk requestPathOk newPathOk stampOk pairsOk pairMap encodePairs numberOk requestPartOk
+unfolding _else_then_ given act putAt objectAt deleteAt abortAt counted held pathOk requestPathOk newPathOk stampOk pairsOk pairMap encodePairs requestPartOk
 marked-answered = refl

@@ -1,5 +1,5 @@
--- Document 01, "Names, stamps and part numbers", with document 02's E2: paths in UTF-8. Assumes nothing.
--- Rules for what a request may name stand apart from rules for what a store may hold; today they are the same.
+-- Document 01, "Names, stamps and part numbers", with document 02's E2, paths in UTF-8, and E7, ten thousand parts. Assumes nothing.
+-- Rules for what a request may name stand apart from rules for what a store may hold; of paths they are the same.
 use Prim.Native.Nat.{ℕ}
 use mathlib.Core.Bool.{Bool, true, false, not, _&&_, _||_, cond}
 use mathlib.Core.List.{List, [], _∷_, _++_}
@@ -108,15 +108,15 @@ storedPathOk p = pathOk p
 unfoldable pub stampOk : ℕ → Bool
 stampOk t = leb 1 t && leb t 18446744073709551615
 
--- "A part number is 1 to 11,000 (004's limit)."
+-- "A part number is 1 to 11,000 (004's limit).": before E7 also what PART may name
 unfoldable pub numberOk : ℕ → Bool
 numberOk n = leb 1 n && leb n 11000
 
--- a part number that PART may name
+-- E7: "PART takes 1 to 10,000."; "The outside definition is 004 with 10,000 for 11,000": there, "Only 11,000 parts are allowed"
 unfoldable pub requestPartOk : ℕ → Bool
-requestPartOk n = numberOk n
+requestPartOk n = leb 1 n && leb n 10000
 
--- a part number that an upload in U may hold
+-- a part number that an upload in U may hold; E7: "A higher part that an older store already holds"
 unfoldable pub storedPartOk : ℕ → Bool
 storedPartOk n = numberOk n
 

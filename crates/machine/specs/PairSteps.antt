@@ -3,7 +3,7 @@ use Prim.Native.Nat.{ℕ}
 use mathlib.Core.Path.{_≡_, refl}
 use mathlib.Core.List.{List, [], _∷_, _++_}
 use lib.ListN.{replicate}
-use Rattle.machine.specs.Names.{Bytes, pathOk, requestPathOk, newPathOk, stampOk, numberOk, requestPartOk}
+use Rattle.machine.specs.Names.{Bytes, pathOk, requestPathOk, newPathOk, stampOk, requestPartOk}
 use Rattle.machine.specs.Pairs.{Pair, keyByte, valueByte, keyOk, valueOk, pairOk, systemKey, pairsOk, pairMap, encodePairs}
 use Rattle.machine.specs.Digest.{md5}
 use Rattle.machine.specs.Etags.{absent, plain, joined}
@@ -83,7 +83,7 @@ pairs-held = (refl, refl)
 -- "INITIATE can now meet 5"; an upload's pairs are held while it is open, and COMMIT takes no more
 pub initiate-held : (results 1 (INITIATE 7 r one ∷ INITIATE 7 r [] ∷ []) ≡ 5 ∷ 0 ∷ [])
     × (results 3 (INITIATE 7 r one ∷ PART 1 1 A ∷ PART 1 2 A ∷ PUT 7 a A [] ∷ COMMIT 1 (1 ∷ []) ∷ PUT 8 a A [] ∷ []) ≡ 0 ∷ 0 ∷ 5 ∷ 5 ∷ 0 ∷ 5 ∷ [])
-unfolding _else_then_ given act putAt counted held pathOk requestPathOk newPathOk stampOk pairsOk pairMap pairOk keyOk valueOk keyByte valueByte systemKey numberOk requestPartOk
+unfolding _else_then_ given act putAt counted held pathOk requestPathOk newPathOk stampOk pairsOk pairMap pairOk keyOk valueOk keyByte valueByte systemKey requestPartOk
 initiate-held = (refl, refl)
 
 -- "Malformed pairs .. give 2", where without them it is 5, and with 256 objects 4

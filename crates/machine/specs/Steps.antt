@@ -91,6 +91,15 @@ abbrev pub afterPlaces : State → (names : Bytes) → List NamePlace → State
 afterPlaces s names [] = s
 afterPlaces s names (p ∷ ps) = afterPlaces (after s (deletePlace s names p)) names ps
 
+-- PART's step, once its number keeps its rule: "sets that part, answers its etag"
+abbrev pub partAt : (A : ℕ) → State → (upload number : ℕ) (content : Bytes) → Outcome
+partAt A s u n d =
+    given (lookup byNumber u (s .U)) badRequest λ x.
+    let s′ : State = withUpload s u (withPart x n (newPart d)) in
+    counted s′ else tableFull then
+    leb (held s′) A else arenaFull then
+    accept (etag (plain (md5 d))) noBuffers s′
+
 -- "the list must name every part of the upload exactly one time": the parts in listed order, each picked out of those that remain
 abbrev pub fit : (numbers : List ℕ) → Map ℕ Part → Option (List Part)
 fit [] [] = some []
@@ -178,13 +187,7 @@ act A s (INITIATE t p ps) =
     leb (held s′) A else arenaFull then
     leb (s .N) lastUploadNumber else numbersUsedUp then
     accept (number (s .N)) noBuffers s′
-act A s (PART u n d) =
-    requestPartOk n else badRequest then
-    given (lookup byNumber u (s .U)) badRequest λ x.
-    let s′ : State = withUpload s u (withPart x n (newPart d)) in
-    counted s′ else tableFull then
-    leb (held s′) A else arenaFull then
-    accept (etag (plain (md5 d))) noBuffers s′
+act A s (PART u n d) = requestPartOk n else badRequest then partAt A s u n d
 act A s (COMMIT u ns) =
     given (lookup byNumber u (s .U)) badRequest λ x.
     given (fit ns (x .parts)) badRequest λ xs.

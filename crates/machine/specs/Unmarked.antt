@@ -7,7 +7,7 @@ use lib.ListN.{replicate}
 use Rattle.number.specs.Number.{le}
 use Rattle.order.specs.Order.{begins, ends}
 use Rattle.text.specs.Text.{hex, hexDigit, digits, decimal}
-use Rattle.machine.specs.Names.{Bytes, pathOk, requestPathOk, newPathOk, stampOk, numberOk, requestPartOk}
+use Rattle.machine.specs.Names.{Bytes, pathOk, requestPathOk, newPathOk, stampOk, requestPartOk}
 use Rattle.machine.specs.Pairs.{pairsOk, pairMap, encodePairs}
 use Rattle.machine.specs.Digest.{md5}
 use Rattle.machine.specs.Etags.{absent, plain, joined, text}
@@ -44,9 +44,9 @@ pub stamps-judged : results 64 (PUT 1 a [] [] ∷ PUT 18446744073709551615 a [] 
 unfolding _else_then_ given act putAt counted held pathOk newPathOk stampOk pairsOk pairMap
 stamps-judged = refl
 
--- "part 11,000 passes, 0 and 11,001 give 2"
-pub parts-judged : results 64 (INITIATE 7 r [] ∷ PART 1 11000 A ∷ PART 1 0 A ∷ PART 1 11001 A ∷ []) ≡ 0 ∷ 0 ∷ 2 ∷ 2 ∷ []
-unfolding _else_then_ given act counted held pathOk newPathOk stampOk pairsOk pairMap numberOk requestPartOk
+-- E7: "01's case becomes: part 10,000 passes, 0 and 10,001 give 2"
+pub parts-judged : results 64 (INITIATE 7 r [] ∷ PART 1 10000 A ∷ PART 1 0 A ∷ PART 1 10001 A ∷ []) ≡ 0 ∷ 0 ∷ 2 ∷ 2 ∷ []
+unfolding _else_then_ given act counted held pathOk newPathOk stampOk pairsOk pairMap requestPartOk
 parts-judged = refl
 
 -- "Prefix "ab" with suffix "bc" lists "abbc", not "abc"", and the list ascends by bytes, a shorter path before its extensions
@@ -75,18 +75,18 @@ etag-texts = refl
 -- "parts seen by LIST": none is, nor by GET or HEAD; UPLOADS counts them
 pub parts-unlisted : replies 64 (m7 ++ LIST [] [] [] ∷ GET r [] [] ∷ HEAD r [] ∷ UPLOADS r (replicate 17 9) ∷ UPLOADS a [] ∷ [])
     ≡ m7-replies ++ says (counts 0 0) ∷ refused 3 ∷ refused 3 ∷ writes (counts 1 16) (1 ∷ 0 ∷ 0 ∷ 0 ∷ 1 ∷ 114 ∷ 7 ∷ 0 ∷ 0 ∷ 0 ∷ 0 ∷ 0 ∷ 0 ∷ 0 ∷ 2 ∷ 0 ∷ 9 ∷ []) ∷ says (counts 0 0) ∷ []
-unfolding _else_then_ given act objectAt counted held pathOk requestPathOk newPathOk stampOk pairsOk pairMap encodePairs numberOk requestPartOk listed isListed openUnder begins uploadRecord le
+unfolding _else_then_ given act objectAt counted held pathOk requestPathOk newPathOk stampOk pairsOk pairMap encodePairs requestPartOk listed isListed openUnder begins uploadRecord le
 parts-unlisted = refl
 
 -- "COPY carrying a joined etag over": it is plain
 pub copied-plain : replies 64 (m7 ++ COMMIT 1 (2 ∷ 1 ∷ []) ∷ COPY 9 r a ∷ HEAD a [] ∷ []) ≡ m7-replies ++ says nothing ∷ says nothing ∷ says (metadata 2 9 (plain (md5 (B ++ A))) 0 0) ∷ []
-unfolding _else_then_ given act putAt objectAt counted held pathOk requestPathOk newPathOk stampOk pairsOk pairMap encodePairs numberOk requestPartOk
+unfolding _else_then_ given act putAt objectAt counted held pathOk requestPathOk newPathOk stampOk pairsOk pairMap encodePairs requestPartOk
 copied-plain = refl
 
 -- "old bytes counted against their own replacement": a part and a copy find their own bytes free
 pub old-bytes-free : results 2 (INITIATE 7 r [] ∷ PART 1 1 (A ++ A) ∷ PART 1 1 (B ++ B) ∷ PART 1 2 A ∷ COMMIT 1 (1 ∷ []) ∷ COPY 9 r r ∷ COPY 9 r a ∷ PUT 9 r (A ++ B) [] ∷ [])
     ≡ 0 ∷ 0 ∷ 0 ∷ 5 ∷ 0 ∷ 0 ∷ 5 ∷ 0 ∷ []
-unfolding _else_then_ given act putAt counted held pathOk requestPathOk newPathOk stampOk pairsOk pairMap numberOk requestPartOk
+unfolding _else_then_ given act putAt counted held pathOk requestPathOk newPathOk stampOk pairsOk pairMap requestPartOk
 old-bytes-free = refl
 
 -- "With 256 objects, COMMIT to a new path gives 4 and the upload stays open"; PUT to a new path gives 4, COPY over an old one 0
@@ -120,7 +120,7 @@ unfolding initiateMany _else_then_ given act counted held pathOk newPathOk stamp
 uploads-ceiling = refl
 
 pub parts-ceiling : lastResults (final 0 fresh (initiateMany 2 ++ partMany 1 200 ++ partMany 2 56)) (PART 2 57 [] ∷ PART 2 56 [] ∷ ABORT 1 ∷ PART 2 57 [] ∷ []) ≡ 4 ∷ 0 ∷ 0 ∷ 0 ∷ []
-unfolding initiateMany partMany _else_then_ given act counted held pathOk newPathOk stampOk pairsOk pairMap numberOk requestPartOk abortAt
+unfolding initiateMany partMany _else_then_ given act counted held pathOk newPathOk stampOk pairsOk pairMap requestPartOk abortAt
 parts-ceiling = refl
 
 -- "Numbers used up: INITIATE when 4,294,967,295 has been given out"; with 16 open it is 4

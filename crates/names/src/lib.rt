@@ -5,7 +5,7 @@ mod plain;
 ghost use mathlib.Core.Path.{_≡_};
 ghost use Prim.Native.Nat.{_-_, _≤_};
 ghost use lib.ListN.{length, take, drop};
-ghost use Rattle.machine.specs.Names.{pathOk, requestPathOk, newPathOk, storedPathOk, stampOk, numberOk, requestPartOk, storedPartOk};
+ghost use Rattle.machine.specs.Names.{pathOk, requestPathOk, newPathOk, storedPathOk, stampOk, requestPartOk, storedPartOk};
 
 // Whether p is a path. Most are visible ASCII alone, which is seen in one pass.
 fn path_ok(p: &[u8]) -> bool
@@ -71,26 +71,22 @@ pub fn stamp_ok(stamp: u64) -> bool
     1 <= stamp
 }
 
-// The rule of part numbers.
-fn number_ok(n: u32) -> bool
-    ensures { λ r. ⌜ r ≡ numberOk n ⌝ }
+// A part number that PART may name.
+pub fn request_part_ok(n: u16) -> bool
+    ensures { λ r. ⌜ r ≡ requestPartOk n ⌝ }
+{
+    if n < 1 {
+        return false;
+    }
+    n <= 10000
+}
+
+// A part number that an upload may hold: since E7 it may be one that PART no longer takes.
+pub fn stored_part_ok(n: u32) -> bool
+    ensures { λ r. ⌜ r ≡ storedPartOk n ⌝ }
 {
     if n < 1 {
         return false;
     }
     n <= 11000
-}
-
-// A part number that PART may name.
-pub fn request_part_ok(n: u16) -> bool
-    ensures { λ r. ⌜ r ≡ requestPartOk n ⌝ }
-{
-    number_ok(n as u32)
-}
-
-// A part number that an upload may hold.
-pub fn stored_part_ok(n: u32) -> bool
-    ensures { λ r. ⌜ r ≡ storedPartOk n ⌝ }
-{
-    number_ok(n)
 }

@@ -7,7 +7,7 @@ pub struct Stamp(pub u64);
 // From 1; never given twice.
 pub struct UploadNumber(pub u32);
 
-// 1 to 11,000.
+// 1 to 10,000.
 pub struct PartNumber(pub u16);
 
 // Absent, the digest of the data, or the digest of the parts' digests with the number of parts.

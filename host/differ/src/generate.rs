@@ -3,11 +3,11 @@
 
 use crate::guard::Side;
 use crate::layout::{self, without_pairs, HEADER_LEN};
-use crate::list::{Bit, CarryOver, Lending, List, Step};
+use crate::list::{renumber, Bit, CarryOver, Lending, List, Step};
 use crate::random::Random;
 use model::{bytes_held, pair_bytes, Answer, Call, Model, Object, SYSTEM_KEYS};
-use model::{LARGEST_ARENA, LAST_PART, LONGEST_KEY, LONGEST_PATH, LONGEST_VALUE, NUMBERS_END};
-use model::{MOST_OBJECTS, MOST_PAIRS, MOST_PARTS, MOST_PLACES};
+use model::{LARGEST_ARENA, LAST_HELD_PART, LAST_PART, LONGEST_KEY, LONGEST_PATH, LONGEST_VALUE};
+use model::{MOST_OBJECTS, MOST_PAIRS, MOST_PARTS, MOST_PLACES, NUMBERS_END};
 use rathnodi::{FORMER_TABLES_LEN, TABLES_LEN};
 
 const ARENAS: [usize; 9] = [0, 1, 4, 64, 64, 4096, 4096, 4096, LARGEST_ARENA];
@@ -22,7 +22,7 @@ const HEADER_FIELDS: [(usize, usize, &[u64]); 5] = [
 ];
 const ROW_FIELDS: [(usize, usize, &[u64]); 8] = [
     (0, 4, &[0, 1]),
-    (4, 4, &[0, 1, 11_000, 11_001]),
+    (4, 4, &[0, 1, 10_000, 10_001, 11_000, 11_001]),
     (8, 8, &[0, 1]),
     (KIND_AT, 1, &[0, 1, 2, 3, 4, 5, 6, 7, 8, 32, 33, 34, 35, 36, 37, 38]),
     (PATH_LENGTH_AT, 1, &[0, 1, 127, 128, 129, 255]),
@@ -37,6 +37,9 @@ const ROW_LEN: usize = 36;
 
 /// Lengths of many paths.
 const LENGTHS: [usize; 7] = [5, 5, 6, 9, 10, 65, 125];
+
+/// Numbers about the last part that PART takes, and the last that an older store can hold.
+const PART_EDGES: [u16; 4] = [LAST_PART, LAST_PART + 1, LAST_HELD_PART, LAST_HELD_PART + 1];
 
 /// Lengths at which MD5's padding or count of blocks changes.
 const DIGEST_EDGES: [usize; 9] = [55, 56, 57, 63, 64, 65, 119, 120, 128];
@@ -385,6 +388,7 @@ impl Maker {
         match self.random.below(400) {
             0..=3 => return self.fresh(),
             4 => return self.carry_over(),
+            5 | 6 => return self.older_parts(),
             _ => (),
         }
         let call = self.call();
@@ -466,6 +470,31 @@ impl Maker {
             _ => (),
         }
         self.steps.push(Step::CarryOver(step));
+    }
+
+    /// The last parts of an upload get numbers that PART took before E7, as an older store has them.
+    fn older_parts(&mut self) {
+        let sent = self.model.uploads.iter().filter(|(_, upload)| !upload.parts.is_empty());
+        let sent: Vec<u32> = sent.map(|(number, _)| *number).collect();
+        if sent.is_empty() {
+            return;
+        }
+        let upload = *self.random.pick(&sent);
+        let parts: Vec<u16> = self.model.uploads[&upload].parts.keys().rev().copied().collect();
+        let mut above = LAST_HELD_PART + 1;
+        for part in parts.into_iter().take(1 + self.random.below(4)) {
+            let number = match self.random.below(4) {
+                0 => LAST_PART + 1,
+                1 => above - 1,
+                _ => above - 1 - self.random.below(usize::from(above - LAST_PART - 1)) as u16,
+            };
+            renumber(&mut self.model, upload, part, number);
+            self.steps.push(Step::OlderPart { upload, part, number });
+            above = number;
+            if number == LAST_PART + 1 {
+                return;
+            }
+        }
     }
 
     fn damage(&mut self) -> Step {
@@ -659,7 +688,7 @@ impl Maker {
         if open.is_empty() {
             return;
         }
-        let mut numbers: Vec<u16> = (1..=300).map(|i| i * 36).collect();
+        let mut numbers: Vec<u16> = (1..=300).map(|i| i * 33).collect();
         self.random.shuffle(&mut numbers);
         for part in numbers.into_iter().take(MOST_PARTS - 1 + self.random.below(4)) {
             let length = self.short(below);
@@ -1013,8 +1042,7 @@ impl Maker {
         };
         let (part, old) = match self.random.below(24) {
             0 => (0, 0),
-            1 => (LAST_PART + 1, 0),
-            2 => (LAST_PART, 0),
+            1 | 2 => (*self.random.pick(&PART_EDGES), 0),
             3 => (self.random.draw() as u16, 0),
             4..=10 if !parts.is_empty() => *self.random.pick(&parts),
             _ => (1 + self.random.below(12) as u16, 0),
@@ -1039,6 +1067,7 @@ impl Maker {
             0 => parts.truncate(parts.len().saturating_sub(1)),
             1 if at < parts.len() => parts.insert(at, parts[at]),
             2 if !parts.is_empty() => parts.push(parts[0]),
+            3 if self.random.one_in(3) => parts.insert(at, *self.random.pick(&PART_EDGES)),
             3 => parts.insert(at, self.random.below(20) as u16),
             4 if at < parts.len() => parts[at] ^= 1 << self.random.below(16),
             5 if at < parts.len() => parts[at] = parts[0],

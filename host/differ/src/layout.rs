@@ -1,7 +1,7 @@
 //! docs/LAYOUT.md, written out once more: the bytes of a state, and the test "whole".
 
 use model::{bytes_held, pair_ok, path_ok, Digest, Etag, Model, Object, Pairs, Part, Upload};
-use model::{LARGEST_ARENA, LAST_PART, MOST_OBJECTS, MOST_PAIRS, MOST_PARTS, MOST_UPLOADS};
+use model::{LARGEST_ARENA, LAST_HELD_PART, MOST_OBJECTS, MOST_PAIRS, MOST_PARTS, MOST_UPLOADS};
 use model::{NUMBERS_END, SYSTEM_KEYS};
 use std::collections::BTreeMap;
 
@@ -187,7 +187,7 @@ fn state_in(tables: &[u8], arena: &[u8], most_pairs: usize) -> Option<Model> {
             must(row.kind == PART && pairs.is_empty() && row.stamp == 0 && row.path.is_empty())?;
             let parts = &mut uploads.get_mut(&before)?.parts;
             let last = parts.last_key_value().map_or(0, |(number, _)| *number);
-            must(row.number > u32::from(last) && row.number <= u32::from(LAST_PART))?;
+            must(row.number > u32::from(last) && row.number <= u32::from(LAST_HELD_PART))?;
             parts.insert(row.number as u16, Part { data, digest: row.digest });
         }
     }

@@ -88,11 +88,30 @@ pub fn flip(tables: &mut [u8], arena: &mut [u8], bits: &[Bit]) {
     }
 }
 
+/// Another number for a part of an open upload, between those of the parts beside it; else nothing.
+pub fn renumber(state: &mut Model, upload: u32, part: u16, number: u16) {
+    let Some(upload) = state.uploads.get_mut(&upload) else { return };
+    let parts = &mut upload.parts;
+    let below = parts.range(..part).next_back().map_or(0, |(part, _)| *part);
+    let above = parts.range(part..).nth(1).map_or(u16::MAX, |(part, _)| *part);
+    if below < number && number < above {
+        if let Some(found) = parts.remove(&part) {
+            parts.insert(number, found);
+        }
+    }
+}
+
 #[derive(Clone, PartialEq, Eq)]
 pub enum Step {
     Call(Call, Lending),
     Fresh(Lending),
     CarryOver(CarryOver),
+    /// A part gets a number that PART took before E7, as an older store has it: see `renumber`.
+    OlderPart {
+        upload: u32,
+        part: u16,
+        number: u16,
+    },
     /// Another hand changes bits of the memory.
     Flip(Vec<Bit>),
     /// Another hand writes random bytes over the tables from a place on.
@@ -110,6 +129,9 @@ impl fmt::Display for Step {
             Step::CarryOver(CarryOver { former, fill, bits, .. }) => {
                 write!(f, "(carry-over) of {former} bytes, filled by {fill}, flipped: {bits:?}")
             }
+            Step::OlderPart { upload, part, number } => {
+                write!(f, "part {part} of upload {upload} is part {number} of an older store")
+            }
             Step::Flip(bits) => write!(f, "flipped: {bits:?}"),
             Step::Scribble { from, seed } => {
                 write!(f, "random tables from byte {from}, seed {seed}")
@@ -123,7 +145,7 @@ impl Step {
         match self {
             Step::Call(_, lending) | Step::Fresh(lending) => Some(lending),
             Step::CarryOver(CarryOver { lending, .. }) => Some(lending),
-            Step::Flip(_) | Step::Scribble { .. } => None,
+            Step::OlderPart { .. } | Step::Flip(_) | Step::Scribble { .. } => None,
         }
     }
 
@@ -131,7 +153,7 @@ impl Step {
         match self {
             Step::Call(_, lending) | Step::Fresh(lending) => Some(lending),
             Step::CarryOver(CarryOver { lending, .. }) => Some(lending),
-            Step::Flip(_) | Step::Scribble { .. } => None,
+            Step::OlderPart { .. } | Step::Flip(_) | Step::Scribble { .. } => None,
         }
     }
 }

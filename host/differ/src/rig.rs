@@ -3,11 +3,11 @@
 use crate::guard::Region;
 use crate::layout::{self, state_of, NEXT_AT};
 use crate::library::Library;
-use crate::list::{flip, CarryOver, Lending, List, Step};
+use crate::list::{flip, renumber, CarryOver, Lending, List, Step};
 use crate::random::Random;
 use crate::reply::{bytes_of, REPLY_LEN};
 use crate::tally::Tally;
-use model::{pair_bytes, Answer, Call, Model, Reply, LARGEST_ARENA};
+use model::{pair_bytes, Answer, Call, Model, Reply, Upload, LARGEST_ARENA, LAST_PART};
 use rathnodi::TABLES_LEN;
 use std::sync::atomic::Ordering::Relaxed;
 
@@ -78,6 +78,23 @@ fn only_reads(call: &Call) -> bool {
     matches!(call, Call::Get { .. } | Call::Head { .. } | Call::List { .. } | Call::Uploads { .. })
 }
 
+/// The call concerns a part above 10,000, which an older store holds.
+fn concerns_older_parts(state: &Model, call: &Call) -> bool {
+    let holds = |upload: &Upload| upload.parts.range(LAST_PART + 1..).next().is_some();
+    match call {
+        Call::Commit { upload, .. } | Call::Abort { upload } => {
+            state.uploads.get(upload).is_some_and(holds)
+        }
+        Call::Part { upload, part, .. } if *part > LAST_PART => {
+            state.uploads.get(upload).is_some_and(|upload| upload.parts.contains_key(part))
+        }
+        Call::Uploads { prefix, .. } => {
+            state.uploads.values().any(|upload| upload.path.starts_with(prefix) && holds(upload))
+        }
+        _ => false,
+    }
+}
+
 /// The bytes cut or lengthened by zeros.
 fn resized(bytes: &[u8], length: usize) -> Vec<u8> {
     let mut bytes = bytes.to_vec();
@@ -133,6 +150,15 @@ impl Rig {
                 Step::Call(call, lending) => self.call(call, lending, &mut model),
                 Step::Fresh(lending) => self.fresh(lending, &mut model),
                 Step::CarryOver(step) => self.carry_over(step, list, &mut model),
+                Step::OlderPart { upload, part, number } => {
+                    if let Some(state) = &mut model {
+                        renumber(state, *upload, *part, *number);
+                        let rows = layout::bytes_of(state).tables;
+                        self.home.tables.bytes_mut()[..rows.len()].copy_from_slice(&rows);
+                        self.keep();
+                    }
+                    Ok(())
+                }
                 Step::Flip(_) | Step::Scribble { .. } => {
                     self.damage(step);
                     model = state_of(self.home.tables.bytes(), self.home.arena.bytes());
@@ -315,6 +341,7 @@ impl Rig {
         }
         let state = if odd { &mut other } else { model };
         let wrong_reply = has_reply(call) && lending.reply != REPLY_LEN;
+        let older = state.as_ref().is_some_and(|state| concerns_older_parts(state, call));
         let expected = match state {
             Some(state) if !wrong_reply => state.call(call),
             _ => Reply::refused(1, call),
@@ -326,6 +353,9 @@ impl Rig {
             return Err(format!("answered {number}, expected {}", expected.number));
         }
         self.tally.count(Some(call), number);
+        if older {
+            self.tally.count_older(call, number);
+        }
         if let (Call::DeleteObjects { places, .. }, 0) = (call, number) {
             self.tally.count_places(&expected.buffer[..places.len() / 8]);
         }
@@ -401,7 +431,7 @@ impl Rig {
         match step {
             Step::Flip(bits) => flip(tables, arena, bits),
             Step::Scribble { from, seed } => Random::new(*seed, 0).fill(&mut tables[*from..]),
-            Step::Call(..) | Step::Fresh(..) | Step::CarryOver(..) => (),
+            Step::Call(..) | Step::Fresh(..) | Step::CarryOver(..) | Step::OlderPart { .. } => (),
         }
         self.keep();
     }

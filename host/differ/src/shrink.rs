@@ -1,7 +1,7 @@
 //! A smaller list that still shows a difference.
 
 use crate::layout::without_pairs;
-use crate::list::{Bit, CarryOver, Lending, List, Step};
+use crate::list::{renumber, Bit, CarryOver, Lending, List, Step};
 use model::{name_at, path_ok, Answer, Call, Model, NUMBERS_END};
 use std::collections::{BTreeMap, BTreeSet};
 use std::time::{Duration, Instant};
@@ -210,6 +210,10 @@ fn opened(list: &List) -> Vec<Option<u32>> {
             model = without_pairs(&model);
             None
         }
+        Step::OlderPart { upload, part, number } => {
+            renumber(&mut model, *upload, *part, *number);
+            None
+        }
         _ => None,
     };
     list.steps.iter().map(answer).collect()
@@ -220,7 +224,8 @@ fn upload_of(step: &mut Step) -> Option<&mut u32> {
     match step {
         Step::Call(Call::Part { upload, .. }, _)
         | Step::Call(Call::Commit { upload, .. }, _)
-        | Step::Call(Call::Abort { upload }, _) => Some(upload),
+        | Step::Call(Call::Abort { upload }, _)
+        | Step::OlderPart { upload, .. } => Some(upload),
         _ => None,
     }
 }

@@ -48,6 +48,10 @@ const ALLOWED_PLACE: [usize; 3] = [0, 2, 3];
 /// Which buffer of a GET was short.
 const SHORT: [&str; 3] = ["first", "second", "both"];
 
+/// What became of a part above 10,000, which an older store holds: UPLOADS counted it, COMMIT joined
+/// it, ABORT removed it, PART refused it.
+const OLDER: [&str; 4] = ["counted", "committed", "aborted", "refused"];
+
 /// Shared between processes; zeroed memory is an empty one.
 pub struct Tally {
     pub lists: AtomicU64,
@@ -61,6 +65,7 @@ pub struct Tally {
     /// GETs and HEADs that answered so many pairs.
     pairs: [AtomicU64; MOST_PAIRS + 1],
     short: [AtomicU64; 3],
+    older: [AtomicU64; 4],
     /// Damaged memory that was no longer whole, and that still was.
     pub broken: AtomicU64,
     pub whole: AtomicU64,
@@ -121,8 +126,20 @@ impl Tally {
         self.short[kind].fetch_add(1, Relaxed);
     }
 
+    /// A call that concerns a part above 10,000 was answered by this number.
+    pub fn count_older(&self, call: &Call, number: u32) {
+        let kind = match (call, number) {
+            (Call::Uploads { .. }, 0) => 0,
+            (Call::Commit { .. }, 0) => 1,
+            (Call::Abort { .. }, 0) => 2,
+            (Call::Part { .. }, 2) => 3,
+            _ => return,
+        };
+        self.older[kind].fetch_add(1, Relaxed);
+    }
+
     /// What did not occur: numbers that a verb or a place may give, kinds of sweeps, counts of pairs,
-    /// short buffers.
+    /// short buffers, what becomes of older parts.
     pub fn missing(&self) -> Vec<String> {
         let mut missing = Vec::new();
         for (verb, numbers) in ALLOWED.iter().enumerate() {
@@ -154,6 +171,11 @@ impl Tally {
                 missing.push(format!("get with a short buffer: {kind}"));
             }
         }
+        for (kind, times) in OLDER.iter().zip(&self.older) {
+            if times.load(Relaxed) == 0 {
+                missing.push(format!("an older part {kind}"));
+            }
+        }
         missing
     }
 }
@@ -182,6 +204,7 @@ impl fmt::Display for Tally {
         };
         write!(f, "\nget and head by pairs, 0 to 8: {}", numbers(&self.pairs))?;
         write!(f, "\nget with a short buffer, first, second, both: {}", numbers(&self.short))?;
+        write!(f, "\nolder parts {}: {}", OLDER.join(", "), numbers(&self.older))?;
         write!(
             f,
             "\ndamaged memory: {} times no longer whole, {} times whole",

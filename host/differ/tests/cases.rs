@@ -1,10 +1,10 @@
 //! The documents' cases over the proved store.
 
-use differ::layout::NEXT_AT;
+use differ::layout::{state_of, HEADER_LEN, NEXT_AT};
 use differ::reply::{etag, number, REPLY_LEN};
 use model::cases::all;
-use model::{Answer, Call, Etag, Reply, NUMBERS_END};
-use rathnodi::{slices, TABLES_LEN};
+use model::{Answer, Call, Etag, Model, Reply, NUMBERS_END};
+use rathnodi::{slices, FORMER_TABLES_LEN, TABLES_LEN};
 use std::fs;
 use std::process::Command;
 
@@ -75,6 +75,83 @@ fn cases_of_the_documents() {
     for case in all() {
         let mut memory = Memory::fresh(case.arena);
         case.check(|call| memory.call(call)).unwrap_or_else(|difference| panic!("{difference}"));
+    }
+}
+
+/// Parts 1 and 11,000 of upload 1 to "r", as a store from before E7 can hold them: PART takes 10,000, and another hand writes the number
+/// (docs/LAYOUT.md: after the header the upload's row of 37 bytes and the first part's of 36, the number 4 bytes into the next row).
+fn older() -> (Memory, Model) {
+    let (mut memory, mut state) = (Memory::fresh(64), Model::fresh(64));
+    let part = |part, data: &[u8]| Call::Part { upload: 1, part, data: data.to_vec() };
+    let initiate = Call::Initiate { stamp: 7, path: b"r".to_vec(), pairs: Vec::new() };
+    for call in [initiate, part(1, b"A"), part(10_000, b"B")] {
+        assert_eq!(memory.call(&call).number, 0);
+        assert_eq!(state.call(&call).number, 0);
+    }
+    let number = HEADER_LEN + 37 + 36 + 4;
+    assert_eq!(memory.tables[number..number + 4], 10_000u32.to_le_bytes());
+    memory.tables[number..number + 4].copy_from_slice(&11_000u32.to_le_bytes());
+    let parts = &mut state.uploads.get_mut(&1).expect("open").parts;
+    let last = parts.remove(&10_000).expect("the part");
+    parts.insert(11_000, last);
+    assert_eq!(state_of(&memory.tables, &memory.arena).as_ref(), Some(&state));
+    (memory, state)
+}
+
+/// A higher part that an older store holds is counted, committed and aborted; PART refuses it.
+#[test]
+fn a_part_above_10000_of_an_older_store() {
+    let part = |part, data: &[u8]| Call::Part { upload: 1, part, data: data.to_vec() };
+    let commit = |parts: &[u16]| {
+        let list = parts.iter().flat_map(|part| part.to_le_bytes()).collect();
+        Call::Commit { upload: 1, list }
+    };
+    let uploads = || Call::Uploads { prefix: b"r".to_vec(), buffer: vec![9; 16] };
+    let get = |length| {
+        let (path, buffer, pairs_buffer) = (b"r".to_vec(), vec![0; length], Vec::new());
+        Call::Get { path, buffer, pairs_buffer }
+    };
+    let counted = b"\x01\0\0\0\x01r\x07\0\0\0\0\0\0\0\x02\0";
+    let committed: Vec<(Call, u32, &[u8])> = vec![
+        (uploads(), 0, counted),
+        (part(11_000, b"C"), 2, b""),
+        (part(10_001, b"C"), 2, b""),
+        (commit(&[11_000]), 2, b""),
+        (commit(&[10_000, 1]), 2, b""),
+        (commit(&[11_001, 1]), 2, b""),
+        (commit(&[11_000, 1]), 0, b""),
+        (get(2), 0, b"BA"),
+        (uploads(), 0, &[9; 16]),
+    ];
+    let beside: Vec<(Call, u32, &[u8])> = vec![
+        (part(10_000, b"C"), 0, b""),
+        (commit(&[10_000, 11_000, 1]), 0, b""),
+        (get(3), 0, b"CBA"),
+    ];
+    let aborted: Vec<(Call, u32, &[u8])> =
+        vec![(Call::Abort { upload: 1 }, 0, b""), (uploads(), 0, &[9; 16])];
+    let swept: Vec<(Call, u32, &[u8])> =
+        vec![(Call::Sweep { stamp: 8, most: 1 }, 0, b""), (uploads(), 0, &[9; 16])];
+    for list in [committed, beside, aborted, swept] {
+        // As it is, and carried over from tables of the former layout, whose rows are the same.
+        for former in [false, true] {
+            let (mut memory, mut state) = older();
+            if former {
+                let rows = memory.tables[..FORMER_TABLES_LEN].to_vec();
+                memory.tables.fill(0x5a);
+                assert_eq!(slices::carry_over(&rows, &memory.arena, &mut memory.tables), 0);
+            }
+            for (call, number, buffer) in &list {
+                let reply = memory.call(call);
+                assert_eq!((reply.number, reply.buffer.as_slice()), (*number, *buffer), "{call}");
+                assert_eq!(reply, state.call(call), "{call}");
+                assert_eq!(
+                    state_of(&memory.tables, &memory.arena).as_ref(),
+                    Some(&state),
+                    "{call}"
+                );
+            }
+        }
     }
 }
 

@@ -184,6 +184,12 @@ fn open(t: &[u8], a: &[u8]) -> Vec<(u32, u64)> {
     uploads.iter().map(|(number, upload)| (*number, upload.started)).collect()
 }
 
+/// The upload has a part above 10,000.
+fn holds_older(t: &[u8], a: &[u8], upload: u32) -> bool {
+    let upload = state_of(t, a).and_then(|mut state| state.uploads.remove(&upload));
+    upload.is_some_and(|upload| upload.parts.keys().any(|part| *part > 10_000))
+}
+
 /// How many uploads a sweep aborted, by its reply.
 fn swept(r: &[u8]) -> u32 {
     u32::from_le_bytes(r[16..20].try_into().unwrap())
@@ -377,6 +383,62 @@ faulty_initiates!(never_ends_its_numbers, |t, a, stamp, path, pairs, reply| {
     match slices::initiate(t, a, stamp, path, pairs, reply) {
         6 => 4,
         number => number,
+    }
+});
+
+faulty!(part_takes_a_higher_number_for_10000 {
+    fn part(&mut self, t: &mut [u8], a: &mut [u8], u: u32, p: u16, d: &[u8], r: &mut [u8]) -> u32 {
+        slices::part(t, a, u, p.min(10_000), d, r)
+    }
+});
+
+faulty!(part_refuses_10000 {
+    fn part(&mut self, t: &mut [u8], a: &mut [u8], u: u32, p: u16, d: &[u8], r: &mut [u8]) -> u32 {
+        slices::part(t, a, u, if p == 10_000 { 0 } else { p }, d, r)
+    }
+});
+
+faulty!(part_takes_an_older_part_that_is_there {
+    fn part(&mut self, t: &mut [u8], a: &mut [u8], u: u32, p: u16, d: &[u8], r: &mut [u8]) -> u32 {
+        let upload = state_of(t, a).and_then(|mut state| state.uploads.remove(&u));
+        match upload.and_then(|mut upload| upload.parts.remove(&p)) {
+            Some(_) if p > 10_000 => {
+                slices::part(&mut t.to_vec(), &mut a.to_vec(), u, 1, d, r)
+            }
+            _ => slices::part(t, a, u, p, d, r),
+        }
+    }
+});
+
+faulty!(commit_judges_its_list_by_the_rule_of_part {
+    fn commit(&mut self, t: &mut [u8], a: &mut [u8], upload: u32, list: &[u8]) -> u32 {
+        let mut numbers = list.chunks_exact(2).map(|pair| u16::from_le_bytes([pair[0], pair[1]]));
+        let odd = if numbers.any(|number| number > 10_000) { list.len() / 2 * 2 - 1 } else { list.len() };
+        slices::commit(t, a, upload, &list[..odd])
+    }
+});
+
+faulty!(abort_refuses_an_upload_with_an_older_part {
+    fn abort(&mut self, t: &mut [u8], a: &mut [u8], upload: u32) -> u32 {
+        slices::abort(t, a, if holds_older(t, a, upload) { 0 } else { upload })
+    }
+});
+
+faulty!(uploads_counts_no_older_part {
+    fn uploads(&mut self, t: &[u8], a: &[u8], p: &[u8], b: &mut [u8], r: &mut [u8]) -> u32 {
+        let (mut tables, mut arena) = (t.to_vec(), a.to_vec());
+        rewrite(&mut tables, &mut arena, |state| {
+            state.uploads.values_mut().for_each(|upload| upload.parts.retain(|n, _| *n <= 10_000))
+        });
+        slices::uploads(&tables, &arena, p, b, r)
+    }
+});
+
+faulty_heads!(an_older_part_makes_no_store, |t, a, path, pairs, reply| {
+    let open = open(t, a);
+    match open.iter().any(|(upload, _)| holds_older(t, a, *upload)) {
+        true => slices::head(&[], a, path, pairs, reply),
+        false => slices::head(t, a, path, pairs, reply),
     }
 });
 

@@ -159,7 +159,7 @@ fn former_whole(former: &[u8], arena: &[u8]) -> Option<Model> {
 
 #[test]
 fn states_that_keep_the_rules() {
-    let changes: [(&str, fn(&mut Model)); 13] = [
+    let changes: [(&str, fn(&mut Model)); 15] = [
         ("as it is", |_| ()),
         ("no byte is free", |state| state.arena = 7),
         ("the longest arena", |state| state.arena = LARGEST_ARENA),
@@ -171,6 +171,8 @@ fn states_that_keep_the_rules() {
         ("a path of 128 bytes", |state| rename(state, &[b'~'; 128])),
         ("the first upload", |state| number_upload(state, 1, 2)),
         ("the last upload", |state| number_upload(state, u32::MAX, NUMBERS_END)),
+        ("the last part that PART takes", |state| number_part(state, 10_000)),
+        ("the first part that it took before", |state| number_part(state, 10_001)),
         ("the last part", |state| number_part(state, 11_000)),
         ("256 objects, 16 uploads, 256 parts", |state| *state = filled(256, 16, 256)),
     ];

@@ -377,12 +377,14 @@ pub fn unmarked() -> Vec<Case> {
             "part numbers",
             vec![
                 opens(7, "r", 1),
-                stores(1, 11_000, "A", OF_A),
+                stores(1, 10_000, "A", OF_A),
                 refused(part(1, 0, "A"), 2),
-                refused(part(1, 11_001, "A"), 2),
+                refused(part(1, 10_001, "A"), 2),
+                refused(part(1, 11_000, "A"), 2),
                 refused(part(1, 65_535, "A"), 2),
-                refused(commit(1, &[11_000, 0]), 2),
-                done(commit(1, &[11_000])),
+                refused(commit(1, &[10_000, 0]), 2),
+                refused(commit(1, &[10_000, 11_000]), 2),
+                done(commit(1, &[10_000])),
             ],
         ),
         day("a prefix and a suffix do not overlap", {

@@ -22,8 +22,10 @@ pub const MOST_UPLOADS: usize = 16;
 pub const MOST_PARTS: usize = 256;
 /// Places of one call: "up to 1,000".
 pub const MOST_PLACES: usize = 1_000;
-/// "A part number is 1 to 11,000".
-pub const LAST_PART: u16 = 11_000;
+/// "PART takes 1 to 10,000."
+pub const LAST_PART: u16 = 10_000;
+/// "A part number is 1 to 11,000": the last that an older store can hold.
+pub const LAST_HELD_PART: u16 = 11_000;
 /// "up to 8 pairs of key and value".
 pub const MOST_PAIRS: usize = 8;
 /// "A key is 1 to 32 bytes".

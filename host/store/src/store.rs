@@ -287,12 +287,14 @@ impl Store {
         Ok(reply.number(12))
     }
 
+    /// Sets a part; its number is 1 to 10,000.
     pub fn part(&mut self, upload: u32, part: u16, data: &[u8]) -> Result<Etag, Refusal> {
         let (tables, arena, mut reply) = (&mut self.tables, &mut self.arena, Reply::new());
         Refusal::of(slices::part(tables, arena, upload, part, data, &mut reply.0))?;
         Ok(reply.etag())
     }
 
+    /// The list names each part that the upload holds, one above 10,000 from an older store too.
     pub fn commit(&mut self, upload: u32, parts: &[u16]) -> Result<(), Refusal> {
         let list: Vec<u8> = parts.iter().flat_map(|part| part.to_le_bytes()).collect();
         Refusal::of(slices::commit(&mut self.tables, &mut self.arena, upload, &list))

@@ -20,7 +20,7 @@ use Rattle.machine.specs.Etags.{plain}
 use Rattle.machine.specs.State.{Part, Upload, State, partsIn, held, counted, withUpload, withPart}
 use Rattle.machine.specs.Valid.{Valid}
 use Rattle.machine.specs.Calls.{PART, etag, noBuffers, badRequest, tableFull, arenaFull, accept, Outcome, _else_then_}
-use Rattle.machine.specs.Steps.{newPart, act, after}
+use Rattle.machine.specs.Steps.{newPart, partAt, act, after}
 use Rattle.machine.proofs.Counts.{part-counted, held-part, parts-part}
 use Rattle.machine.proofs.KeepsValid.{next-valid}
 use Rattle.row.specs.declared.Head.{Head}
@@ -36,7 +36,13 @@ use Rattle.find.proofs.Found.{is-some, is-none}
 use Rattle.edit_uploads.specs.Parts.{partWith, PartPuttable}
 use Rattle.contract.specs.Made.{Memory, memory, stateIn, outcome, resultOf}
 use Rattle.contract.proofs.Judging.{pass, result-stop, result-last, passed, result-found, result-missing, was-found}
-use Rattle.uploading.specs.Part.{partIn, partOutcome}
+
+-- what `partAt` does with the open upload x
+unfoldable pub partIn : (A : ℕ) → State → (u n : ℕ) (d : Bytes) → Upload → Outcome
+partIn A s u n d x =
+    counted (withUpload s u (withPart x n (newPart d))) else tableFull then
+    leb (held (withUpload s u (withPart x n (newPart d)))) A else arenaFull then
+    accept (etag (plain (md5 d))) noBuffers (withUpload s u (withPart x n (newPart d)))
 
 -- the last two checks, by the numbers that code has at hand
 module _ (A : ℕ) (s : State) (v : Valid A s) (u n : ℕ) (d : Bytes) (x : Upload) (f : lookup byNumber u (s .U) ≡ some x) where
@@ -57,8 +63,8 @@ module _ (A : ℕ) (s : State) (v : Valid A s) (u n : ℕ) (d : Bytes) (x : Uplo
   room : total partsIn (s′ .U) ≤ 256 → (kept : ℕ) → kept + length d ≡ held s′ → resultOf (partIn A s u n d x) ≡ cond (leb (kept + length d) A) 0 5
   room l kept e = ap resultOf (counts-pass l) ∙ result-last (leb (held s′) A) arenaFull (etag (plain (md5 d))) noBuffers s′ ∙ ap (λ (k : ℕ). cond (leb k A) 0 5) (sym e)
 
-  is-outcome : (r : ℕ) → resultOf (partIn A s u n d x) ≡ r → r ≡ resultOf (partOutcome A s u n d)
-  unfolding partOutcome
+  is-outcome : (r : ℕ) → resultOf (partIn A s u n d x) ≡ r → r ≡ resultOf (partAt A s u n d)
+  unfolding partIn
   is-outcome r e = sym (result-found (lookup byNumber u (s .U)) badRequest (partIn A s u n d) x f ∙ e)
 
   -- in place of a part y, which is a share of what is held
@@ -129,7 +135,7 @@ module _ (t a d : List ℕ) (b : AreBytes t) (w : whole t a ≡ true) (u n : ℕ
       pub old-held : head .size ≤ bytes
       old-held = omega (arith, size-is, bytes-are, part-share (length a) m (h .valid) u n d x₀ open₀ y₀ there)
 
-      pub judged-old : (r : ℕ) → r ≡ cond (leb (bytes - head .size + length d) (length a)) 0 5 → r ≡ resultOf (partOutcome (length a) m u n d)
+      pub judged-old : (r : ℕ) → r ≡ cond (leb (bytes - head .size + length d) (length a)) 0 5 → r ≡ resultOf (partAt (length a) m u n d)
       judged-old r is =
           let q : bytes - head .size ≡ held m - length (y₀ .content) = omega (arith, size-is, bytes-are) in
           is-outcome (length a) m (h .valid) u n d x₀ open₀ r (room-old (length a) m (h .valid) u n d x₀ open₀ y₀ there ∙ sym (rw (is, q)))
@@ -138,10 +144,10 @@ module _ (t a d : List ℕ) (b : AreBytes t) (w : whole t a ≡ true) (u n : ℕ
     absent : lookup byNumber n (x₀ .parts) ≡ none
     absent = is-none _ (sym found-is ∙ no)
 
-    pub judged-full : 256 ≤ parts → 4 ≡ resultOf (partOutcome (length a) m u n d)
+    pub judged-full : 256 ≤ parts → 4 ≡ resultOf (partAt (length a) m u n d)
     judged-full l = is-outcome (length a) m (h .valid) u n d x₀ open₀ 4 (room-none (length a) m (h .valid) u n d x₀ open₀ absent (omega (arith, parts-are)))
 
-    pub judged-new : parts < 256 → (r : ℕ) → r ≡ cond (leb (bytes + length d) (length a)) 0 5 → r ≡ resultOf (partOutcome (length a) m u n d)
+    pub judged-new : parts < 256 → (r : ℕ) → r ≡ cond (leb (bytes + length d) (length a)) 0 5 → r ≡ resultOf (partAt (length a) m u n d)
     judged-new l r is =
         is-outcome (length a) m (h .valid) u n d x₀ open₀ r (room-new (length a) m (h .valid) u n d x₀ open₀ absent (omega (arith, parts-are)) ∙ sym (rw (is, bytes-are)))
 
@@ -154,15 +160,15 @@ module _ (m : Memory) (u n : ℕ) (d : Bytes) where
   s = stateIn m
 
   pub bad-number : requestPartOk n ≡ false → 2 ≡ resultOf (outcome (PART u n d) m)
-  unfolding outcome act partOutcome partIn
-  bad-number e = sym (result-stop (requestPartOk n) badRequest (partOutcome A s u n d) e)
+  unfolding outcome act
+  bad-number e = sym (result-stop (requestPartOk n) badRequest (partAt A s u n d) e)
 
-  number-ok : requestPartOk n ≡ true → outcome (PART u n d) m ≡ partOutcome A s u n d
-  unfolding outcome act partOutcome partIn
-  number-ok e = pass (requestPartOk n) badRequest (partOutcome A s u n d) e
+  number-ok : requestPartOk n ≡ true → outcome (PART u n d) m ≡ partAt A s u n d
+  unfolding outcome act
+  number-ok e = pass (requestPartOk n) badRequest (partAt A s u n d) e
 
   pub not-open : requestPartOk n ≡ true → (place : Lookup) → place ≡ uploadPlace s u → place .found ≡ false → 2 ≡ resultOf (outcome (PART u n d) m)
-  unfolding partOutcome uploadPlace
+  unfolding partIn uploadPlace
   not-open e place is f =
       sym (ap resultOf (number-ok e) ∙ result-missing (lookup byNumber u (s .U)) badRequest (partIn A s u n d) (is-none _ (sym (ap (λ (p : Lookup). p .found) is) ∙ f)))
 
@@ -170,18 +176,18 @@ module _ (m : Memory) (u n : ℕ) (d : Bytes) where
   unfolding uploadPlace
   open-found place is f = sym (ap (λ (p : Lookup). p .found) is) ∙ f
 
-  pub part-judged : requestPartOk n ≡ true → (r : ℕ) → r ≡ resultOf (partOutcome A s u n d) → r ≡ resultOf (outcome (PART u n d) m)
+  pub part-judged : requestPartOk n ≡ true → (r : ℕ) → r ≡ resultOf (partAt A s u n d) → r ≡ resultOf (outcome (PART u n d) m)
   part-judged e r is = is ∙ sym (ap resultOf (number-ok e))
 
   -- result 0: all checks were passed
   module _ (zero-result : resultOf (outcome (PART u n d) m) ≡ 0) where
-    first : (requestPartOk n ≡ true) × (outcome (PART u n d) m ≡ partOutcome A s u n d)
-    unfolding outcome act partOutcome partIn
-    first = passed (requestPartOk n) badRequest (partOutcome A s u n d) zero-result
+    first : (requestPartOk n ≡ true) × (outcome (PART u n d) m ≡ partAt A s u n d)
+    unfolding outcome act
+    first = passed (requestPartOk n) badRequest (partAt A s u n d) zero-result
 
     -- the open upload
-    pub opened : (x : Upload) × (lookup byNumber u (s .U) ≡ some x) × (partOutcome A s u n d ≡ partIn A s u n d x)
-    unfolding partOutcome
+    pub opened : (x : Upload) × (lookup byNumber u (s .U) ≡ some x) × (partAt A s u n d ≡ partIn A s u n d x)
+    unfolding partIn
     opened = was-found (lookup byNumber u (s .U)) badRequest (partIn A s u n d) (sym (ap resultOf (first .1)) ∙ zero-result)
 
     abbrev x₁ : Upload

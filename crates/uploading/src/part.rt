@@ -7,11 +7,11 @@ ghost use mathlib.Core.Path.{_≡_};
 ghost use mathlib.Core.Bool.{true};
 ghost use lib.ListN.{length};
 ghost use Rattle.machine.specs.Calls.{PART};
+ghost use Rattle.machine.specs.Steps.{partAt};
 ghost use Rattle.layout.specs.Memory.{whole, stateOf};
 ghost use Rattle.find.specs.Known.{WholeOpen};
 ghost use Rattle.contract.specs.Answers.{partReply};
 ghost use Rattle.contract.specs.Made.{memory, outcome, resultOf, Made, MadeWhole};
-ghost use Rattle.uploading.specs.Part.{partOutcome};
 
 // The refusal of a part of an open upload: table full, arena full or 0. The bytes of the old part are free.
 fn part_room(
@@ -22,7 +22,7 @@ fn part_room(
     content: &[u8],
 ) -> u8
     requires { ⌜ WholeOpen (now tables) (now arena) (upload .0) ⌝ }
-    ensures { λ r. ⌜ r ≡ resultOf (partOutcome (length (now (arena .entry)))
+    ensures { λ r. ⌜ r ≡ resultOf (partAt (length (now (arena .entry)))
         (stateOf (now (tables .entry)) (now (arena .entry))) (upload .0) (number .0) (now (content .entry))) ⌝ }
 {
     let old = find::find_part(tables, arena, upload.0, number.0);

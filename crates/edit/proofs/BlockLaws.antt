@@ -1,19 +1,20 @@
 -- A block written: the pairs, then the content after them. Assumes nothing.
-use Prim.Native.Nat.{ℕ, _+_, _*_, _≤_}
+use Prim.Native.Nat.{ℕ, _+_, _-_, _*_, _≤_}
 use mathlib.Core.Path.{_≡_, refl, sym, ap, ap₂, _∙_}
 use mathlib.Core.Bool.{true}
 use mathlib.Core.List.{List, _++_}
 use native.Mathlib.Omega.{arith}
-use lib.ListN.{length, take}
+use lib.ListN.{length, take, drop, length-append}
 use lib.Seq.{take-at}
 use Rattle.number.specs.Number.{over, written}
 use Rattle.number.proofs.Halves.{write-next}
+use Rattle.buffer.proofs.Splicing.{move-copy}
 use Rattle.machine.specs.Pairs.{every, pairOk, kept, pairsOk, pairMap, pairsHeld, pairList}
 use Rattle.machine.proofs.PairLaws.{formed-is, count-is, held-is, few}
 use Rattle.stored_pairs.specs.Stored.{pairLengths, pairBytes}
 use Rattle.stored_pairs.proofs.StoredLaws.{length-lengths, length-bytes}
 use Rattle.edit.specs.declared.blocks.BlockSizes.{BlockSizes}
-use Rattle.edit.specs.Blocks.{keptOf, Writable, WrittenBlock}
+use Rattle.edit.specs.Blocks.{keptOf, Writable, WrittenBlock, BlockReplaceable, ReplacedBlock}
 
 module _ (a : List ℕ) (at : ℕ) (pairs content lengths : List ℕ) (pre : Writable a at pairs content lengths) where
   pub formed : every pairOk (pairList pairs) ≡ true
@@ -53,4 +54,39 @@ module _ (a : List ℕ) (at : ℕ) (pairs content lengths : List ℕ) (pre : Wri
             ∙ ap (λ (k : ℕ). over a at (pairBytes m ++ content) (k + length content)) (sym h);
         lengths = ap (take (2 * n)) l ∙ take-at (pairLengths m) _ (2 * n) (sym (count-there n n-is));
         few = let k = count-few n n-is in omega arith;
+      }
+
+-- the room for a block of n bytes in the place of the old one
+pub record MoveRoom (a : List ℕ) (at old held n : ℕ) : Type 0 where
+  pub block : at + n ≤ length a
+  pub to : at + n + (held - (at + old)) ≤ length a
+  pub from : at + old + (held - (at + old)) ≤ length a
+
+-- what stands after the old block is moved, then the block is written
+module _ (a : List ℕ) (at old held : ℕ) (pairs content lengths : List ℕ) (pre : BlockReplaceable a at old held pairs content lengths) where
+  abbrev block : List ℕ
+  block = pairBytes (keptOf pairs) ++ content
+
+  abbrev n : ℕ
+  n = pairsHeld (keptOf pairs) + length content
+
+  pub move-room : MoveRoom a at old held n
+  move-room =
+      let w = pre .within in
+      let i = pre .inside in
+      let r = pre .room in
+      record { block = omega arith; to = omega arith; from = omega arith }
+
+  pub block-replaced : (a₁ a′ lengths′ : List ℕ) (r : BlockSizes) → a₁ ≡ over a (at + n) (take (held - (at + old)) (drop (at + old) a)) (held - (at + old))
+      → WrittenBlock a₁ at pairs content r a′ lengths′ → ReplacedBlock a at old held pairs content r a′ lengths′
+  block-replaced a₁ a′ lengths′ r moved k =
+      let l : length block ≡ n = length-append (pairBytes (keptOf pairs)) content ∙ ap (λ (i : ℕ). i + length content) (length-bytes (keptOf pairs)) in
+      record {
+        bytes = k .bytes;
+        block =
+            move-copy a a₁ a′ block at old held (pre .within) (pre .inside) (let q = pre .room in omega (arith, l))
+            (moved ∙ ap (λ (i : ℕ). over a (at + i) (take (held - (at + old)) (drop (at + old) a)) (held - (at + old))) (sym l))
+            (k .block ∙ ap (over a₁ at block) (k .bytes ∙ sym l));
+        lengths = k .lengths;
+        few = k .few;
       }

@@ -7,4 +7,5 @@ pub mod ObjectEdits
 pub mod Tail
 pub mod MapEdits
 pub mod PutLaws
+pub mod ObjectPuts
 pub mod BlockLaws

@@ -36,7 +36,7 @@ use Rattle.find.specs.declared.Lookup.{Lookup}
 use Rattle.find.specs.Places.{placeAfter, beforeObject, afterObject, fromObject, objectPlace}
 use Rattle.find.proofs.Splits.{object-place, object-found}
 use Rattle.find.proofs.Found.{is-some}
-use Rattle.edit.specs.Rows.{Insertable}
+use Rattle.edit.specs.Rows.{Replaceable}
 use Rattle.edit.specs.Objects.{blockAfterHeld, objectAfterHeld, Addable}
 use Rattle.edit.proofs.Changes.{without-object-rows, new-object-rows}
 use Rattle.edit.proofs.OneRow as row
@@ -56,7 +56,7 @@ pub record Adding (t a p : List ℕ) (place : Lookup) (end : RowPlace) (stamp ki
   pub short : length p ≤ 128
   pub few : length lengths ≤ 16
   pub another : headerAt t .objects ≤ 255
-  pub row : Insertable t (place .at) (end .at) (newHead stamp kind count p lengths size) p lengths
+  pub row : Replaceable t (place .at) 0 (end .at) (newHead stamp kind count p lengths size) p lengths
   pub base : place .base ≤ end .base
   pub room : place .base + (end .base - place .base) + size ≤ length a
   pub stands : (header : Header) (t′ a′ : List ℕ) → header ≡ headerAt t
@@ -74,22 +74,22 @@ module _ (t a : List ℕ) (b : AreBytes t) (w : whole t a ≡ true) where
   pub header-inside : headerLength ≤ length t
   header-inside = let z = stands .size in omega arith
 
-  header-is : headerAt t ≡ headerOf (length a) s
+  pub header-is : headerAt t ≡ headerOf (length a) s
   header-is = header-back t a s stands
 
   module _ (p : List ℕ) (place : Lookup) (place-is : place ≡ objectPlace s p) (end : RowPlace) (end-is : end ≡ placeAfter (rowsOf s)) where
-    at-is : place .at ≡ headerLength + length (encodeRows (beforeObject s p))
+    pub at-is : place .at ≡ headerLength + length (encodeRows (beforeObject s p))
     unfolding objectPlace
     at-is = ap (λ (x : Lookup). x .at) place-is
 
-    base-is : place .base ≡ length (contentsOf (beforeObject s p))
+    pub base-is : place .base ≡ length (contentsOf (beforeObject s p))
     unfolding objectPlace
     base-is = ap (λ (x : Lookup). x .base) place-is
 
-    used-is : end .at ≡ headerLength + length (encodeRows (rowsOf s))
+    pub used-is : end .at ≡ headerLength + length (encodeRows (rowsOf s))
     used-is = ap (λ (x : RowPlace). x .at) end-is
 
-    held-is : end .base ≡ length (contentsOf (rowsOf s))
+    pub held-is : end .base ≡ length (contentsOf (rowsOf s))
     held-is = ap (λ (x : RowPlace). x .base) end-is
 
     -- taken out
@@ -206,14 +206,14 @@ module _ (t a : List ℕ) (b : AreBytes t) (w : whole t a ≡ true) where
             count = sym (tagged .same-count) i;
           }
 
-      add-row : Insertable t (place .at) (end .at) new-head p lengths
-      add-row = subst (λ (ls : List ℕ). Insertable t (place .at) (end .at) new-head p ls) (sym lengths-are) (row.row-room t a s stands (beforeObject s p) (objectRow p y) (fromObject s p) (place .at) (place .base) (end .at) (end .base) at-is base-is used-is held-is (object-place s p) s′ (pre .valid) (new-object-rows s p y (pre .absent)) path-most few-there row-encodable content-is room new-head new-head-is)
+      add-row : Replaceable t (place .at) 0 (end .at) new-head p lengths
+      add-row = subst (λ (ls : List ℕ). Replaceable t (place .at) 0 (end .at) new-head p ls) (sym lengths-are) (row.insert-room t a s stands (beforeObject s p) (objectRow p y) (fromObject s p) (place .at) (place .base) (end .at) (end .base) at-is base-is used-is held-is (object-place s p) s′ (pre .valid) (new-object-rows s p y (pre .absent)) path-most few-there row-encodable content-is room new-head new-head-is)
 
       add-base : place .base ≤ end .base
       add-base = row.base-inside t a s stands (beforeObject s p) (objectRow p y) (fromObject s p) (place .at) (place .base) (end .at) (end .base) at-is base-is used-is held-is (object-place s p) s′ (pre .valid) (new-object-rows s p y (pre .absent)) path-most few-there row-encodable content-is room
 
       add-data : place .base + (end .base - place .base) + size ≤ length a
-      add-data = let d = row.data-room t a s stands (beforeObject s p) (objectRow p y) (fromObject s p) (place .at) (place .base) (end .at) (end .base) at-is base-is used-is held-is (object-place s p) s′ (pre .valid) (new-object-rows s p y (pre .absent)) path-most few-there row-encodable content-is room in omega (arith, content-length)
+      add-data = let d = row.rotate-room t a s stands (beforeObject s p) (objectRow p y) (fromObject s p) (place .at) (place .base) (end .at) (end .base) at-is base-is used-is held-is (object-place s p) s′ (pre .valid) (new-object-rows s p y (pre .absent)) path-most few-there row-encodable content-is room in omega (arith, content-length)
 
       digest-is : bytesOf digest ≡ objectRow p y .digest
       unfolding objectAfterHeld

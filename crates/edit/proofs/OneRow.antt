@@ -1,7 +1,7 @@
--- One row taken out or put in: what the functions that do it require, and what memory then stands for. Assumes nothing.
+-- One row taken out, put in or put in the place of others: what the functions that do it require, and what memory then stands for. Assumes nothing.
 use Prim.Native.Nat.{ℕ, _+_, _-_, _*_, _≤_}
-use mathlib.Core.Path.{_≡_, refl, ap, _∙_}
-use mathlib.Core.List.{List, [], _∷_, _++_}
+use mathlib.Core.Path.{_≡_, refl, sym, ap, _∙_}
+use mathlib.Core.List.{List, [], _∷_, _++_, append-nil}
 use native.Mathlib.Omega.{arith}
 use lib.ListN.{length, take, drop, length-append}
 use Rattle.machine.specs.State.{State, held}
@@ -15,9 +15,9 @@ use Rattle.layout.specs.Memory.{rowsOf, Stands}
 use Rattle.layout.proofs.RowCounts.{length-contents}
 use Rattle.layout.specs.Header.{headerOf, headed, headerLength}
 use Rattle.find.proofs.RowsAt.{At, row-at}
-use Rattle.edit.specs.Rows.{Insertable}
+use Rattle.edit.specs.Rows.{Replaceable}
 use Rattle.edit.proofs.Fit.{tables-fit}
-use Rattle.edit.proofs.Standing.{removed, inserted}
+use Rattle.edit.proofs.Standing.{removed, replaced, inserted}
 
 module _ (t a : List ℕ) (s : State) (h : Stands t a s) (xs : List Row) (r : Row) (ys : List Row) (at base used end : ℕ)
     (at-is : at ≡ headerLength + length (encodeRows xs)) (base-is : base ≡ length (contentsOf xs))
@@ -77,14 +77,18 @@ module _ (t a : List ℕ) (s : State) (h : Stands t a s) (xs : List Row) (r : Ro
           removed t a s h s′ valid (spliced t at (span head) used []) t′ a′ header is e l l′ xs (r ∷ []) ys at (span head) used base (head .size) end split split′
           at-is n-is used-is refl base-is m-is end-is e′
 
-  -- the row r put in; its data stand after the last byte held
-  module _ (split : rowsOf s ≡ xs ++ ys) (s′ : State) (valid : Valid (length a) s′) (split′ : rowsOf s′ ≡ xs ++ (r ∷ ys)) (short : length (r .path) ≤ 128) (few : length (r .lengths) ≤ 16)
-      (encodable : Encodable r) (content : take (length (r .content)) (drop (held s) a) ≡ r .content) (room : held s + length (r .content) ≤ length a) where
-    old-length : length (encodeRows (rowsOf s)) ≡ length (encodeRows xs) + length (encodeRows ys)
-    old-length = ap length (ap encodeRows split ∙ encode-append xs ys) ∙ length-append (encodeRows xs) (encodeRows ys)
+  -- the row r in the place of the rows old
+  module _ (old : List Row) (split : rowsOf s ≡ xs ++ (old ++ ys)) (s′ : State) (valid : Valid (length a) s′) (split′ : rowsOf s′ ≡ xs ++ (r ∷ ys))
+      (short : length (r .path) ≤ 128) (few : length (r .lengths) ≤ 16) (encodable : Encodable r) (n m : ℕ) (n-is : n ≡ length (encodeRows old)) (m-is : m ≡ length (contentsOf old)) where
+    was-length : length (encodeRows (rowsOf s)) ≡ length (encodeRows xs) + (length (encodeRows old) + length (encodeRows ys))
+    was-length =
+        ap length (ap encodeRows split ∙ encode-append xs (old ++ ys))
+        ∙ omega (arith, length-append (encodeRows xs) (encodeRows (old ++ ys)), ap length (encode-append old ys), length-append (encodeRows old) (encodeRows ys))
 
-    old-data : length (contentsOf (rowsOf s)) ≡ length (contentsOf xs) + length (contentsOf ys)
-    old-data = ap length (ap contentsOf split ∙ contents-append xs ys) ∙ length-append (contentsOf xs) (contentsOf ys)
+    was-data : length (contentsOf (rowsOf s)) ≡ length (contentsOf xs) + (length (contentsOf old) + length (contentsOf ys))
+    was-data =
+        ap length (ap contentsOf split ∙ contents-append xs (old ++ ys))
+        ∙ omega (arith, length-append (contentsOf xs) (contentsOf (old ++ ys)), ap length (contents-append old ys), length-append (contentsOf old) (contentsOf ys))
 
     new-length : length (encodeRows (rowsOf s′)) ≡ length (encodeRows xs) + (span (headOf r) + length (encodeRows ys))
     unfolding encodeRows
@@ -92,23 +96,58 @@ module _ (t a : List ℕ) (s : State) (h : Stands t a s) (xs : List Row) (r : Ro
         ap length (ap encodeRows split′ ∙ encode-append xs (r ∷ ys))
         ∙ omega (arith, length-append (encodeRows xs) (encodeRow r ++ encodeRows ys), length-append (encodeRow r) (encodeRows ys), length-row r encodable)
 
-    pub row-room : (head : Head) → head ≡ headOf r → Insertable t at used head (r .path) (r .lengths)
+    new-data : length (contentsOf (rowsOf s′)) ≡ length (contentsOf xs) + (length (r .content) + length (contentsOf ys))
+    unfolding contentsOf
+    new-data =
+        ap length (ap contentsOf split′ ∙ contents-append xs (r ∷ ys))
+        ∙ omega (arith, length-append (contentsOf xs) (r .content ++ contentsOf ys), length-append (r .content) (contentsOf ys))
+
+    pub row-room : (head : Head) → head ≡ headOf r → Replaceable t at n used head (r .path) (r .lengths)
     row-room head is =
         let f = tables-fit (length a) s′ (h .small) valid in
+        let g = tables-fit (length a) s (h .small) (h .valid) in
         record {
           past-header = omega (arith, at-is);
-          within = omega (arith, old-length);
+          within = omega (arith, was-length);
+          inside = omega (arith, h .size);
           short = short;
           few = few;
           shared = omega (arith, encodable .fits .1 .1 .1 .0, ap (λ (x : Head). x .kind + 4 * x .pairs) is);
-          room = omega (arith, old-length, new-length, h .size, encodable .lengths);
+          room = omega (arith, was-length, new-length, h .size, encodable .lengths);
         }
+
+    pub data-room : (base + m ≤ end) × (end ≤ length a) × (end + length (r .content) ≤ length a + m)
+    data-room =
+        let v = h .valid .room in
+        let w = valid .room in
+        (omega (arith, was-data), omega (arith, length-contents s), omega (arith, was-data, new-data, length-contents s′))
+
+    pub replaced-stands : (t′ a′ path digest lengths content : List ℕ) (head : Head) (header : Header) → header ≡ headerOf (length a) s′
+        → head ≡ headOf r → digest ≡ r .digest → path ≡ r .path → lengths ≡ r .lengths → content ≡ r .content
+        → t′ ≡ headed (spliced t at n used (rowBytes head digest path lengths)) header → a′ ≡ spliced a base m end content
+        → length t′ ≡ length t → length a′ ≡ length a → Stands t′ a′ s′
+    unfolding encodeRows contentsOf
+    replaced-stands t′ a′ p d ls content head header is head-is d-is p-is ls-is content-is e e′ l l′ =
+        let bytes : rowBytes head d p ls ≡ encodeRow r ++ [] = rw (head-is, d-is, p-is, ls-is) (sym (append-nil (encodeRow r))) in
+        let block : content ≡ r .content ++ [] = content-is ∙ sym (append-nil (r .content)) in
+        replaced t a s h s′ valid (spliced t at n used (rowBytes head d p ls)) t′ a′ header is e l l′ xs old (r ∷ []) ys at n used base m end (rowBytes head d p ls) content
+        split split′ bytes block at-is n-is used-is refl base-is m-is end-is e′
+
+  -- the row r put in; its data stand after the last byte held
+  module _ (split : rowsOf s ≡ xs ++ ys) (s′ : State) (valid : Valid (length a) s′) (split′ : rowsOf s′ ≡ xs ++ (r ∷ ys)) (short : length (r .path) ≤ 128) (few : length (r .lengths) ≤ 16)
+      (encodable : Encodable r) (content : take (length (r .content)) (drop (held s) a) ≡ r .content) (room : held s + length (r .content) ≤ length a) where
+    old-data : length (contentsOf (rowsOf s)) ≡ length (contentsOf xs) + length (contentsOf ys)
+    old-data = ap length (ap contentsOf split ∙ contents-append xs ys) ∙ length-append (contentsOf xs) (contentsOf ys)
+
+    pub insert-room : (head : Head) → head ≡ headOf r → Replaceable t at 0 used head (r .path) (r .lengths)
+    unfolding encodeRows contentsOf
+    insert-room = row-room [] split s′ valid split′ short few encodable 0 0 refl refl
 
     pub base-inside : base ≤ end
     base-inside = omega (arith, old-data)
 
-    pub data-room : base + (end - base) + length (r .content) ≤ length a
-    data-room = omega (arith, old-data, room, length-contents s)
+    pub rotate-room : base + (end - base) + length (r .content) ≤ length a
+    rotate-room = omega (arith, old-data, room, length-contents s)
 
     pub inserted-stands : (t′ a′ path digest lengths : List ℕ) (head : Head) (header : Header) (size : ℕ) → header ≡ headerOf (length a) s′
         → head ≡ headOf r → digest ≡ r .digest → path ≡ r .path → lengths ≡ r .lengths → size ≡ length (r .content)

@@ -1,4 +1,5 @@
--- An object put in place of another: what the steps require, and what memory then stands for. Assumes nothing.
+-- What a lookup says of an object, and an object put in after the one at its path was taken out: what the steps require, and what
+-- memory then stands for. Assumes nothing.
 use Prim.Native.Nat.{ℕ, _+_, _≤_}
 use mathlib.Core.Path.{_≡_, sym, ap, ap₂, _∙_, subst}
 use mathlib.Core.Bool.{Bool, true, false}

@@ -1,4 +1,4 @@
--- Memory that stands for s, with rows cut out or a row put in, stands for the changed state. Each law takes what the callees ensure.
+-- Memory that stands for s, with rows replaced, cut out or put in, stands for the changed state. Each law takes what the callees ensure.
 -- Assumes nothing.
 use Prim.Native.Nat.{ℕ, _+_}
 use mathlib.Core.Path.{_≡_, refl, sym, ap, ap₂, _∙_, subst}
@@ -33,21 +33,29 @@ module _ (t a : List ℕ) (s : State) (h : Stands t a s) (s′ : State) (valid :
         arena = told′;
       }
 
+  -- the rows ys, with their data, give way to ys′, of which src are the bytes and block the data
+  pub replaced : (xs ys ys′ zs : List Row) (at n used base m end : ℕ) (src block : List ℕ) → rowsOf s ≡ xs ++ (ys ++ zs) → rowsOf s′ ≡ xs ++ (ys′ ++ zs)
+      → src ≡ encodeRows ys′ → block ≡ contentsOf ys′
+      → at ≡ headerLength + length (encodeRows xs) → n ≡ length (encodeRows ys) → used ≡ headerLength + length (encodeRows (rowsOf s)) → t₁ ≡ spliced t at n used src
+      → base ≡ length (contentsOf xs) → m ≡ length (contentsOf ys) → end ≡ length (contentsOf (rowsOf s)) → a′ ≡ spliced a base m end block
+      → Stands t′ a′ s′
+  replaced xs ys ys′ zs at n used base m end src block split split′ rows content at-is n-is used-is put base-is m-is end-is put′ =
+      let told : t ≡ encodeHeader (length a) s ++ (encodeRows (xs ++ (ys ++ zs)) ++ h .tables-free) = h .tables ∙ ap (λ (rs : List Row). encodeHeader (length a) s ++ (encodeRows rs ++ h .tables-free)) split in
+      let told′ : a ≡ contentsOf (xs ++ (ys ++ zs)) ++ h .arena-free = h .arena ∙ ap (λ (rs : List Row). contentsOf rs ++ h .arena-free) split in
+      let put₁ : t₁ ≡ spliced t (headerLength + length (encodeRows xs)) (length (encodeRows ys)) (headerLength + length (encodeRows (xs ++ (ys ++ zs)))) src = put ∙ rw (at-is, n-is, used-is, split) in
+      let put₂ : a′ ≡ spliced a (length (contentsOf xs)) (length (contentsOf ys)) (length (contentsOf (xs ++ (ys ++ zs)))) block = put′ ∙ rw (base-is, m-is, end-is, split) in
+      standing _ _
+      (rows-spliced xs ys ys′ zs t t₁ (encodeHeader (length a) s) (h .tables-free) src told (length-header (length a) s (h .small) (h .valid)) rows put₁
+      ∙ ap (λ (rs : List Row). encodeHeader (length a) s ++ (encodeRows rs ++ drop (headerLength + length (encodeRows (xs ++ (ys′ ++ zs)))) t)) (sym split′))
+      (data-spliced xs ys ys′ zs a a′ (h .arena-free) block told′ content put₂ ∙ ap (λ (rs : List Row). contentsOf rs ++ drop (length (contentsOf (xs ++ (ys′ ++ zs)))) a) (sym split′))
+
   -- the rows ys cut out, with their data
   pub removed : (xs ys zs : List Row) (at n used base m end : ℕ) → rowsOf s ≡ xs ++ (ys ++ zs) → rowsOf s′ ≡ xs ++ zs
       → at ≡ headerLength + length (encodeRows xs) → n ≡ length (encodeRows ys) → used ≡ headerLength + length (encodeRows (rowsOf s)) → t₁ ≡ spliced t at n used []
       → base ≡ length (contentsOf xs) → m ≡ length (contentsOf ys) → end ≡ length (contentsOf (rowsOf s)) → a′ ≡ spliced a base m end []
       → Stands t′ a′ s′
   unfolding encodeRows contentsOf
-  removed xs ys zs at n used base m end split split′ at-is n-is used-is cut base-is m-is end-is cut′ =
-      let told : t ≡ encodeHeader (length a) s ++ (encodeRows (xs ++ (ys ++ zs)) ++ h .tables-free) = h .tables ∙ ap (λ (rs : List Row). encodeHeader (length a) s ++ (encodeRows rs ++ h .tables-free)) split in
-      let told′ : a ≡ contentsOf (xs ++ (ys ++ zs)) ++ h .arena-free = h .arena ∙ ap (λ (rs : List Row). contentsOf rs ++ h .arena-free) split in
-      let cut₁ : t₁ ≡ spliced t (headerLength + length (encodeRows xs)) (length (encodeRows ys)) (headerLength + length (encodeRows (xs ++ (ys ++ zs)))) [] = cut ∙ rw (at-is, n-is, used-is, split) in
-      let cut₂ : a′ ≡ spliced a (length (contentsOf xs)) (length (contentsOf ys)) (length (contentsOf (xs ++ (ys ++ zs)))) [] = cut′ ∙ rw (base-is, m-is, end-is, split) in
-      standing _ _
-      (rows-spliced xs ys [] zs t t₁ (encodeHeader (length a) s) (h .tables-free) [] told (length-header (length a) s (h .small) (h .valid)) refl cut₁
-      ∙ ap (λ (rs : List Row). encodeHeader (length a) s ++ (encodeRows rs ++ drop (headerLength + length (encodeRows (xs ++ zs))) t)) (sym split′))
-      (data-spliced xs ys [] zs a a′ (h .arena-free) [] told′ refl cut₂ ∙ ap (λ (rs : List Row). contentsOf rs ++ drop (length (contentsOf (xs ++ zs))) a) (sym split′))
+  removed xs ys zs at n used base m end split split′ = replaced xs ys [] zs at n used base m end [] [] split split′ refl refl
 
   -- the row r put in; its data stood after the last byte held
   pub inserted : (xs : List Row) (r : Row) (zs : List Row) (at used base left : ℕ) (src : List ℕ) → rowsOf s ≡ xs ++ zs → rowsOf s′ ≡ xs ++ (r ∷ zs)

@@ -5,6 +5,7 @@ use mathlib.Core.Bool.{true}
 use mathlib.Core.List.{List, _++_}
 use lib.ListN.{length, take}
 use Rattle.number.specs.Number.{over}
+use Rattle.buffer.specs.Buffer.{spliced}
 use Rattle.machine.specs.Map.{Map}
 use Rattle.machine.specs.Names.{Bytes}
 use Rattle.machine.specs.Pairs.{pairsOk, pairMap, pairsHeld, pairList}
@@ -25,5 +26,20 @@ pub record Writable (a : List ℕ) (at : ℕ) (pairs content lengths : List ℕ)
 pub record WrittenBlock (a : List ℕ) (at : ℕ) (pairs content : List ℕ) (r : BlockSizes) (a′ lengths′ : List ℕ) : Type 0 where
   pub bytes : r .bytes ≡ pairsHeld (keptOf pairs) + length content
   pub block : a′ ≡ over a at (pairBytes (keptOf pairs) ++ content) (r .bytes)
+  pub lengths : take (r .lengths) lengths′ ≡ pairLengths (keptOf pairs)
+  pub few : r .lengths ≤ 16
+
+-- the pairs are taken, the old block is held, and there is room for another in its place, and for the lengths of the pairs
+pub record BlockReplaceable (a : List ℕ) (at old held : ℕ) (pairs content lengths : List ℕ) : Type 0 where
+  pub taken : pairsOk (pairList pairs) ≡ true
+  pub within : at + old ≤ held
+  pub inside : held ≤ length a
+  pub room : held + (pairsHeld (keptOf pairs) + length content) ≤ length a + old
+  pub lengths-room : 16 ≤ length lengths
+
+-- the old block gave way to them
+pub record ReplacedBlock (a : List ℕ) (at old held : ℕ) (pairs content : List ℕ) (r : BlockSizes) (a′ lengths′ : List ℕ) : Type 0 where
+  pub bytes : r .bytes ≡ pairsHeld (keptOf pairs) + length content
+  pub block : a′ ≡ spliced a at old held (pairBytes (keptOf pairs) ++ content)
   pub lengths : take (r .lengths) lengths′ ≡ pairLengths (keptOf pairs)
   pub few : r .lengths ≤ 16

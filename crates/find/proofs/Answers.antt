@@ -8,6 +8,7 @@ use native.Mathlib.Omega.{arith}
 use lib.ListN.{length, take, drop, length-append, length-drop}
 use lib.Seq.{take-at, drop-at}
 use Rattle.machine.specs.Map.{isSome, byNumber, lookup, place}
+use Rattle.machine.specs.Names.{Bytes}
 use Rattle.machine.specs.State.{Upload, State}
 use Rattle.row.specs.Row.{Row, encodeRows, contentsOf}
 use Rattle.layout.specs.Rules.{uploadKind, partKind}
@@ -15,12 +16,13 @@ use Rattle.layout.specs.Header.{headerLength}
 use Rattle.layout.specs.Memory.{uploadRow, partRows, rowsOf}
 use Rattle.layout.proofs.UploadLaws.{length-part-rows}
 use Rattle.find.specs.declared.RowPlace.{RowPlace}
+use Rattle.find.specs.declared.Lookup.{Lookup}
 use Rattle.find.specs.declared.Numbered.{Numbered}
 use Rattle.find.specs.declared.search.Goal.{Goal}
 use Rattle.find.specs.declared.search.Goal.the-variants as goal
-use Rattle.find.specs.Places.{placeAfter, beforeUpload, beforeParts, beforePart, throughParts, fromUpload, afterUpload, fromPart, uploadPlace, partPlace, uploadRowOf, partsRowOf, passedParts, firstDue}
+use Rattle.find.specs.Places.{placeAfter, lookupAfter, placeOf, beforeObject, fromObject, objectPlace, beforeUpload, beforeParts, beforePart, throughParts, fromUpload, afterUpload, fromPart, uploadPlace, partPlace, uploadRowOf, partsRowOf, passedParts, firstDue}
 use Rattle.find.specs.Search.{reach, stopsOf, rowPlaceAt, IsRow, IsRowPlace, sought, leads, leader}
-use Rattle.find.proofs.Splits.{upload-place, upload-found, parts-place, parts-after, part-place}
+use Rattle.find.proofs.Splits.{object-place, upload-place, upload-found, parts-place, parts-after, part-place}
 use Rattle.find.proofs.Walk.{rowPlace}
 use Rattle.find.proofs.Searches.{reach-end, reach-upload, upload-leads, reach-part, part-leads, reach-next, due-leads}
 use Rattle.find.proofs.Found.{is-some}
@@ -85,8 +87,22 @@ sought-passes g rs xs ys zs i e n r =
 
 -- The end of the rows ----------------------------------------------------------------------------------------------------
 
-pub end-answer : (rs : List Row) (p : RowPlace) → p ≡ sought goal.End rs 0 → p ≡ placeAfter rs
-end-answer rs p e = e ∙ sought-passes goal.End rs [] rs rs 0 refl refl (reach-end rs) ∙ place-after rs rs [] (sym (append-nil rs))
+pub end-answer : (rs : List Row) (p : RowPlace) (i : ℕ) → i ≤ length rs → p ≡ sought goal.End rs i → p ≡ placeAfter rs
+unfolding sought
+end-answer rs p i l e =
+    let n : i + reach (stopsOf goal.End) (drop i rs) ≡ length rs = omega (arith, reach-end (drop i rs), length-drop i rs) in
+    e ∙ ap (rowPlaceAt rs) n ∙ place-after rs rs [] (sym (append-nil rs))
+
+-- the place that a lookup answers is one of a row, or after them all
+pub lookup-place : (b : Bool) (rs xs ys : List Row) (l : Lookup) → l ≡ lookupAfter b xs → rs ≡ xs ++ ys → IsRowPlace rs (placeOf l)
+lookup-place b rs xs ys l e split =
+    is-row-place rs (placeOf l) (length xs) (ap placeOf e ∙ sym (place-after rs xs ys split)) (omega (arith, ap length split, length-append xs ys))
+
+-- Objects ----------------------------------------------------------------------------------------------------------------
+
+pub object-row-place : (s : State) (p : Bytes) (l : Lookup) → l ≡ objectPlace s p → IsRowPlace (rowsOf s) (placeOf l)
+unfolding objectPlace
+object-row-place s p l e = lookup-place _ (rowsOf s) (beforeObject s p) (fromObject s p) l e (object-place s p)
 
 -- Uploads ----------------------------------------------------------------------------------------------------------------
 
@@ -98,12 +114,12 @@ pub upload-within : (s : State) (u : ℕ) → length (beforeUpload s u) ≤ leng
 upload-within s u = omega (arith, ap length (upload-place s u), length-append (beforeUpload s u) (fromUpload s u))
 
 pub found-upload : (s : State) (u : ℕ) (p : RowPlace) (found : Bool) → p ≡ uploadRowOf s u → found ≡ leads uploadKind u (drop (p .row) (rowsOf s))
-    → record { found = found; at = p .at; base = p .base } ≡ uploadPlace s u
+    → record { found = found; row = p .row; at = p .at; base = p .base } ≡ uploadPlace s u
 unfolding uploadPlace fromUpload
 found-upload s u p found e f =
     let k = placed-after (rowsOf s) (beforeUpload s u) (fromUpload s u) p (upload-place s u) e in
     let g : found ≡ isSome (lookup byNumber u (s .U)) = f ∙ ap (leads uploadKind u) (k .rest) ∙ upload-leads u (s .U) in
-    λ i. record { found = g i; at = k .at i; base = k .base i }
+    λ i. record { found = g i; row = k .row i; at = k .at i; base = k .base i }
 
 pub open-within : (s : State) (u : ℕ) → isSome (lookup byNumber u (s .U)) ≡ true → length (beforeUpload s u) < length (rowsOf s)
 open-within s u e =
@@ -139,7 +155,7 @@ module _ (s : State) (u : ℕ) (x : Upload) (f : lookup byNumber u (s .U) ≡ so
   first-row = place-row (rowsOf s) first _ e ∙ sym (length-append (beforeUpload s u) (uploadRow u x ∷ []))
 
   pub found-part : (n : ℕ) (p : RowPlace) (found : Bool) → p ≡ sought (goal.Part n) (rowsOf s) (first .row) → found ≡ leads partKind n (drop (p .row) (rowsOf s))
-      → record { found = found; at = p .at; base = p .base } ≡ partPlace s u x n
+      → record { found = found; row = p .row; at = p .at; base = p .base } ≡ partPlace s u x n
   unfolding partPlace beforePart fromPart afterUpload
   found-part n p found q r =
       let ps = x .parts in
@@ -147,7 +163,7 @@ module _ (s : State) (u : ℕ) (x : Upload) (f : lookup byNumber u (s .U) ≡ so
       let m = sought-passes (goal.Part n) (rowsOf s) (beforeParts s u x) (partRows ps ++ afterUpload s u) z (first .row) (parts-place s u x f) first-row (reach-part n ps _) in
       let k = placed-after (rowsOf s) (beforePart s u x n) (fromPart s u x n) p (part-place s u x f n) (q ∙ m) in
       let g : found ≡ isSome (lookup byNumber n ps) = r ∙ ap (leads partKind n) (k .rest) ∙ part-leads n ps _ in
-      λ i. record { found = g i; at = k .at i; base = k .base i }
+      λ i. record { found = g i; row = k .row i; at = k .at i; base = k .base i }
 
   pub all-parts : (p : RowPlace) → p ≡ sought goal.NextUpload (rowsOf s) (first .row) → record { count = p .row - first .row; next = p } ≡ passedParts s u x
   unfolding passedParts throughParts afterUpload

@@ -7,7 +7,7 @@ use mathlib.Core.Option.{none, some}
 use native.Mathlib.Numerals.{add-one}
 use native.Mathlib.Omega.{arith}
 use lib.ListN.{length, take, drop, drop-of-length-le}
-use lib.Seq.{drop-cons}
+use lib.Seq.{drop-cons, length-take-le}
 use Rattle.order.specs.Order.{by, byBytes}
 use Rattle.machine.specs.Map.{isSome, lookup, place}
 use Rattle.machine.specs.Names.{Bytes}
@@ -16,6 +16,7 @@ use Rattle.row.specs.declared.Head.{Head}
 use Rattle.row.specs.Row.{Row, encodeRows, contentsOf, headAt, headLength, span}
 use Rattle.layout.specs.Header.{headerLength}
 use Rattle.layout.specs.Memory.{objectRows, Stands}
+use Rattle.layout.proofs.ObjectLaws.{length-object-rows}
 use Rattle.find.specs.declared.Lookup.{Lookup}
 use Rattle.find.specs.Places.{beforeObject, objectPlace}
 use Rattle.find.proofs.RowsAt.{At, Read, row-at, row-read}
@@ -29,8 +30,8 @@ pub record Passed (s : State) (p : Bytes) (i at base : ℕ) : Type 0 where
   pub places : place byBytes p (s .O) ≡ i + place byBytes p (drop i (s .O))
   pub found : lookup byBytes p (s .O) ≡ lookup byBytes p (drop i (s .O))
 
-abbrev pub placed : Bool → (at base : ℕ) → Lookup
-placed found at base = record { found = found; at = at; base = base }
+abbrev pub placed : Bool → (i at base : ℕ) → Lookup
+placed found i at base = record { found = found; row = i; at = at; base = base }
 
 pub passed-none : (s : State) (p : Bytes) → Passed s p 0 headerLength 0
 unfolding encodeRows contentsOf objectRows
@@ -38,13 +39,14 @@ passed-none s p = record { within = omega arith; rows = refl; contents = refl; p
 
 -- the place is here: no further path is below p
 here : (s : State) (p : Bytes) (i at base : ℕ) (b : Bool) → Passed s p i at base → place byBytes p (drop i (s .O)) ≡ 0 → isSome (lookup byBytes p (drop i (s .O))) ≡ b
-    → placed b at base ≡ objectPlace s p
+    → placed b i at base ≡ objectPlace s p
 unfolding objectPlace beforeObject
 here s p i at base b k e f =
     let n : place byBytes p (s .O) ≡ i = let q = k .places in omega arith in
-    rw (k .found, f, n) (λ j. placed b (k .rows j) (k .contents j))
+    let m : i ≡ length (objectRows (take i (s .O))) = sym (length-object-rows (take i (s .O)) ∙ length-take-le i (s .O) (k .within)) in
+    rw (k .found, f, n) (λ j. placed b (m j) (k .rows j) (k .contents j))
 
-pub passed-all : (s : State) (p : Bytes) (i at base : ℕ) → Passed s p i at base → length (s .O) ≤ i → placed false at base ≡ objectPlace s p
+pub passed-all : (s : State) (p : Bytes) (i at base : ℕ) → Passed s p i at base → length (s .O) ≤ i → placed false i at base ≡ objectPlace s p
 passed-all s p i at base k l =
     let e : drop i (s .O) ≡ [] = drop-of-length-le (s .O) l in
     here s p i at base false k (rw e) (rw e)
@@ -53,8 +55,8 @@ passed-all s p i at base k l =
 pub record Turn (t a : List ℕ) (s : State) (p : Bytes) (i at base : ℕ) (head : Head) : Type 0 where
   pub inside : at + span head ≤ length t
   pub arena-inside : base + head .size ≤ length a
-  pub less : byBytes p (take (head .pathlen) (drop (at + headLength) t)) ≡ Ordering·lt → placed false at base ≡ objectPlace s p
-  pub equal : byBytes p (take (head .pathlen) (drop (at + headLength) t)) ≡ Ordering·eq → placed true at base ≡ objectPlace s p
+  pub less : byBytes p (take (head .pathlen) (drop (at + headLength) t)) ≡ Ordering·lt → placed false i at base ≡ objectPlace s p
+  pub equal : byBytes p (take (head .pathlen) (drop (at + headLength) t)) ≡ Ordering·eq → placed true i at base ≡ objectPlace s p
   pub greater : byBytes p (take (head .pathlen) (drop (at + headLength) t)) ≡ Ordering·gt → Passed s p (i + 1) (at + span head) (base + head .size)
 
 module _ (t a : List ℕ) (s : State) (h : Stands t a s) (p : Bytes) (i at base : ℕ) (k : Passed s p i at base) (l : i < length (s .O)) where

@@ -11,7 +11,8 @@ use Rattle.machine.specs.State.{Upload, State}
 use Rattle.row.specs.Row.{Row}
 use Rattle.layout.specs.Memory.{whole, stateOf, rowsOf}
 use Rattle.find.specs.declared.RowPlace.{RowPlace}
-use Rattle.find.specs.Places.{uploadRowOf, partsRowOf}
+use Rattle.find.specs.declared.Lookup.{Lookup}
+use Rattle.find.specs.Places.{objectPlace, uploadRowOf, partsRowOf}
 use Rattle.find.specs.Search.{IsRow, IsRowPlace}
 
 module _ (t a : List ℕ) where
@@ -34,6 +35,14 @@ module _ (t a : List ℕ) where
   -- t and a are whole, and p is the place of a row, or after them all
   abbrev pub WholePlace : RowPlace → Type 0
   WholePlace p = (whole t a ≡ true) × IsRowPlace rowsIn p
+
+  -- t and a are whole, and l is what the lookup of some path answers
+  abbrev pub WholeLookup : Lookup → Type 0
+  WholeLookup l = (whole t a ≡ true) × ((p : Bytes) × (l ≡ objectPlace (stateOf t a) p))
+
+  -- what holds of a path whose lookup answers l
+  abbrev pub OfPath : Lookup → (State → Bytes → Type 0) → Type 0
+  OfPath l P = (p : Bytes) → l ≡ objectPlace (stateOf t a) p → P (stateOf t a) p
 
   -- what holds of upload u where it is open; of the open upload whose row is at p; of the one whose row is before p
   abbrev pub OfOpen : ℕ → (State → Upload → Type 0) → Type 0

@@ -22,7 +22,11 @@ abbrev pub placeAfter : List Row → RowPlace
 placeAfter rs = record { row = length rs; at = headerLength + length (encodeRows rs); base = length (contentsOf rs) }
 
 abbrev pub lookupAfter : (found : Bool) → List Row → Lookup
-lookupAfter found rs = record { found = found; at = placeAfter rs .at; base = placeAfter rs .base }
+lookupAfter found rs = record { found = found; row = placeAfter rs .row; at = placeAfter rs .at; base = placeAfter rs .base }
+
+-- the place that a lookup answers
+abbrev pub placeOf : Lookup → RowPlace
+placeOf l = record { row = l .row; at = l .at; base = l .base }
 
 -- the rows before those of the object at a path, of an upload, of an upload's parts, of a part, and of what follows an
 -- upload's parts

@@ -18,12 +18,14 @@ pub use uploads::parts_end;
 pub use uploads::parts_row;
 pub use uploads::pass_parts;
 pub use uploads::rows_end;
+pub use uploads::rows_end_from;
 pub use uploads::upload_row;
 
-// What a search found: whether it is there, where its row begins in the tables, and where its data begin in the arena.
-// Where it is not there, the places are those of the row before which it would stand.
+// What a search found: whether it is there, the number of its row, where that begins in the tables, and where its data
+// begin in the arena. Where it is not there, the places are those of the row before which it would stand.
 pub struct Lookup {
     pub found: bool,
+    pub row: usize,
     pub at: usize,
     pub base: usize,
 }

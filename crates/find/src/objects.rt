@@ -28,6 +28,7 @@ pub fn find_object(tables: &[u8], arena: &[u8], path: &[u8]) -> Lookup
             Order::Equal => {
                 return Lookup {
                     found: true,
+                    row: i,
                     at,
                     base,
                 };
@@ -35,6 +36,7 @@ pub fn find_object(tables: &[u8], arena: &[u8], path: &[u8]) -> Lookup
             Order::Less => {
                 return Lookup {
                     found: false,
+                    row: i,
                     at,
                     base,
                 };
@@ -46,6 +48,7 @@ pub fn find_object(tables: &[u8], arena: &[u8], path: &[u8]) -> Lookup
     }
     Lookup {
         found: false,
+        row: i,
         at,
         base,
     }

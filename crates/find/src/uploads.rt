@@ -13,7 +13,7 @@ ghost use mathlib.Core.Path.{_≡_};
 ghost use mathlib.Core.Bool.{true};
 ghost use Rattle.machine.specs.State.{held};
 ghost use Rattle.layout.specs.Memory.{whole, stateOf};
-ghost use Rattle.find.specs.Places.{placeAfter, uploadPlace, partPlace, uploadRowOf, partsRowOf, passedParts, firstDue};
+ghost use Rattle.find.specs.Places.{placeOf, placeAfter, uploadPlace, partPlace, uploadRowOf, partsRowOf, passedParts, firstDue};
 ghost use Rattle.find.specs.Known.{rowsIn, WholeOpen, WholeRow, WholePlace, OfOpen, OfOpenAt, OfOpenBefore};
 
 // The row of the upload with this number, or where it would stand.
@@ -41,6 +41,19 @@ pub fn rows_end(tables: &[u8], arena: &[u8]) -> RowPlace
     seek_first(tables, arena, Goal::End)
 }
 
+// The end of the rows, from the place of one of them on.
+pub fn rows_end_from(tables: &[u8], arena: &[u8], place: Lookup) -> RowPlace
+    requires { ⌜ WholePlace (now tables) (now arena) (placeOf place) ⌝ }
+    ensures { λ r. ⌜ r ≡ placeAfter (rowsIn (now (tables .entry)) (now (arena .entry))) ⌝ }
+{
+    let from = RowPlace {
+        row: place.row,
+        at: place.at,
+        base: place.base,
+    };
+    seek(tables, arena, from, Goal::End)
+}
+
 // The sum of the lengths of all data.
 pub fn held(tables: &[u8], arena: &[u8]) -> usize
     requires { ⌜ whole (now tables) (now arena) ≡ true ⌝ }
@@ -59,6 +72,7 @@ pub fn find_upload(tables: &[u8], arena: &[u8], upload: u32) -> Lookup
     let found = stands(tables, arena, here, layout::UPLOAD_KIND, upload);
     Lookup {
         found,
+        row: here.row,
         at: here.at,
         base: here.base,
     }
@@ -74,6 +88,7 @@ pub fn find_part_from(tables: &[u8], arena: &[u8], first: RowPlace, number: u16)
     let found = stands(tables, arena, here, layout::PART_KIND, number as u32);
     Lookup {
         found,
+        row: here.row,
         at: here.at,
         base: here.base,
     }

@@ -1,10 +1,13 @@
 // The room for an object, the pairs of an upload or a part: refusals of PUT, COPY, INITIATE, PART and COMMIT, by number; 0 for none.
+use find::Lookup;
+use find::RowPlace;
 ghost use mathlib.Core.Path.{_≡_};
 ghost use mathlib.Core.Bool.{true, cond};
 ghost use Prim.Native.Nat.{_+_, _≤_};
 ghost use lib.Dec.{leb};
 ghost use Rattle.machine.specs.Calls.{arenaFull, code};
 ghost use Rattle.layout.specs.Memory.{whole};
+ghost use Rattle.edit.specs.Objects.{ObjectPlaced};
 ghost use Rattle.room.specs.Judged.{PutResult};
 
 // Arena full where n bytes beside those held pass its length, or 0.
@@ -18,22 +21,63 @@ pub fn arena_judge(held: usize, n: usize, arena: usize) -> u8
     0
 }
 
-// An object of n bytes at path, as PUT and COPY put it: table full, arena full or 0. The bytes of the old object are
-// free.
-pub fn object_judge(tables: &[u8], arena: &[u8], path: &[u8], n: usize) -> u8
+// A judgement: the refusal's number, or 0; the place of the path, and the end of the rows.
+pub struct ObjectRoom {
+    pub refusal: u8,
+    pub place: Lookup,
+    pub end: RowPlace,
+}
+
+// An object of n bytes at path, as PUT and COPY put it: table full, arena full or 0, and where it goes. The bytes of the
+// old object are free.
+pub fn object_judge(tables: &[u8], arena: &[u8], path: &[u8], n: usize) -> ObjectRoom
     requires { ⌜ whole (now tables) (now arena) ≡ true ⌝ }
-    ensures { λ r. ⌜ PutResult (now (tables .entry)) (now (arena .entry)) (now (path .entry)) n r ⌝ }
+    ensures { λ r. ⌜ PutResult (now (tables .entry)) (now (arena .entry)) (now (path .entry)) n (r .refusal)
+        × ObjectPlaced (now (tables .entry)) (now (arena .entry)) (now (path .entry)) (r .place) (r .end) ⌝ }
 {
     let place = find::find_object(tables, arena, path);
-    let held = find::held(tables, arena);
+    let end = find::rows_end_from(tables, arena, place);
+    let held = end.base;
     if place.found {
         let h = row::read_head(tables, place.at);
-        return arena_judge(held - h.size as usize, n, arena.len());
+        return ObjectRoom {
+            refusal: arena_judge(held - h.size as usize, n, arena.len()),
+            place,
+            end,
+        };
     }
     let counts = find::read_counts(tables, arena);
     let objects = counts.objects;
     if layout::OBJECTS_MOST <= objects {
-        return types::TABLE_FULL;
+        return ObjectRoom {
+            refusal: types::TABLE_FULL,
+            place,
+            end,
+        };
     }
-    arena_judge(held, n, arena.len())
+    ObjectRoom {
+        refusal: arena_judge(held, n, arena.len()),
+        place,
+        end,
+    }
+}
+
+// A refusal before the place is looked for.
+pub fn refused(n: u8) -> ObjectRoom
+    ensures { λ r. ⌜ r .refusal ≡ n ⌝ }
+{
+    ObjectRoom {
+        refusal: n,
+        place: Lookup {
+            found: false,
+            row: 0,
+            at: 0,
+            base: 0,
+        },
+        end: RowPlace {
+            row: 0,
+            at: 0,
+            base: 0,
+        },
+    }
 }

@@ -52,6 +52,3 @@ module _ (m : Memory) (p : Bytes) where
 
     pub delete-accepted : outcome (DELETE p) m ≡ accept nothing noBuffers (withoutObject s p)
     delete-accepted = path-ok .1 ∙ there .2
-
-    pub delete-there : isSome (lookup byBytes p (s .O)) ≡ true
-    delete-there = ap isSome (there .1)

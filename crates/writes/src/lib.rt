@@ -50,12 +50,22 @@ pub fn put_whole(
         (memory (now (tables .exit)) (now (arena .exit)))
         × WellNumbered r ⌝ }
 {
-    let n = judges::put_judge(tables, arena, stamp, path, content, pairs);
-    if n != 0 {
-        return DoneAnswer::Refused(n);
+    let room = judges::put_judge(tables, arena, stamp, path, content, pairs);
+    if room.refusal != 0 {
+        return DoneAnswer::Refused(room.refusal);
     }
     let digest = md5::digest(content);
-    edit::objects::put_object(tables, arena, stamp.0, digest, path, content, pairs);
+    edit::objects::put_object(
+        tables,
+        arena,
+        room.place,
+        room.end,
+        stamp.0,
+        digest,
+        path,
+        content,
+        pairs,
+    );
     DoneAnswer::Done
 }
 
@@ -86,11 +96,11 @@ pub fn delete_whole(tables: &mut [u8], arena: &mut [u8], path: &[u8]) -> DoneAns
     requires { ⌜ whole (now tables) (now arena) ≡ true ⌝ }
     ensures { λ r. ⌜ MadeWhole (Call.DELETE (now (path .entry))) (memory (now (tables .entry)) (now (arena .entry))) (doneReply r) (memory (now (tables .exit)) (now (arena .exit))) × WellNumbered r ⌝ }
 {
-    let refusal = judges::delete_judge(tables, arena, path);
-    if refusal != 0 {
-        return DoneAnswer::Refused(refusal);
+    let judged = judges::delete_judge(tables, arena, path);
+    if judged.refusal != 0 {
+        return DoneAnswer::Refused(judged.refusal);
     }
-    edit::objects::remove_object(tables, arena, path);
+    edit::objects::remove_object(tables, arena, judged.place);
     DoneAnswer::Done
 }
 

@@ -57,8 +57,8 @@ cast-t32 c = let z = adds (c .before .before) .short in omega arith
 add-t33 : tie.Need-add-t33
 add-t33 c = let z = adds (c .before .before .before) .another in omega (arith, ap (λ (x : Header). x .objects) (c .before .read-header .ensures))
 
-insert-row-requires : tie.Need-insert-row-requires
-insert-row-requires c κs = adds (c .before .before .before .before) .row
+replace-rows-requires : tie.Need-replace-rows-requires
+replace-rows-requires c κs = adds (c .before .before .before .before) .row
 
 sub-rotate : tie.Need-sub-rotate
 sub-rotate c = let z = adds (c .before .before .before .before .before .before .before .before) .base in omega arith
@@ -75,7 +75,7 @@ same-length-2 c = search needs
 returns : tie.Need-returns
 returns c =
     let rotate = c .before .before .rotate in
-    let insert = c .before .before .before .before .before .before .insert-row in
+    let insert = c .before .before .before .before .before .before .replace-rows in
     let header = c .before .before .before .before .before .before .before .before .before .read-header in
     let k = c .before .before .before .before .before .before .before .before .before .before .before in
     adds k .stands (header .result) (insert .last .0) (rotate .last .0) (header .ensures) (insert .ensures) (rotate .ensures) (insert .kept .0) (rotate .kept .0)
@@ -91,7 +91,7 @@ add-object-spec =
     cast-t30
     cast-t32
     add-t33
-    insert-row-requires
+    replace-rows-requires
     sub-rotate
     rotate-requires
     same-length

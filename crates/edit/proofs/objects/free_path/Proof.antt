@@ -14,7 +14,7 @@ remove-object-requires : tie.Need-remove-object-requires
 remove-object-requires c κs =
     let a = c .before .before .before .before .before .before .before .before .before .args in
     let f = c .before .before .before .find-object in
-    (c .before .before .before .before .before .before .before .before .before .pre, place-found (stateOf (a .tables .now) (a .arena .now)) (a .path .now) (f .result) true (f .ensures) (c .before .before .if1 .taken))
+    ((c .before .before .before .before .before .before .before .before .before .pre, (a .path .now, f .ensures)), c .before .before .if1 .taken)
 
 same-length : tie.Need-same-length
 same-length c = search needs
@@ -23,7 +23,9 @@ same-length-2 : tie.Need-same-length-2
 same-length-2 c = search needs
 
 returns : tie.Need-returns
-returns c = search needs
+returns c =
+    let a = c .before .before .before .before .before .before .before .before .before .before .before .before .before .before .args in
+    c .before .before .before .before .remove-object .ensures (a .path .now) (c .before .before .before .before .before .before .before .before .find-object .ensures)
 
 same-length-3 : tie.Need-same-length-3
 same-length-3 c = search needs

@@ -1,32 +1,30 @@
--- `edit::objects::put_object` meets its contract: the path is freed, the block goes after the last byte held, and the object is put in. Assumes nothing.
+-- `edit::objects::put_object` meets its contract: row and block stand in the place of the old ones. Assumes nothing.
 use Prim.Native.Nat.{ℕ}
-use mathlib.Core.Path.{_≡_, sym, ap, _∙_, subst}
+use mathlib.Core.Path.{_≡_, refl, sym, ap, _∙_}
 use mathlib.Core.List.{List}
 use native.Mathlib.Omega.{arith}
 use lib.ListN.{length, take}
 use lib.Seq.{length-take-le}
 use borrow.Author.Needs.{needs}
 use Rattle.number.specs.Number.{AreBytes}
-use Rattle.machine.specs.State.{State, withObject, withoutObject}
-use Rattle.machine.specs.Valid.{Valid}
-use Rattle.stored_pairs.specs.Stored.{pairLengths}
-use Rattle.layout.specs.Rules.{plainKind}
-use Rattle.layout.specs.Memory.{stateOf, Stands}
-use Rattle.layout.proofs.WholeLaws.{whole-stands}
-use Rattle.layout.proofs.StandsLaws.{stands-whole}
-use Rattle.edit.specs.Blocks.{keptOf, Writable}
-use Rattle.edit.specs.Objects.{plainWith, Addable, objectAfterHeld}
-use Rattle.edit.proofs.PutLaws as put
+use Rattle.layout.specs.declared.Header.{Header}
+use Rattle.layout.specs.Memory.{stateOf}
+use Rattle.edit.specs.Blocks.{keptOf}
+use Rattle.edit.specs.Objects.{oldRow}
+use Rattle.edit.proofs.ObjectEdits.{header-inside}
+use Rattle.edit.proofs.ObjectPuts as put
 use Rattle.edit.proofs.objects.put_object.Statement.{statement}
 use Rattle.edit.proofs.objects.put_object.Tie as tie
 
-free-path-requires : tie.Need-free-path-requires
-free-path-requires c κs = search needs
+old-row-requires : tie.Need-old-row-requires
+old-row-requires c κs e =
+    let s = c .before .before .before .before .before .before in
+    put.old-inside (s .args .tables .now) (s .args .arena .now) (λ j. c .before .before .before .before .before .slice-known .given j .fits) (s .pre .2 .0) (s .args .path .now) (s .args .place) (s .pre .0 .0) e
 
--- once the path is freed
-module _ (f : tie.After-free-path) where
+-- once the old row is read
+module _ (o : tie.After-old-row) where
   abbrev start : tie.Start
-  start = f .before .before .before .before .before .before .before .before
+  start = o .before .before .before .before .before .before .before
 
   abbrev t : List ℕ
   t = start .args .tables .now
@@ -37,72 +35,93 @@ module _ (f : tie.After-free-path) where
   abbrev path : List ℕ
   path = start .args .path .now
 
-  abbrev t₁ : List ℕ
-  t₁ = f .free-path .last .0
-
-  abbrev a₁ : List ℕ
-  a₁ = f .free-path .last .1 .0
-
-  valid : Valid (length a) (stateOf t a)
-  valid = whole-stands t a (λ j. f .before .before .before .before .before .before .before .slice-known .given j .fits) (start .pre .1 .0) .valid
-
-rows-end-requires : tie.Need-rows-end-requires
-rows-end-requires c κs = let f = c .before .before .before .before .before .before in stands-whole (t₁ f) (a₁ f) (withoutObject (stateOf (t f) (a f)) (path f)) (f .free-path .ensures)
-
-slice-aggregate-write-block : tie.Need-slice-aggregate-write-block
-slice-aggregate-write-block c = search needs
-
--- once the end of the rows is found
-module _ (e : tie.After-rows-end) where
-  abbrev f : tie.After-free-path
-  f = e .before .before .before .before .before .before .before
-
   abbrev content : List ℕ
-  content = start f .args .content .now
+  content = start .args .content .now
 
   abbrev pairs : List ℕ
-  pairs = start f .args .pairs .now
+  pairs = start .args .pairs .now
 
-write-block-requires : tie.Need-write-block-requires
-write-block-requires c κs =
-    let e = c .before .before in
-    let k = f e in
+  known : AreBytes t
+  known = λ j. o .before .before .before .before .before .before .slice-known .given j .fits
+
+  old-is : o .old-row .result ≡ oldRow (stateOf t a) path
+  old-is = o .old-row .ensures ∙ put.old-row t a known (start .pre .2 .0) path (start .args .place) (start .pre .0 .0)
+
+read-header-requires : tie.Need-read-header-requires
+read-header-requires c κs = let o = c .before in header-inside (t o) (a o) (known o) (start o .pre .2 .0)
+
+slice-aggregate-replace-block : tie.Need-slice-aggregate-replace-block
+slice-aggregate-replace-block c = search needs
+
+replace-block-requires : tie.Need-replace-block-requires
+replace-block-requires c κs =
+    let o = c .before .before .before .before in
+    let s = start o in
+    let r = put.block-room (t o) (a o) (known o) (s .pre .2 .0) (path o) (s .args .place) (s .args .end) (s .pre .0) (s .args .stamp) (s .args .digest) (content o) (keptOf (pairs o)) (s .pre .2 .1) (o .old-row .result) (old-is o) in
+    record { taken = s .pre .1; within = r .0; inside = r .1; room = r .2; lengths-room = omega arith }
+
+-- once the block is written
+module _ (w : tie.After-replace-block) where
+  abbrev o : tie.After-old-row
+  o = w .before .before .before .before .before
+
+  abbrev n : ℕ
+  n = w .replace-block .result .lengths
+
+  abbrev size : ℕ
+  size = w .replace-block .result .bytes
+
+  abbrev lengths : List ℕ
+  lengths = take n (w .replace-block .last .1 .1 .1 .1 .1 .1 .0)
+
+  lengths-length : n ≡ length lengths
+  lengths-length = sym (length-take-le n (w .replace-block .last .1 .1 .1 .1 .1 .1 .0) (let f = w .replace-block .ensures .few in omega (arith, w .replace-block .kept .1 .1 .1 .1 .1 .1 .0)))
+
+cast-t25 : tie.Need-cast-t25
+cast-t25 c =
+    let w = c .before .before .before .before in
+    let k = o w in
     let s = start k in
-    record {
-      taken = s .pre .0;
-      room =
-          put.put-room (stateOf (t k) (a k)) (path k) (content e) (keptOf (pairs e)) (s .args .stamp) (s .args .digest) (length (a k)) (valid k) (s .pre .1 .1) (t₁ k) (a₁ k) (k .free-path .ensures) (k .free-path .kept .1 .0)
-          (e .rows-end .result) (e .rows-end .ensures);
-      lengths-room = omega arith;
-    }
+    let z = put.size-small (t k) (a k) (known k) (s .pre .2 .0) (path k) (s .args .place) (s .args .end) (s .pre .0) (s .args .stamp) (s .args .digest) (content k) (keptOf (pairs k)) (s .pre .2 .1) (k .old-row .result) (old-is k) in
+    omega (arith, w .replace-block .ensures .bytes)
+
+cast-t27 : tie.Need-cast-t27
+cast-t27 c = search needs
+
+cast-t29 : tie.Need-cast-t29
+cast-t29 c =
+    let k = o (c .before .before .before .before) in
+    let s = start k in
+    let z = put.short (t k) (a k) (known k) (s .pre .2 .0) (path k) (s .args .place) (s .args .end) (s .pre .0) (s .args .stamp) (s .args .digest) (content k) (keptOf (pairs k)) (s .pre .2 .1) (k .old-row .result) (old-is k) in
+    omega arith
+
+add-t30 : tie.Need-add-t30
+add-t30 c =
+    let k = o (c .before .before .before .before .before) in
+    let s = start k in
+    let z = put.counted (t k) (a k) (known k) (s .pre .2 .0) (path k) (s .args .place) (s .args .end) (s .pre .0) (s .args .stamp) (s .args .digest) (content k) (keptOf (pairs k)) (s .pre .2 .1) (k .old-row .result) (old-is k) in
+    omega (arith, z .1, ap (λ (x : Header). x .objects) (c .before .before .before .before .before .before .before .before .read-header .ensures))
+
+sub-t31 : tie.Need-sub-t31
+sub-t31 c =
+    let k = o (c .before .before .before .before .before .before) in
+    let s = start k in
+    let z = put.counted (t k) (a k) (known k) (s .pre .2 .0) (path k) (s .args .place) (s .args .end) (s .pre .0) (s .args .stamp) (s .args .digest) (content k) (keptOf (pairs k)) (s .pre .2 .1) (k .old-row .result) (old-is k) in
+    omega (arith, z .0, ap (λ (x : Header). x .objects) (c .before .before .before .before .before .before .before .before .before .read-header .ensures))
 
 array-share-prefix-lengths : tie.Need-array-share-prefix-lengths
 array-share-prefix-lengths c = search needs
 
--- once the block is written
-module _ (w : tie.After-write-block) where
-  abbrev n : ℕ
-  n = w .write-block .result .lengths
+slice-aggregate-replace-rows : tie.Need-slice-aggregate-replace-rows
+slice-aggregate-replace-rows c = lengths-length (c .before .before .before .before .before .before .before .before)
 
-  abbrev lengths : List ℕ
-  lengths = w .write-block .last .1 .1 .1 .1 .0
-
-slice-aggregate-add-object : tie.Need-slice-aggregate-add-object
-slice-aggregate-add-object c =
-    let w = c .before .before .before .before .before .before in
-    let z = w .write-block .ensures .few in
-    sym (length-take-le (n w) (lengths w) (omega (arith, w .write-block .kept .1 .1 .1 .1 .0)))
-
-add-object-requires : tie.Need-add-object-requires
-add-object-requires c κs =
-    let w = c .before .before .before .before .before .before in
-    let e = w .before .before .before in
-    let k = f e in
+replace-rows-requires : tie.Need-replace-rows-requires
+replace-rows-requires c κs =
+    let w = c .before .before .before .before .before .before .before .before in
+    let k = o w in
     let s = start k in
-    let b = w .write-block in
-    subst (λ (ls : List ℕ). Addable (t₁ k) (b .last .0) (s .args .stamp) plainKind 0 (s .args .digest) (path k) ls (b .result .bytes)) (sym (b .ensures .lengths))
-    (put.put-addable (stateOf (t k) (a k)) (path k) (content e) (keptOf (pairs e)) (s .args .stamp) (s .args .digest) (length (a k)) (valid k) (s .pre .1 .1) (t₁ k) (a₁ k) (k .free-path .ensures) (k .free-path .kept .1 .0)
-    (e .rows-end .result) (e .rows-end .ensures) (b .last .0) (b .result .bytes) (b .ensures .bytes) (b .ensures .block) (b .kept .0))
+    put.row-room (t k) (a k) (known k) (s .pre .2 .0) (path k) (s .args .place) (s .args .end) (s .pre .0) (s .args .stamp) (s .args .digest) (content k) (keptOf (pairs k)) (s .pre .2 .1) (k .old-row .result) (old-is k)
+    (lengths w) (n w) (size w) (w .replace-block .ensures .lengths) (lengths-length w) (w .replace-block .ensures .bytes)
 
 same-length : tie.Need-same-length
 same-length c = search needs
@@ -112,28 +131,31 @@ same-length-2 c = search needs
 
 returns : tie.Need-returns
 returns c =
-    let d = c .before .before .before .before in
-    let w = d .before .before .before .before .before .before .before in
-    let e = w .before .before .before in
-    let k = f e in
+    let rows = c .before .before .replace-rows in
+    let w = c .before .before .before .before .before .before .before .before .before .before .before in
+    let header = c .before .before .before .before .before .before .before .before .before .before .before .before .before .before .read-header in
+    let k = o w in
     let s = start k in
-    let b = w .write-block in
-    put.put-stands (stateOf (t k) (a k)) (path k) (content e) (keptOf (pairs e)) (s .args .stamp) (s .args .digest) (length (a k)) (valid k) (s .pre .1 .1) (t₁ k) (a₁ k) (k .free-path .ensures) (k .free-path .kept .1 .0)
-    (e .rows-end .result) (e .rows-end .ensures) (b .last .0) (b .result .bytes) (b .ensures .bytes) (b .ensures .block) (b .kept .0)
-    (d .add-object .last .0) (d .add-object .last .1 .0)
-    (subst (λ (ls : List ℕ). Stands (d .add-object .last .0) (d .add-object .last .1 .0) (withObject (stateOf (t₁ k) (b .last .0)) (path k) (objectAfterHeld (t₁ k) (b .last .0) (s .args .stamp) plainKind 0 (s .args .digest) ls (b .result .bytes)))) (b .ensures .lengths) (d .add-object .ensures))
+    put.put-stands (t k) (a k) (known k) (s .pre .2 .0) (path k) (s .args .place) (s .args .end) (s .pre .0) (s .args .stamp) (s .args .digest) (content k) (keptOf (pairs k)) (s .pre .2 .1) (k .old-row .result) (old-is k)
+    (lengths w) (n w) (size w) (w .replace-block .ensures .lengths) (lengths-length w) (w .replace-block .ensures .bytes)
+    (header .result) (rows .last .0) (w .replace-block .last .0) (header .ensures) (rows .ensures) (w .replace-block .ensures .block) (rows .kept .0) (w .replace-block .kept .0)
 
 pub put-object-spec : {M : Type 1} → statement M
 put-object-spec =
     tie.close
     (tie.spec
-    free-path-requires
-    rows-end-requires
-    slice-aggregate-write-block
-    write-block-requires
+    old-row-requires
+    read-header-requires
+    slice-aggregate-replace-block
+    replace-block-requires
+    cast-t25
+    cast-t27
+    cast-t29
+    add-t30
+    sub-t31
     array-share-prefix-lengths
-    slice-aggregate-add-object
-    add-object-requires
+    slice-aggregate-replace-rows
+    replace-rows-requires
     same-length
     same-length-2
     returns)

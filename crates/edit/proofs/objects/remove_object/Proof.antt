@@ -1,33 +1,58 @@
 -- `edit::objects::remove_object` meets its contract: one row and its data are cut out. Assumes nothing.
-use Rattle.number.specs.Number.{AreBytes}
-use Rattle.layout.specs.declared.Header.{Header}
-use Rattle.edit.proofs.ObjectEdits.{header-inside, remove-head, some-object, remove-rows, remove-data, remove-stands}
-use mathlib.Core.Path.{ap}
+use Prim.Native.Nat.{ℕ}
+use mathlib.Core.Path.{_≡_, ap}
+use mathlib.Core.Bool.{true}
+use mathlib.Core.List.{List}
 use native.Mathlib.Omega.{arith}
 use borrow.Author.Needs.{needs}
+use Rattle.number.specs.Number.{AreBytes}
+use Rattle.order.specs.Order.{byBytes}
+use Rattle.machine.specs.Map.{isSome, lookup}
+use Rattle.layout.specs.declared.Header.{Header}
+use Rattle.layout.specs.Memory.{stateOf}
+use Rattle.find.specs.Places.{objectPlace}
+use Rattle.find.proofs.Answers.{object-row-place}
+use Rattle.edit.proofs.PutLaws.{place-found}
+use Rattle.edit.proofs.ObjectEdits.{header-inside, remove-head, some-object, remove-rows, remove-data, remove-stands}
 use Rattle.edit.proofs.objects.remove_object.Statement.{statement}
 use Rattle.edit.proofs.objects.remove_object.Tie as tie
 
-find-object-requires : tie.Need-find-object-requires
-find-object-requires c κs = search needs
+rows-end-from-requires : tie.Need-rows-end-from-requires
+rows-end-from-requires c κs =
+    let k = c .before .before .before .before in
+    let p = k .pre .0 .1 in
+    (k .pre .0 .0, object-row-place (stateOf (k .args .tables .now) (k .args .arena .now)) (p .0) (k .args .place) (p .1))
 
-rows-end-requires : tie.Need-rows-end-requires
-rows-end-requires c κs = search needs
+-- once the end of the rows is found
+module _ (e : tie.After-rows-end-from) where
+  abbrev start : tie.Start
+  start = e .before .before .before .before .before
+
+  abbrev t : List ℕ
+  t = start .args .tables .now
+
+  abbrev a : List ℕ
+  a = start .args .arena .now
+
+  known : AreBytes t
+  known = λ j. e .before .before .before .before .slice-known .given j .fits
+
+  -- a path that has this place
+  abbrev path : List ℕ
+  path = start .pre .0 .1 .0
+
+  there : (p : List ℕ) → start .args .place ≡ objectPlace (stateOf t a) p → isSome (lookup byBytes p (stateOf t a .O)) ≡ true
+  there p is = place-found (stateOf t a) p (start .args .place) true is (start .pre .1)
 
 read-header-requires : tie.Need-read-header-requires
-read-header-requires c κs =
-    let a = c .before .before .before .before .before .before .before .before .before .before .args in
-    let b : AreBytes (a .tables .now) = λ j. c .before .before .before .before .before .before .before .before .before .slice-known .given j .fits in
-    header-inside (a .tables .now) (a .arena .now) b (c .before .before .before .before .before .before .before .before .before .before .pre .0)
+read-header-requires c κs = let e = c .before in header-inside (t e) (a e) (known e) (start e .pre .0 .0)
 
 read-head-requires : tie.Need-read-head-requires
 read-head-requires c κs =
-    let a = c .before .before .before .before .before .before .before .before .before .before .before .before .args in
-    let b : AreBytes (a .tables .now) = λ j. c .before .before .before .before .before .before .before .before .before .before .before .slice-known .given j .fits in
-    let p = c .before .before .before .before .before .before .before .before .before .before .before .before .pre in
-    let f = c .before .before .before .before .before .before .find-object in
-    let e = c .before .before .before .rows-end in
-    let z = remove-head (a .tables .now) (a .arena .now) b (p .0) (a .path .now) (f .result) (f .ensures) (e .result) (e .ensures) (p .1) in omega arith
+    let e = c .before .before .before in
+    let s = start e in
+    let z = remove-head (t e) (a e) (known e) (s .pre .0 .0) (path e) (s .args .place) (s .pre .0 .1 .1) (e .rows-end-from .result) (e .rows-end-from .ensures) (there e (path e) (s .pre .0 .1 .1)) in
+    omega arith
 
 span-requires : tie.Need-span-requires
 span-requires c κs = search needs
@@ -35,38 +60,29 @@ span-requires c κs = search needs
 cast-m : tie.Need-cast-m
 cast-m c = search needs
 
-sub-t25 : tie.Need-sub-t25
-sub-t25 c =
-    let a = c .before .before .before .before .before .before .before .before .before .before .before .before .before .before .before .before .args in
-    let b : AreBytes (a .tables .now) = λ j. c .before .before .before .before .before .before .before .before .before .before .before .before .before .before .before .slice-known .given j .fits in
-    let p = c .before .before .before .before .before .before .before .before .before .before .before .before .before .before .before .before .pre in
-    let f = c .before .before .before .before .before .before .before .before .before .before .find-object in
-    let e = c .before .before .before .before .before .before .before .rows-end in
+sub-t20 : tie.Need-sub-t20
+sub-t20 c =
+    let e = c .before .before .before .before .before .before .before in
+    let s = start e in
     let h = c .before .before .before .before .before .read-header .ensures in
-    let n = some-object (a .tables .now) (a .arena .now) b (p .0) (a .path .now) (f .result) (f .ensures) (e .result) (e .ensures) (p .1) in
+    let n = some-object (t e) (a e) (known e) (s .pre .0 .0) (path e) (s .args .place) (s .pre .0 .1 .1) (e .rows-end-from .result) (e .rows-end-from .ensures) (there e (path e) (s .pre .0 .1 .1)) in
     omega (arith, ap (λ (x : Header). x .objects) h)
 
 remove-rows-requires : tie.Need-remove-rows-requires
 remove-rows-requires c κs =
-    let a = c .before .before .before .before .before .before .before .before .before .before .before .before .before .before .before .before .before .args in
-    let b : AreBytes (a .tables .now) = λ j. c .before .before .before .before .before .before .before .before .before .before .before .before .before .before .before .before .slice-known .given j .fits in
-    let p = c .before .before .before .before .before .before .before .before .before .before .before .before .before .before .before .before .before .pre in
-    let f = c .before .before .before .before .before .before .before .before .before .before .before .find-object in
-    let e = c .before .before .before .before .before .before .before .before .rows-end in
+    let e = c .before .before .before .before .before .before .before .before in
+    let s = start e in
     let h = c .before .before .before .before .read-head in
-    let r = remove-rows (a .tables .now) (a .arena .now) b (p .0) (a .path .now) (f .result) (f .ensures) (e .result) (e .ensures) (p .1) (h .result) (h .ensures) in
+    let r = remove-rows (t e) (a e) (known e) (s .pre .0 .0) (path e) (s .args .place) (s .pre .0 .1 .1) (e .rows-end-from .result) (e .rows-end-from .ensures) (there e (path e) (s .pre .0 .1 .1)) (h .result) (h .ensures) in
     let w = c .before .before .before .span .ensures in
     (r .0, omega (arith, r .1), r .2)
 
 remove-requires : tie.Need-remove-requires
 remove-requires c κs =
-    let a = c .before .before .before .before .before .before .before .before .before .before .before .before .before .before .before .before .before .before .before .before .before .args in
-    let b : AreBytes (a .tables .now) = λ j. c .before .before .before .before .before .before .before .before .before .before .before .before .before .before .before .before .before .before .before .before .slice-known .given j .fits in
-    let p = c .before .before .before .before .before .before .before .before .before .before .before .before .before .before .before .before .before .before .before .before .before .pre in
-    let f = c .before .before .before .before .before .before .before .before .before .before .before .before .before .before .before .find-object in
-    let e = c .before .before .before .before .before .before .before .before .before .before .before .before .rows-end in
+    let e = c .before .before .before .before .before .before .before .before .before .before .before .before in
+    let s = start e in
     let h = c .before .before .before .before .before .before .before .before .read-head in
-    remove-data (a .tables .now) (a .arena .now) b (p .0) (a .path .now) (f .result) (f .ensures) (e .result) (e .ensures) (p .1) (h .result) (h .ensures)
+    remove-data (t e) (a e) (known e) (s .pre .0 .0) (path e) (s .args .place) (s .pre .0 .1 .1) (e .rows-end-from .result) (e .rows-end-from .ensures) (there e (path e) (s .pre .0 .1 .1)) (h .result) (h .ensures)
 
 same-length : tie.Need-same-length
 same-length c = search needs
@@ -75,27 +91,27 @@ same-length-2 : tie.Need-same-length-2
 same-length-2 c = search needs
 
 returns : tie.Need-returns
-returns c =
-    let a = c .before .before .before .before .before .before .before .before .before .before .before .before .before .before .before .before .before .before .before .before .before .before .before .before .args in
-    let b : AreBytes (a .tables .now) = λ j. c .before .before .before .before .before .before .before .before .before .before .before .before .before .before .before .before .before .before .before .before .before .before .before .slice-known .given j .fits in
-    let p = c .before .before .before .before .before .before .before .before .before .before .before .before .before .before .before .before .before .before .before .before .before .before .before .before .pre in
-    let f = c .before .before .before .before .before .before .before .before .before .before .before .before .before .before .before .before .before .before .find-object in
-    let e = c .before .before .before .before .before .before .before .before .before .before .before .before .before .before .before .rows-end in
+returns c p is =
+    let e = c .before .before .before .before .before .before .before .before .before .before .before .before .before .before .before in
+    let s = start e in
+    let header = c .before .before .before .before .before .before .before .before .before .before .before .before .before .read-header in
     let h = c .before .before .before .before .before .before .before .before .before .before .before .read-head in
-    remove-stands (a .tables .now) (a .arena .now) b (p .0) (a .path .now) (f .result) (f .ensures) (e .result) (e .ensures) (p .1) (h .result) (h .ensures) (c .before .before .before .before .before .before .before .before .before .before .span .result) (c .before .before .before .before .before .before .before .before .before .before .before .before .before .read-header .result) (c .before .before .before .before .before .before .remove-rows .last .0) (c .before .before .remove .last .0)
-    (c .before .before .before .before .before .before .before .before .before .before .span .ensures) (c .before .before .before .before .before .before .before .before .before .before .before .before .before .read-header .ensures) (c .before .before .before .before .before .before .remove-rows .ensures) (c .before .before .remove .ensures) (c .before .before .before .before .before .before .remove-rows .kept .0) (c .before .before .remove .kept .0)
+    let n = c .before .before .before .before .before .before .before .before .before .before .span in
+    let rows = c .before .before .before .before .before .before .remove-rows in
+    let block = c .before .before .remove in
+    remove-stands (t e) (a e) (known e) (s .pre .0 .0) p (s .args .place) is (e .rows-end-from .result) (e .rows-end-from .ensures) (there e p is) (h .result) (h .ensures)
+    (n .result) (header .result) (rows .last .0) (block .last .0) (n .ensures) (header .ensures) (rows .ensures) (block .ensures) (rows .kept .0) (block .kept .0)
 
 pub remove-object-spec : {M : Type 1} → statement M
 remove-object-spec =
     tie.close
     (tie.spec
-    find-object-requires
-    rows-end-requires
+    rows-end-from-requires
     read-header-requires
     read-head-requires
     span-requires
     cast-m
-    sub-t25
+    sub-t20
     remove-rows-requires
     remove-requires
     same-length

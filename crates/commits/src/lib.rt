@@ -80,7 +80,8 @@ fn commit_room(tables: &[u8], arena: &[u8], upload: UploadNumber) -> u8
     let h = row::read_head(tables, at);
     let from = at + row::HEAD_LENGTH;
     let to = from + h.pathlen as usize;
-    room::object_judge(tables, arena, &tables[from..to], 0)
+    let room = room::object_judge(tables, arena, &tables[from..to], 0);
+    room.refusal
 }
 
 // COMMIT's refusal over whole memory, 0 for none.

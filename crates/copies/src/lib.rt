@@ -26,7 +26,8 @@ fn source_judge(tables: &[u8], arena: &[u8], stamp: Stamp, source: &[u8], destin
         return types::NOT_FOUND;
     }
     let h = row::read_head(tables, place.at);
-    room::object_judge(tables, arena, destination, h.size as usize)
+    let room = room::object_judge(tables, arena, destination, h.size as usize);
+    room.refusal
 }
 
 // COPY's refusal over whole memory, 0 for none.

@@ -57,7 +57,7 @@ returns c =
     let d = c .before .before .before in
     let a = start d .args in
     let f = d .before .find-upload in
-    λ x is. path-room (a .tables .now) (a .arena .now) (bytes d) (start d .pre .0) (a .upload .0) (f .result) (f .ensures) (d .read-head .result) (d .read-head .ensures) x is (c .object-judge .result) (c .object-judge .ensures)
+    λ x is. path-room (a .tables .now) (a .arena .now) (bytes d) (start d .pre .0) (a .upload .0) (f .result) (f .ensures) (d .read-head .result) (d .read-head .ensures) x is (c .object-judge .result .refusal) (c .object-judge .ensures .0)
 
 pub commit-room-spec : {M : Type 1} → statement M
 commit-room-spec =

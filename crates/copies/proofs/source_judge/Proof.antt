@@ -60,8 +60,8 @@ returns-2 : tie.Need-returns-2
 returns-2 c =
     let f = c .before .before .before .before .before in
     let h = c .before .before .read-head in
-    judged-source (t f) (a f) (p f) (place f) (there f (not-false _ (c .before .before .before .if1 .left))) (h .result) (h .ensures) (c .object-judge .result) (start f .args .stamp .0) (start f .args .destination .now)
-    (c .object-judge .ensures)
+    judged-source (t f) (a f) (p f) (place f) (there f (not-false _ (c .before .before .before .if1 .left))) (h .result) (h .ensures) (c .object-judge .result .refusal) (start f .args .stamp .0) (start f .args .destination .now)
+    (c .object-judge .ensures .0)
 
 pub source-judge-spec : {M : Type 1} → statement M
 source-judge-spec =

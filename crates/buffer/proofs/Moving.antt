@@ -6,7 +6,7 @@ use native.Mathlib.Nat.{add-suc, add-zero}
 use native.Mathlib.Numerals.{add-one}
 use native.Mathlib.Omega.{arith}
 use lib.ListN.{length, take, drop, getD, set, length-drop, take-append-drop, drop-of-length-le, List·getD-append}
-use lib.Seq.{paste, paste-suc, length-take-le, length-paste-head, getD-append-add, getD-drop, getD-take, take-suc, drop-cons, set-at}
+use lib.Seq.{paste, paste-suc, take-add, length-take-le, length-paste-head, getD-append-add, getD-drop, getD-take, take-suc, drop-cons, set-at}
 
 -- a byte that a move to the left has not come to yet
 pub left-read : (b₀ : List ℕ) (from to i : ℕ) → to ≤ from → from + i < length b₀ → getD (paste b₀ to (drop from b₀) i) (from + i) 0 ≡ getD (drop from b₀) i 0
@@ -80,3 +80,7 @@ module _ (b₀ b : List ℕ) (from to n i : ℕ) (is : b ≡ shifted b₀ from t
       is ∙ ap (λ (k : ℕ). take (to + k) b₀ ++ (drop k (take n (drop from b₀)) ++ drop (to + n) b₀)) q
       ∙ ap (λ (k : ℕ). take k b₀ ++ (take n (drop from b₀) ++ drop (to + n) b₀)) (add-zero to)
       ∙ sym (append-assoc (take to b₀) (take n (drop from b₀)) (drop (to + n) b₀))
+
+-- bytes written over themselves leave the list
+pub in-place : (b : List ℕ) (at n : ℕ) → b ≡ paste b at (drop at b) n
+in-place b at n = sym (ap (λ (l : List ℕ). l ++ drop (at + n) b) (sym (take-add at n b)) ∙ take-append-drop (at + n) b)

@@ -44,20 +44,20 @@ fn move_right(b: &mut [u8], from: usize, to: usize, n: usize)
     }
 }
 
-// The n bytes from `from` on, over those from `to` on, as C's memmove.
+// The n bytes from `from` on, over those from `to` on, as C's memmove. Where they stand there already, it does nothing.
 pub fn copy_within(b: &mut [u8], from: usize, to: usize, n: usize)
     requires { ⌜ (from + n ≤ length (now b)) × (to + n ≤ length (now b)) ⌝ }
     ensures { λ _. ⌜ now (b .exit) ≡ over (now (b .entry)) to (take n (drop from (now (b .entry)))) n ⌝ }
 {
-    if to <= from {
+    if to < from {
         move_left(b, from, to, n);
-    } else {
+    } else if from < to {
         move_right(b, from, to, n);
     }
 }
 
 // The n bytes at `at` give way to src, and those after them up to `used` move to follow it. With n = 0 it inserts, with
-// an empty src it removes.
+// an empty src it removes, and with a src of n bytes nothing moves.
 pub fn splice(b: &mut [u8], at: usize, n: usize, used: usize, src: &[u8])
     requires { ⌜ (at + n ≤ used) × ((used ≤ length (now b)) × (used + length (now src) ≤ length (now b) + n)) ⌝ }
     ensures { λ _. ⌜ now (b .exit) ≡ spliced (now (b .entry)) at n used (now (src .entry)) ⌝ }

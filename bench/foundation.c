@@ -86,15 +86,15 @@ static void openssl_digest(const uint8_t *data, size_t n, uint8_t *out)
     EVP_Digest(data, n, out, NULL, EVP_md5(), NULL);
 }
 
-static void measure_copy_within(const char *name, size_t from, size_t to)
+static void measure_copy_within(const char *name, size_t from, size_t to, size_t n)
 {
     fill(ours, ROOM);
     fill(theirs, ROOM);
-    expect(probe_copy_within(ours, ROOM, from, to, MIB) == 0, name);
-    move(theirs + to, theirs + from, MIB);
+    expect(probe_copy_within(ours, ROOM, from, to, n) == 0, name);
+    move(theirs + to, theirs + from, n);
     expect(memcmp(ours, theirs, ROOM) == 0, name);
-    TIMES(our, their, sink = probe_copy_within(ours, ROOM, from, to, MIB), move(ours + to, ours + from, MIB));
-    time_ratio(name, our, their, 1.6);
+    TIMES(our, their, sink = probe_copy_within(ours, ROOM, from, to, n), move(ours + to, ours + from, n));
+    time_ratio(name, our, their, 1.3);
 }
 
 /* `gone` bytes at the front of a mebibyte give way to `come` others */
@@ -130,16 +130,19 @@ static void measure_rotate(const char *same_change, const char *one_move, size_t
     time_ratio(one_move, again, one, 1.6);
 }
 
-static void measure_compare(const char *name, size_t n)
+/* strings of n bytes that differ at one place */
+static void measure_compare(size_t n, size_t place)
 {
+    char name[64];
+    snprintf(name, sizeof name, "compare, %zu bytes, %s differs", n, place == 0 ? "first" : "last");
     fill(ours, ROOM);
     fill(theirs, ROOM);
-    ours[n - 1] = 1;
-    theirs[n - 1] = 2;
+    ours[place] = 1;
+    theirs[place] = 2;
     expect(probe_compare(ours, n, theirs, n) == 0 && probe_compare(theirs, n, ours, n) == 2 && probe_compare(ours, n, ours, n) == 1, name);
     TIMES(our, their, for (int i = 0; i < 1000; i++) sink = probe_compare(ours, n, theirs, n),
           for (int i = 0; i < 1000; i++) sink = (uint32_t)order(ours, theirs, n));
-    printf("%-34s %9.4f us %9.4f us   time  %5.2f\n", name, our * 1e3, their * 1e3, our / their);
+    printf("%-34s %9.2f ns %9.2f ns   time  %5.2f\n", name, our * 1e6, their * 1e6, our / their);
 }
 
 static int by_size(const void *a, const void *b)
@@ -214,14 +217,22 @@ static void measure_digest(void)
 int main(void)
 {
     printf("%-34s %12s %12s\n", "", "ours", "theirs");
-    measure_copy_within("copy_within left, 1 MiB", 100, 0);
-    measure_copy_within("copy_within right, 1 MiB", 0, 100);
+    measure_copy_within("copy_within left, 1 MiB", 100, 0, MIB);
+    measure_copy_within("copy_within right, 1 MiB", 0, 100, MIB);
+    measure_copy_within("copy_within left by 33, 500 KB", 1033, 1000, 500000);
+    measure_copy_within("copy_within left by 1024, 500 KB", 2024, 1000, 500000);
+    measure_copy_within("copy_within right by 33, 500 KB", 1000, 1033, 500000);
+    measure_copy_within("copy_within right by 1024, 500 KB", 1000, 2024, 500000);
     measure_splice("splice that inserts 33, 1 MiB", 0, 33);
     measure_splice("splice that removes 33, 1 MiB", 33, 0);
     measure_rotate("rotate 1 MiB at 100, same change", "rotate 1 MiB at 100, one move", 100);
     measure_rotate("rotate 1 MiB at 1/3, same change", "rotate 1 MiB at 1/3, one move", MIB / 3);
     measure_rotate("rotate 1 MiB at 1/2, same change", "rotate 1 MiB at 1/2, one move", MIB / 2);
-    measure_compare("compare, 128 bytes", 128);
+    static const size_t compared[] = {4, 8, 16, 24, 32, 64, 128};
+    for (size_t i = 0; i < sizeof compared / sizeof *compared; i++) {
+        measure_compare(compared[i], 0);
+        measure_compare(compared[i], compared[i] - 1);
+    }
     measure_digest();
     return wrong != 0;
 }

@@ -1,12 +1,13 @@
--- Bytes moved within a list, one by one, in the direction that reads each before it is written over. Assumes nothing.
-use mathlib.Core.Path.{_≡_, sym, ap, _∙_}
+-- Bytes moved within a list, one by one, in the direction that reads each before it is written over, and in two pieces. Assumes nothing.
+use mathlib.Core.Path.{_≡_, sym, ap, ap₂, _∙_}
 use mathlib.Core.List.{List, [], _∷_, _++_, append-assoc}
 use Prim.Native.Nat.{ℕ, suc, _+_, _-_, _≤_, _<_}
 use native.Mathlib.Nat.{add-suc, add-zero}
 use native.Mathlib.Numerals.{add-one}
 use native.Mathlib.Omega.{arith}
 use lib.ListN.{length, take, drop, getD, set, length-drop, take-append-drop, drop-of-length-le, List·getD-append}
-use lib.Seq.{paste, paste-suc, take-add, length-take-le, length-paste-head, getD-append-add, getD-drop, getD-take, take-suc, drop-cons, set-at}
+use lib.Seq.{paste, paste-suc, length-paste, take-paste, drop-paste, take-add, take-at, drop-at, take-take, drop-drop, length-take-le, length-paste-head, getD-append-add, getD-drop, getD-take, take-suc, drop-cons, set-at}
+use Rattle.number.proofs.Fields.{drop-take}
 
 -- a byte that a move to the left has not come to yet
 pub left-read : (b₀ : List ℕ) (from to i : ℕ) → to ≤ from → from + i < length b₀ → getD (paste b₀ to (drop from b₀) i) (from + i) 0 ≡ getD (drop from b₀) i 0
@@ -84,3 +85,54 @@ module _ (b₀ b : List ℕ) (from to n i : ℕ) (is : b ≡ shifted b₀ from t
 -- bytes written over themselves leave the list
 pub in-place : (b : List ℕ) (at n : ℕ) → b ≡ paste b at (drop at b) n
 in-place b at n = sym (ap (λ (l : List ℕ). l ++ drop (at + n) b) (sym (take-add at n b)) ∙ take-append-drop (at + n) b)
+
+-- a move to the left in two pieces, the lower first
+pub left-pieces : (b b₁ b₂ : List ℕ) (from to n k : ℕ) → to ≤ from → from + n ≤ length b → k ≤ n
+    → b₁ ≡ paste b to (drop from b) k → b₂ ≡ paste b₁ (to + k) (drop (from + k) b₁) (n - k) → b₂ ≡ paste b to (drop from b) n
+left-pieces b b₁ b₂ from to n k le room kn one two =
+    let s : List ℕ = drop from b in
+    let m : ℕ = n - k in
+    let ks : k ≤ length s = rw (length-drop from b) (omega arith) in
+    let front : take (to + k) b₁ ≡ take to b ++ take k s = ap (take (to + k)) one ∙ take-paste b to s k (omega arith) ks in
+    let back : drop (to + k) b₁ ≡ drop (to + k) b = ap (drop (to + k)) one ∙ drop-paste b to s k (omega arith) ks in
+    let later : (j : ℕ) → drop (to + k + j) b₁ ≡ drop (to + k + j) b =
+    λ j. sym (drop-drop j (to + k) b₁) ∙ ap (drop j) back ∙ drop-drop j (to + k) b in
+    let q : to + k + (from - to) ≡ from + k = omega arith in
+    let read : drop (from + k) b₁ ≡ drop k s = rw q at (later (from - to)) ∙ sym (drop-drop k from b) in
+    let km : k + m ≡ n = omega arith in
+    let end : to + k + m ≡ to + n = omega arith in
+    let all : take k s ++ take m (drop k s) ≡ take n s = sym (take-add k m s) ∙ ap (λ (i : ℕ). take i s) km in
+    two
+    ∙ ap (λ (l : List ℕ). l ++ take m (drop (from + k) b₁) ++ drop (to + k + m) b₁) front
+    ∙ ap₂ (λ (u v : List ℕ). take to b ++ take k s ++ take m u ++ v) read (later m)
+    ∙ ap (λ (l : List ℕ). l ++ drop (to + k + m) b) (append-assoc (take to b) (take k s) (take m (drop k s)))
+    ∙ ap₂ (λ (u : List ℕ) (i : ℕ). take to b ++ u ++ drop i b) all end
+
+-- and to the right, the higher first
+pub right-pieces : (b b₁ b₂ : List ℕ) (from to n k m : ℕ) → from ≤ to → to + n ≤ length b → m + k ≡ n
+    → b₁ ≡ paste b (to + m) (drop (from + m) b) k → b₂ ≡ paste b₁ to (drop from b₁) m → b₂ ≡ paste b to (drop from b) n
+right-pieces b b₁ b₂ from to n k m le room mk one two =
+    let s : List ℕ = drop from b in
+    let upper : List ℕ = take k (drop (from + m) b) in
+    let rest : List ℕ = upper ++ drop (to + m + k) b in
+    let e : b₁ ≡ take (to + m) b ++ rest = one ∙ append-assoc (take (to + m) b) upper (drop (to + m + k) b) in
+    let lt : length (take (to + m) b) ≡ to + m = length-take-le (to + m) b (omega arith) in
+    let front : take (to + m) b₁ ≡ take (to + m) b = ap (take (to + m)) e ∙ take-at (take (to + m) b) rest (to + m) lt in
+    let lower : (j : ℕ) → j ≤ to + m → take j b₁ ≡ take j b =
+    λ j h. sym (take-take j (to + m) b₁ h) ∙ ap (take j) front ∙ take-take j (to + m) b h in
+    let back : drop (to + m) b₁ ≡ rest = ap (drop (to + m)) e ∙ drop-at (take (to + m) b) rest (to + m) lt in
+    let l₁ : length b₁ ≡ length b = ap length one ∙ length-paste b (to + m) (drop (from + m) b) k (omega arith) (rw (length-drop (from + m) b) (omega arith)) in
+    let q : from + m - from ≡ m = omega arith in
+    let part : (l : List ℕ) → from ≤ length l → take m (drop from l) ≡ drop from (take (from + m) l) =
+    λ l h. sym (drop-take from (from + m) l (omega arith) h ∙ ap (λ (i : ℕ). take i (drop from l)) q) in
+    let read : take m (drop from b₁) ≡ take m s =
+    part b₁ (omega arith) ∙ ap (drop from) (lower (from + m) (omega arith)) ∙ sym (part b (omega arith)) in
+    let end : to + m + k ≡ to + n = omega arith in
+    let all : take m s ++ upper ≡ take n s =
+    ap (λ (l : List ℕ). take m s ++ take k l) (sym (drop-drop m from b)) ∙ sym (take-add m k s) ∙ ap (λ (i : ℕ). take i s) mk in
+    two
+    ∙ ap₂ (λ (u v : List ℕ). u ++ v ++ drop (to + m) b₁) (lower to (omega arith)) read
+    ∙ ap (λ (l : List ℕ). take to b ++ take m s ++ l) back
+    ∙ sym (append-assoc (take to b ++ take m s) upper (drop (to + m + k) b))
+    ∙ ap (λ (l : List ℕ). l ++ drop (to + m + k) b) (append-assoc (take to b) (take m s) upper)
+    ∙ ap₂ (λ (u : List ℕ) (i : ℕ). take to b ++ u ++ drop i b) all end

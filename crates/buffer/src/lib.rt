@@ -44,15 +44,31 @@ fn move_right(b: &mut [u8], from: usize, to: usize, n: usize)
     }
 }
 
+// How many of n bytes are moved apart from the others, so that these start or end at a multiple of 64. In a buffer that itself starts
+// at one, none of their words is then written across two lines of the cache. It pays from about 1,024 bytes on.
+fn uneven(past: usize, n: usize) -> usize
+    ensures { λ r. ⌜ r ≤ n ⌝ }
+{
+    if n < 1024 {
+        return 0;
+    }
+    past % 64
+}
+
 // The n bytes from `from` on, over those from `to` on, as C's memmove. Where they stand there already, it does nothing.
 pub fn copy_within(b: &mut [u8], from: usize, to: usize, n: usize)
     requires { ⌜ (from + n ≤ length (now b)) × (to + n ≤ length (now b)) ⌝ }
     ensures { λ _. ⌜ now (b .exit) ≡ over (now (b .entry)) to (take n (drop from (now (b .entry)))) n ⌝ }
 {
     if to < from {
-        move_left(b, from, to, n);
+        let k = uneven(64 - to % 64, n);
+        move_left(b, from, to, k);
+        move_left(b, from + k, to + k, n - k);
     } else if from < to {
-        move_right(b, from, to, n);
+        let k = uneven(to + n, n);
+        let m = n - k;
+        move_right(b, from + m, to + m, k);
+        move_right(b, from, to, m);
     }
 }
 

@@ -127,3 +127,12 @@ module _ (s : State) (u : ℕ) (x : Upload) (f : lookup byNumber u (s .U) ≡ so
       ∙ ap (λ (m : Map ℕ Part). beforeParts s u x ++ (partRows m ++ afterUpload s u)) (insert-new numbers n y (x .parts) g)
       ∙ ap (λ (rs : List Row). beforeParts s u x ++ (rs ++ afterUpload s u)) (part-rows-append (take j (x .parts)) ((n, y) ∷ drop j (x .parts)))
       ∙ simp append-assoc
+
+  pub old-part-rows : (n : ℕ) (z y : Part) → lookup byNumber n (x .parts) ≡ some z → rowsOf (withUpload s u (withPart x n y)) ≡ beforePart s u x n ++ (partRow n y ∷ afterPart s u x n)
+  unfolding beforePart afterPart partRows
+  old-part-rows n z y g =
+      let j = place byNumber n (x .parts) in
+      changed-rows (insert byNumber n y (x .parts))
+      ∙ ap (λ (m : Map ℕ Part). beforeParts s u x ++ (partRows m ++ afterUpload s u)) (insert-old numbers n y z (x .parts) g)
+      ∙ ap (λ (rs : List Row). beforeParts s u x ++ (rs ++ afterUpload s u)) (part-rows-append (take j (x .parts)) ((n, y) ∷ drop (suc j) (x .parts)))
+      ∙ simp append-assoc

@@ -18,6 +18,7 @@ use Rattle.layout.proofs.UploadLaws.{length-part-rows}
 use Rattle.find.specs.declared.RowPlace.{RowPlace}
 use Rattle.find.specs.declared.Lookup.{Lookup}
 use Rattle.find.specs.declared.Numbered.{Numbered}
+use Rattle.find.specs.declared.PassedParts.{PassedParts}
 use Rattle.find.specs.declared.search.Goal.{Goal}
 use Rattle.find.specs.declared.search.Goal.the-variants as goal
 use Rattle.find.specs.Places.{placeAfter, lookupAfter, placeOf, beforeObject, fromObject, objectPlace, beforeUpload, beforeParts, beforePart, throughParts, fromUpload, afterUpload, fromPart, uploadPlace, partPlace, uploadRowOf, partsRowOf, passedParts, firstDue}
@@ -140,6 +141,11 @@ first-part-row s u p q e f = f ∙ ap (λ (i : ℕ). rowPlaceAt (rowsOf s) (i + 
 pub parts-row-place : (s : State) (u : ℕ) (p : RowPlace) → p ≡ partsRowOf s u → isSome (lookup byNumber u (s .U)) ≡ true → IsRowPlace (rowsOf s) p
 parts-row-place s u p e o = is-row-place (rowsOf s) p (length (beforeUpload s u) + 1) e (let l = open-within s u o in omega arith)
 
+-- the place that the lookup of an upload answers
+pub upload-lookup : (s : State) (u : ℕ) (l : Lookup) → l ≡ uploadPlace s u → placeOf l ≡ uploadRowOf s u
+unfolding uploadPlace
+upload-lookup s u l e = ap placeOf e ∙ sym (place-after (rowsOf s) (beforeUpload s u) (fromUpload s u) (upload-place s u))
+
 -- the first that started before a stamp
 pub due-answer : (t : ℕ) (s : State) (p : RowPlace) (r : Numbered) → p ≡ sought (goal.Due t) (rowsOf s) 0 → r ≡ leader uploadKind (drop (p .row) (rowsOf s)) → r ≡ firstDue t s
 unfolding sought
@@ -174,6 +180,18 @@ module _ (s : State) (u : ℕ) (x : Upload) (f : lookup byNumber u (s .U) ≡ so
       let c : p .row - first .row ≡ length ps = omega (arith, first-row, length-append (beforeParts s u x) (partRows ps), length-part-rows ps) in
       let k = q ∙ m ∙ place-after (rowsOf s) (throughParts s u x) (afterUpload s u) (parts-after s u x f) in
       λ i. record { count = c i; next = k i }
+
+-- the places that a lookup of a part, and the pass over all, answer are of a row, or after them all
+pub part-row-place : (s : State) (u : ℕ) (x : Upload) (n : ℕ) (l : Lookup) → lookup byNumber u (s .U) ≡ some x → l ≡ partPlace s u x n → IsRowPlace (rowsOf s) (placeOf l)
+unfolding partPlace
+part-row-place s u x n l f e = lookup-place _ (rowsOf s) (beforePart s u x n) (fromPart s u x n) l e (part-place s u x f n)
+
+pub next-row-place : (s : State) (u : ℕ) (x : Upload) (p : PassedParts) → lookup byNumber u (s .U) ≡ some x → p ≡ passedParts s u x → IsRowPlace (rowsOf s) (p .next)
+unfolding passedParts
+next-row-place s u x p f e =
+    is-row-place (rowsOf s) (p .next) (length (throughParts s u x))
+    (ap (λ (q : PassedParts). q .next) e ∙ sym (place-after (rowsOf s) (throughParts s u x) (afterUpload s u) (parts-after s u x f)))
+    (omega (arith, ap length (parts-after s u x f), length-append (throughParts s u x) (afterUpload s u)))
 
 pub sought-after : (g : Goal) (rs : List Row) (p : RowPlace) (i : ℕ) → p ≡ sought g rs i → i ≤ p .row
 unfolding sought

@@ -10,6 +10,7 @@ pub use counts::read_counts;
 pub use objects::find_object;
 pub use pairs::pairs_size;
 pub use uploads::find_part;
+pub use uploads::find_part_after;
 pub use uploads::find_part_from;
 pub use uploads::find_upload;
 pub use uploads::first_due;
@@ -18,6 +19,7 @@ pub use uploads::parts_end;
 pub use uploads::parts_row;
 pub use uploads::pass_parts;
 pub use uploads::rows_end;
+pub use uploads::rows_end_after;
 pub use uploads::rows_end_from;
 pub use uploads::upload_row;
 

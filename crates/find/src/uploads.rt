@@ -41,7 +41,15 @@ pub fn rows_end(tables: &[u8], arena: &[u8]) -> RowPlace
     seek_first(tables, arena, Goal::End)
 }
 
-// The end of the rows, from the place of one of them on.
+// The same from a row on.
+pub fn rows_end_after(tables: &[u8], arena: &[u8], from: RowPlace) -> RowPlace
+    requires { ⌜ WholePlace (now tables) (now arena) from ⌝ }
+    ensures { λ r. ⌜ r ≡ placeAfter (rowsIn (now (tables .entry)) (now (arena .entry))) ⌝ }
+{
+    seek(tables, arena, from, Goal::End)
+}
+
+// The same from the place that a lookup answers on.
 pub fn rows_end_from(tables: &[u8], arena: &[u8], place: Lookup) -> RowPlace
     requires { ⌜ WholePlace (now tables) (now arena) (placeOf place) ⌝ }
     ensures { λ r. ⌜ r ≡ placeAfter (rowsIn (now (tables .entry)) (now (arena .entry))) ⌝ }
@@ -101,6 +109,21 @@ pub fn find_part(tables: &[u8], arena: &[u8], upload: u32, number: u16) -> Looku
         (λ s x. r ≡ partPlace s upload x number) ⌝ }
 {
     let first = parts_row(tables, arena, upload);
+    find_part_from(tables, arena, first, number)
+}
+
+// The place of a part of the open upload that a lookup found.
+pub fn find_part_after(tables: &[u8], arena: &[u8], upload: Lookup, number: u16) -> Lookup
+    requires { ⌜ WholeRow (now tables) (now arena) (placeOf upload) ⌝ }
+    ensures { λ r. ⌜ OfOpenAt (now (tables .entry)) (now (arena .entry)) (placeOf upload)
+        (λ s u x. r ≡ partPlace s u x number) ⌝ }
+{
+    let here = RowPlace {
+        row: upload.row,
+        at: upload.at,
+        base: upload.base,
+    };
+    let first = next_row(tables, arena, here);
     find_part_from(tables, arena, first, number)
 }
 

@@ -1,4 +1,3 @@
 pub mod UploadEdits
 pub mod PartStates
 pub mod PartEdits
-pub mod PartPuts

@@ -1,209 +1,194 @@
--- A part taken out or put in: what the steps require, and what memory then stands for. Assumes nothing.
+-- A part put in the place of what is there: what the steps require, and what memory then stands for. Assumes nothing.
 use Prim.Native.Nat.{ℕ, _+_, _-_, _≤_, _<_, _^_}
 use mathlib.Core.Path.{_≡_, refl, sym, ap, _∙_, subst}
-use mathlib.Core.Bool.{true}
+use mathlib.Core.Bool.{Bool, true, false}
 use mathlib.Core.List.{List, [], _∷_, _++_}
-use mathlib.Core.Option.{none, some}
+use mathlib.Core.Option.{Option, some}
 use native.Mathlib.Omega.{arith}
-use lib.ListN.{length, take, drop, length-drop}
-use lib.Seq.{length-take-le}
+use lib.ListN.{length, drop, length-append}
 use Rattle.number.specs.Number.{AreBytes}
 use Rattle.md5.specs.declared.words.Digest.{Digest}
 use Rattle.md5.specs.Md5.{bytesOf}
-use Rattle.order.proofs.OrderLaws.{numbers}
-use Rattle.buffer.specs.Buffer.{spliced, rotated}
+use Rattle.buffer.specs.Buffer.{spliced}
 use Rattle.machine.specs.Map.{isSome, byNumber, lookup, total}
-use Rattle.machine.specs.State.{Part, Upload, State, held, partsIn, withUpload, withPart}
-use Rattle.machine.specs.Valid.{Valid, PartOk, UploadOk}
-use Rattle.machine.proofs.MapLaws.{lookup-insert, every-lookup}
-use Rattle.machine.proofs.Counts.{parts-part}
+use Rattle.machine.specs.State.{Part, Upload, State, partsIn, withUpload, withPart}
 use Rattle.row.specs.declared.Head.{Head}
-use Rattle.row.specs.Row.{encodeRows, contentsOf, headAt, headOf, rowBytes, headLength, span, Encodable}
+use Rattle.row.specs.Row.{encodeRow, encodeRows, contentsOf, headAt, headOf, rowBytes, numbersLength, span, Encodable, EncodableAll}
+use Rattle.row.proofs.RowLaws.{length-row, encodable-right}
 use Rattle.layout.specs.declared.Header.{Header}
-use Rattle.layout.specs.Rules.{partKind}
-use Rattle.layout.specs.Memory.{rowsOf, partRow, whole, stateOf, Stands}
-use Rattle.layout.proofs.UploadLaws.{part-encodable}
-use Rattle.layout.proofs.WholeLaws.{whole-stands}
-use Rattle.layout.proofs.StandsLaws.{header-back}
-use Rattle.find.specs.declared.RowPlace.{RowPlace}
 use Rattle.layout.specs.Header.{headerOf, headed, headerAt, headerLength}
+use Rattle.layout.specs.Rules.{partKind, partsMost}
+use Rattle.layout.specs.Memory.{rowsOf, partRow, whole, stateOf, Stands}
+use Rattle.layout.proofs.WholeLaws.{whole-stands}
+use Rattle.layout.proofs.StandsLaws.{header-back, rows-encodable}
+use Rattle.find.specs.declared.RowPlace.{RowPlace}
 use Rattle.find.specs.declared.Lookup.{Lookup}
-use Rattle.find.specs.Places.{placeAfter, beforePart, afterPart, fromPart, partPlace}
-use Rattle.find.proofs.RowsAt.{row-at}
-use Rattle.find.proofs.Splits.{part-place, part-found}
-use Rattle.find.proofs.Found.{is-some}
-use Rattle.edit.proofs.Changes.{without-part-rows, new-part-rows}
-use Rattle.edit.specs.Rows.{Insertable}
+use Rattle.find.specs.Places.{beforePart, afterPart, partPlace}
+use Rattle.find.proofs.RowsAt.{At, row-at}
+use Rattle.find.proofs.Splits.{part-found}
+use Rattle.find.proofs.Found.{is-some, is-none}
+use Rattle.edit.specs.declared.rows.OldRow.{OldRow}
+use Rattle.edit.specs.Rows.{oldRowAt, Replaceable}
 use Rattle.edit.proofs.OneRow as row
-use Rattle.edit_uploads.specs.Parts.{withoutPart, partAfterHeld}
-use Rattle.edit_uploads.proofs.PartStates.{open-once, same-uploads, parts-without, without-part-valid}
+use Rattle.edit_uploads.specs.Parts.{partWith, PartPlaced, PartPuttable}
+use Rattle.edit_uploads.proofs.PartStates.{open-once, partIf, oldParts, oldPart, restParts, was-rows, put-rows, same-uploads, put-count}
 
+-- the part n of the open upload x, looked up
 module _ (t a : List ℕ) (b : AreBytes t) (w : whole t a ≡ true) (u n : ℕ) (x : Upload) (is-open : lookup byNumber u (stateOf t a .U) ≡ some x)
-    (place : Lookup) (place-is : (y : Upload) → lookup byNumber u (stateOf t a .U) ≡ some y → place ≡ partPlace (stateOf t a) u y n)
-    (end : RowPlace) (end-is : end ≡ placeAfter (rowsOf (stateOf t a))) (header : Header) (read : header ≡ headerAt t) where
+    (place : Lookup) (place-is : place ≡ partPlace (stateOf t a) u x n) where
   abbrev s : State
   s = stateOf t a
 
   abbrev stands : Stands t a s
   stands = whole-stands t a b w
 
-  header-is : header ≡ headerOf (length a) s
-  header-is = read ∙ header-back t a s stands
-
-  parts-are : header .parts ≡ total partsIn (s .U)
-  parts-are = ap (λ (h : Header). h .parts) header-is
-
   at-is : place .at ≡ headerLength + length (encodeRows (beforePart s u x n))
   unfolding partPlace
-  at-is = ap (λ (k : Lookup). k .at) (place-is x is-open)
+  at-is = ap (λ (k : Lookup). k .at) place-is
 
   base-is : place .base ≡ length (contentsOf (beforePart s u x n))
   unfolding partPlace
-  base-is = ap (λ (k : Lookup). k .base) (place-is x is-open)
+  base-is = ap (λ (k : Lookup). k .base) place-is
 
-  used-is : end .at ≡ headerLength + length (encodeRows (rowsOf s))
-  used-is = ap (λ (k : RowPlace). k .at) end-is
+  found-is : place .found ≡ isSome (lookup byNumber n (x .parts))
+  unfolding partPlace
+  found-is = ap (λ (k : Lookup). k .found) place-is
 
-  held-is : end .base ≡ length (contentsOf (rowsOf s))
-  held-is = ap (λ (k : RowPlace). k .base) end-is
+  -- what the code reads of the row there
+  module _ (e : place .found ≡ true) where
+    there : (y : Part) × (lookup byNumber n (x .parts) ≡ some y)
+    there = is-some _ (sym found-is ∙ e)
 
-  abbrev counting : ℕ → Header
-  counting m = record { arena = header .arena; next = header .next; objects = header .objects; uploads = header .uploads; parts = m }
+    here : At t a s stands (beforePart s u x n) (partRow n (there .0)) (afterPart s u x n)
+    here = row-at t a s stands (beforePart s u x n) (partRow n (there .0)) (afterPart s u x n) (part-found s u x is-open n (there .0) (there .1))
 
-  -- taken out
-  module _ (there : isSome (lookup byNumber n (x .parts)) ≡ true) where
-    abbrev y : Part
-    y = is-some (lookup byNumber n (x .parts)) there .0
+    pub old-inside : place .at + numbersLength ≤ length t
+    old-inside = let i = here .inside in omega (arith, at-is)
 
-    found : lookup byNumber n (x .parts) ≡ some y
-    found = is-some (lookup byNumber n (x .parts)) there .1
+    old-one : oldRowAt true (headAt (drop (place .at) t)) ≡ oldPart x n
+    unfolding partIf encodeRows contentsOf
+    old-one =
+        let r = partRow n (there .0) in
+        let head : headAt (drop (place .at) t) ≡ headOf r = ap (λ (i : ℕ). headAt (drop i t)) at-is ∙ here .head in
+        let l : span (headOf r) ≡ length (encodeRow r ++ []) = omega (arith, length-row r (here .encodable), length-append (encodeRow r) []) in
+        let z : length (r .content) ≡ length (r .content ++ []) = omega (arith, length-append (r .content) []) in
+        ap (oldRowAt true) head
+        ∙ (λ i. record { rows = 1; length = l i; size = z i })
+        ∙ ap (λ (o : Option Part). record { rows = length (partIf n o); length = length (encodeRows (partIf n o)); size = length (contentsOf (partIf n o)) }) (sym (there .1))
 
-    abbrev s₁ : State
-    s₁ = withUpload s u (withoutPart x n)
+  pub old-row : oldRowAt (place .found) (headAt (drop (place .at) t)) ≡ oldPart x n
+  unfolding partIf encodeRows contentsOf
+  old-row = go (place .found) refl
+    where
+      go : (f : Bool) → place .found ≡ f → oldRowAt f (headAt (drop (place .at) t)) ≡ oldPart x n
+      go true e = old-one e
+      go false e =
+          ap (λ (o : Option Part). record { rows = length (partIf n o); length = length (encodeRows (partIf n o)); size = length (contentsOf (partIf n o)) })
+          (sym (is-none (lookup byNumber n (x .parts)) (sym found-is ∙ e)))
 
-    split : rowsOf s ≡ beforePart s u x n ++ (partRow n y ∷ afterPart s u x n)
-    split = part-found s u x is-open n y found
+-- the head of the row of a part that is put
+abbrev pub partHead : (n size : ℕ) → Head
+partHead n size = record { size = size; number = n; stamp = 0; kind = partKind; pairs = 0; pathlen = 0; count = 0 }
 
-    one-less : total partsIn (s .U) ≡ total partsIn (s₁ .U) + 1
-    one-less = omega (arith, rw found at (parts-without s u x is-open n))
+-- the header with another count of parts
+abbrev pub withParts : Header → ℕ → Header
+withParts h n = record { arena = h .arena; next = h .next; objects = h .objects; uploads = h .uploads; parts = n }
 
-    fewer-is : counting (header .parts - 1) ≡ headerOf (length a) s₁
-    fewer-is =
-        let one : total partsIn (s .U) - 1 ≡ total partsIn (s₁ .U) = omega (arith, one-less) in
-        rw (header-is, one, same-uploads s u x is-open (withoutPart x n))
+-- part n becomes this one
+module _ (t a : List ℕ) (b : AreBytes t) (u n : ℕ) (digest : Digest) (content : List ℕ) (pre : PartPuttable t a u n digest content)
+    (place : Lookup) (end : RowPlace) (placed : PartPlaced t a u n place end) (old : OldRow) (old-is : old ≡ oldRowAt (place .found) (headAt (drop (place .at) t)))
+    (header : Header) (read : header ≡ headerAt t) where
+  abbrev was : State
+  was = stateOf t a
 
-    pub record Removal : Type 0 where
-      pub head : place .at + headLength ≤ length t
-      pub count : 1 ≤ header .parts
+  abbrev x : Upload
+  x = pre .upload
 
-    pub removal : Removal
-    removal =
-        record {
-          head = row.head-inside t a s stands (beforePart s u x n) (partRow n y) (afterPart s u x n) (place .at) (place .base) (end .at) (end .base) at-is base-is used-is held-is split;
-          count = omega (arith, parts-are, one-less);
-        }
+  abbrev y : Part
+  y = partWith digest content
 
-    module _ (head : Head) (head-is : head ≡ headAt (drop (place .at) t)) where
-      no-path : span head ≡ headLength
-      no-path =
-          ap (λ (h : Head). span h)
-          (head-is ∙ ap (λ (i : ℕ). headAt (drop i t)) at-is ∙ row-at t a s stands (beforePart s u x n) (partRow n y) (afterPart s u x n) split .head)
+  abbrev s′ : State
+  s′ = withUpload was u (withPart x n y)
 
-      pub record Cutting : Type 0 where
-        pub rows : (headerLength ≤ place .at) × (place .at + headLength ≤ end .at) × (end .at ≤ length t)
-        pub content : (place .base + head .size ≤ end .base) × (end .base ≤ length a)
-        pub stands : (t′ a′ : List ℕ) → t′ ≡ headed (spliced t (place .at) headLength (end .at) []) (counting (header .parts - 1)) → a′ ≡ spliced a (place .base) (head .size) (end .base) []
-            → length t′ ≡ length t → length a′ ≡ length a → (z : Upload) → lookup byNumber u (s .U) ≡ some z → Stands t′ a′ (withUpload s u (withoutPart z n))
+  abbrev is : Stands t a was
+  is = whole-stands t a b (pre .is-whole)
 
-      pub cutting : Cutting
-      cutting =
-          record {
-            rows =
-                let r = row.rows-inside t a s stands (beforePart s u x n) (partRow n y) (afterPart s u x n) (place .at) (place .base) (end .at) (end .base) at-is base-is used-is held-is split head head-is in
-                (r .0, omega (arith, r .1, no-path), r .2);
-            content = row.data-inside t a s stands (beforePart s u x n) (partRow n y) (afterPart s u x n) (place .at) (place .base) (end .at) (end .base) at-is base-is used-is held-is split head head-is;
-            stands =
-                λ t′ a′ e e′ l l′ z open-z.
-                subst (λ (k : Upload). Stands t′ a′ (withUpload s u (withoutPart k n))) (open-once _ x z is-open open-z)
-                (row.removed-stands t a s stands (beforePart s u x n) (partRow n y) (afterPart s u x n) (place .at) (place .base) (end .at) (end .base) at-is base-is used-is held-is split head head-is
-                s₁ (without-part-valid s u x is-open (length a) n (stands .valid)) (without-part-rows s u x is-open n y found) t′ a′ _ fewer-is
-                (e ∙ ap (λ (i : ℕ). headed (spliced t (place .at) i (end .at) []) (counting (header .parts - 1))) (sym no-path)) e′ l l′);
-          }
+  there-is : place ≡ partPlace was u x n
+  there-is = placed .0 x (pre .is-open)
 
-  -- put in
-  module _ (absent : lookup byNumber n (x .parts) ≡ none) (digest : Digest) (size : ℕ) (room : held s + size ≤ length a)
-      (valid : Valid (length a) (withUpload s u (withPart x n (partAfterHeld t a digest size)))) where
-    abbrev q : Part
-    q = partAfterHeld t a digest size
+  place-at : place .at ≡ headerLength + length (encodeRows (beforePart was u x n))
+  place-at = at-is t a b (pre .is-whole) u n x (pre .is-open) place there-is
 
-    abbrev s₂ : State
-    s₂ = withUpload s u (withPart x n q)
+  place-base : place .base ≡ length (contentsOf (beforePart was u x n))
+  place-base = base-is t a b (pre .is-whole) u n x (pre .is-open) place there-is
 
-    content-length : length (q .content) ≡ size
-    unfolding partAfterHeld
-    content-length = length-take-le size (drop (held s) a) (rw length-drop (let r = room in omega arith))
+  used-is : end .at ≡ headerLength + length (encodeRows (rowsOf was))
+  used-is = ap (λ (k : RowPlace). k .at) (placed .1)
 
-    content-is : take (length (q .content)) (drop (held s) a) ≡ q .content
-    unfolding partAfterHeld
-    content-is = ap (λ (i : ℕ). take i (drop (held s) a)) content-length
+  held-is : end .base ≡ length (contentsOf (rowsOf was))
+  held-is = ap (λ (k : RowPlace). k .base) (placed .1)
 
-    upload-ok : UploadOk (s .N) u (withPart x n q)
-    upload-ok = every-lookup numbers (UploadOk (s .N)) u (withPart x n q) (s₂ .U) (valid .upload) (lookup-insert numbers u (withPart x n q) (s .U))
+  gives-way : old ≡ oldPart x n
+  gives-way = old-is ∙ old-row t a b (pre .is-whole) u n x (pre .is-open) place there-is
 
-    part-ok : PartOk n q
-    part-ok = every-lookup numbers PartOk n q (withPart x n q .parts) (upload-ok .each) (lookup-insert numbers n q (x .parts))
+  length-is : old .length ≡ length (encodeRows (oldParts x n))
+  length-is = ap (λ (k : OldRow). k .length) gives-way
 
-    small : size < 256 ^ 4
-    small = let l = stands .small in omega arith
+  size-is : old .size ≡ length (contentsOf (oldParts x n))
+  size-is = ap (λ (k : OldRow). k .size) gives-way
 
-    row-encodable : Encodable (partRow n q)
-    row-encodable = part-encodable n q (omega (arith, small, content-length)) part-ok
+  split : rowsOf was ≡ beforePart was u x n ++ (oldParts x n ++ restParts was u x n)
+  split = was-rows was u x (pre .is-open) n
 
-    room′ : held s + length (q .content) ≤ length a
-    room′ = omega (arith, content-length)
+  split′ : rowsOf s′ ≡ beforePart was u x n ++ (partRow n y ∷ restParts was u x n)
+  split′ = put-rows was u x (pre .is-open) n y
 
-    split′ : rowsOf s₂ ≡ beforePart s u x n ++ (partRow n q ∷ fromPart s u x n)
-    split′ = new-part-rows s u x is-open n q absent
+  encodable : Encodable (partRow n y)
+  encodable = encodable-right (beforePart was u x n) (partRow n y ∷ restParts was u x n) (subst EncodableAll split′ (rows-encodable (length a) s′ (is .small) (pre .valid))) .0
 
-    one-more : total partsIn (s .U) + 1 ≡ total partsIn (s₂ .U)
-    one-more = omega (arith, rw absent at (parts-part s u n x q is-open))
+  -- how many parts there are, before and after
+  header-is : header ≡ headerOf (length a) was
+  header-is = read ∙ header-back t a was is
 
-    more-is : counting (header .parts + 1) ≡ headerOf (length a) s₂
-    more-is = rw (header-is, one-more, same-uploads s u x is-open (withPart x n q))
+  counted : (old .rows ≤ header .parts + 1) × (header .parts ≤ partsMost) × (header .parts + 1 - old .rows ≡ total partsIn (s′ .U))
+  counted =
+      let m = ap (λ (h : Header). h .parts) header-is in
+      let v = is .valid .parts in
+      let k = put-count was u x (pre .is-open) n y in
+      let r = ap (λ (o : OldRow). o .rows) gives-way in
+      (omega arith, omega arith, omega arith)
 
-    abbrev pub new-head : Head
-    new-head = record { size = size; number = n; stamp = 0; kind = partKind; pairs = 0; pathlen = 0; count = 0 }
+  after-is : withParts header (header .parts + 1 - old .rows) ≡ headerOf (length a) s′
+  after-is = ap (withParts header) (counted .2) ∙ rw (header-is, same-uploads was u x (pre .is-open) n y)
 
-    new-head-is : new-head ≡ headOf (partRow n q)
-    new-head-is = rw content-length
+  pub record Putting : Type 0 where
+    pub room : (place .base + old .size ≤ end .base) × ((end .base ≤ length a) × (end .base + length content ≤ length a + old .size))
+    pub small : length content < 256 ^ 4
+    pub few : header .parts ≤ partsMost
+    pub fewer : old .rows ≤ header .parts + 1
+    pub rows : Replaceable t (place .at) (old .length) (end .at) (partHead n (length content)) [] []
+    pub stands : (t′ a′ : List ℕ)
+        → t′ ≡ headed (spliced t (place .at) (old .length) (end .at) (rowBytes (partHead n (length content)) (bytesOf digest) [] [])) (withParts header (header .parts + 1 - old .rows))
+        → a′ ≡ spliced a (place .base) (old .size) (end .base) content → length t′ ≡ length t → length a′ ≡ length a
+        → (z : Upload) → lookup byNumber u (was .U) ≡ some z → Stands t′ a′ (withUpload was u (withPart z n y))
 
-    digest-is : bytesOf digest ≡ partRow n q .digest
-    unfolding partAfterHeld
-    digest-is = refl
-
-    pub record Adding : Type 0 where
-      pub fits : size < 256 ^ 4
-      pub count : header .parts ≤ 255
-      pub rows : Insertable t (place .at) (end .at) new-head [] []
-      pub base : place .base ≤ end .base
-      pub content : place .base + (end .base - place .base) + size ≤ length a
-      pub stands : (t′ a′ : List ℕ) → t′ ≡ headed (spliced t (place .at) 0 (end .at) (rowBytes new-head (bytesOf digest) [] [])) (counting (header .parts + 1))
-          → a′ ≡ rotated a (place .base) (end .base - place .base) size → length t′ ≡ length t → length a′ ≡ length a
-          → (z : Upload) → lookup byNumber u (s .U) ≡ some z → Stands t′ a′ (withUpload s u (withPart z n q))
-
-    pub adding : Adding
-    adding =
-        record {
-          fits = small;
-          count = let l = valid .parts in omega (arith, parts-are, one-more);
-          rows = row.row-room t a s stands (beforePart s u x n) (partRow n q) (fromPart s u x n) (place .at) (place .base) (end .at) (end .base) at-is base-is used-is held-is (part-place s u x is-open n) s₂ valid split′ (omega arith) (omega arith) row-encodable content-is room′ new-head new-head-is;
-          base = row.base-inside t a s stands (beforePart s u x n) (partRow n q) (fromPart s u x n) (place .at) (place .base) (end .at) (end .base) at-is base-is used-is held-is (part-place s u x is-open n) s₂ valid split′ (omega arith) (omega arith) row-encodable content-is room′;
-          content =
-              let d = row.data-room t a s stands (beforePart s u x n) (partRow n q) (fromPart s u x n) (place .at) (place .base) (end .at) (end .base) at-is base-is used-is held-is (part-place s u x is-open n) s₂ valid split′ (omega arith) (omega arith) row-encodable content-is room′ in
-              omega (arith, content-length);
-          stands =
-              λ t′ a′ e e′ l l′ z open-z.
-              subst (λ (k : Upload). Stands t′ a′ (withUpload s u (withPart k n q))) (open-once _ x z is-open open-z)
-              (row.inserted-stands t a s stands (beforePart s u x n) (partRow n q) (fromPart s u x n) (place .at) (place .base) (end .at) (end .base) at-is base-is used-is held-is (part-place s u x is-open n) s₂ valid split′ (omega arith) (omega arith) row-encodable content-is room′
-              t′ a′ [] (bytesOf digest) [] _ _ size more-is new-head-is digest-is refl refl (sym content-length) e e′ l l′);
-        }
+  pub putting : Putting
+  putting =
+      record {
+        room =
+            let r = row.data-room t a was is (beforePart was u x n) (partRow n y) (restParts was u x n) (place .at) (place .base) (end .at) (end .base) place-at place-base used-is held-is
+            (oldParts x n) split s′ (pre .valid) split′ (omega arith) (omega arith) encodable (old .length) (old .size) length-is size-is in
+            (r .0, (r .1, r .2));
+        small = encodable .fits .0;
+        few = counted .1;
+        fewer = counted .0;
+        rows =
+            row.row-room t a was is (beforePart was u x n) (partRow n y) (restParts was u x n) (place .at) (place .base) (end .at) (end .base) place-at place-base used-is held-is
+            (oldParts x n) split s′ (pre .valid) split′ (omega arith) (omega arith) encodable (old .length) (old .size) length-is size-is (partHead n (length content)) refl;
+        stands =
+            λ t′ a′ e e′ l l′ z open-z.
+            subst (λ (k : Upload). Stands t′ a′ (withUpload was u (withPart k n y))) (open-once _ x z (pre .is-open) open-z)
+            (row.replaced-stands t a was is (beforePart was u x n) (partRow n y) (restParts was u x n) (place .at) (place .base) (end .at) (end .base) place-at place-base used-is held-is
+            (oldParts x n) split s′ (pre .valid) split′ (omega arith) (omega arith) encodable (old .length) (old .size) length-is size-is
+            t′ a′ [] (bytesOf digest) [] content _ _ after-is refl refl refl refl refl e e′ l l′);
+      }

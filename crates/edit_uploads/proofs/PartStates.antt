@@ -1,55 +1,77 @@
--- States with a part taken out: counts, and that they keep the rules and ceilings. Assumes nothing.
+-- A state whose open upload has another part: its uploads, its parts, and its rows before and after. Assumes nothing.
 use Prim.Native.Nat.{ℕ, _+_}
-use mathlib.Core.Path.{_≡_}
-use mathlib.Core.Option.{Option, some}
+use mathlib.Core.Path.{_≡_, refl}
+use mathlib.Core.List.{List, [], _∷_, _++_}
+use mathlib.Core.Option.{Option, none, some}
 use native.Mathlib.Omega.{arith}
 use lib.ListN.{length}
 use Rattle.order.proofs.OrderLaws.{numbers}
 use Rattle.machine.specs.Map.{byNumber, lookup, total, owed}
-use Rattle.machine.specs.State.{Part, Upload, State, partLength, partsIn, held, withUpload}
-use Rattle.machine.specs.Valid.{PartOk, UploadOk, Valid}
-use Rattle.machine.proofs.MapSums.{length-insert, length-remove, total-insert, total-remove}
-use Rattle.machine.proofs.MapLaws.{ascending-insert, ascending-remove, every-insert, every-remove, every-lookup}
-use Rattle.machine.proofs.Counts.{held-upload}
-use Rattle.edit_uploads.specs.Parts.{withoutPart}
+use Rattle.machine.specs.State.{Part, Upload, State, partsIn, withUpload, withPart}
+use Rattle.machine.proofs.MapSums.{length-insert}
+use Rattle.machine.proofs.Counts.{parts-part}
+use Rattle.row.specs.Row.{Row, encodeRows, contentsOf}
+use Rattle.layout.specs.Memory.{partRow, rowsOf}
+use Rattle.find.specs.Places.{beforePart, fromPart, afterPart}
+use Rattle.find.proofs.Splits.{part-place, part-found}
+use Rattle.edit.specs.declared.rows.OldRow.{OldRow}
+use Rattle.edit.proofs.Changes.{new-part-rows, old-part-rows}
 
 -- an upload is found once
 pub open-once : (o : Option Upload) (x y : Upload) → o ≡ some x → o ≡ some y → x ≡ y
 open-once o x y e f = cc
 
-module _ (s : State) (u : ℕ) (x : Upload) (is-open : lookup byNumber u (s .U) ≡ some x) where
-  -- another upload in its place: as many uploads
-  pub same-uploads : (y : Upload) → length (s .U) ≡ length (withUpload s u y .U)
-  same-uploads y = omega (arith, rw is-open at (length-insert numbers u y (s .U)))
+-- the row of part n, if there is one
+unfoldable pub partIf : ℕ → Option Part → List Row
+partIf n none = []
+partIf n (some y) = partRow n y ∷ []
 
-  pub parts-without : (n : ℕ) → total partsIn (withUpload s u (withoutPart x n) .U) + owed (λ (y : Part). 1) (lookup byNumber n (x .parts)) ≡ total partsIn (s .U)
-  parts-without n = omega (arith, rw is-open at (total-insert numbers partsIn u (withoutPart x n) (s .U)), length-remove numbers n (x .parts))
+abbrev pub oldParts : Upload → ℕ → List Row
+oldParts x n = partIf n (lookup byNumber n (x .parts))
 
-  pub held-without : (n : ℕ) → held (withUpload s u (withoutPart x n)) + owed partLength (lookup byNumber n (x .parts)) ≡ held s
-  held-without n = omega (arith, rw is-open at (held-upload s u (withoutPart x n)), total-remove numbers partLength n (x .parts))
+-- how many rows that is, and what they take in tables and arena
+abbrev pub oldPart : Upload → ℕ → OldRow
+oldPart x n =
+    record { rows = length (oldParts x n); length = length (encodeRows (oldParts x n)); size = length (contentsOf (oldParts x n)) }
 
-  pub without-part-valid : (A n : ℕ) → Valid A s → Valid A (withUpload s u (withoutPart x n))
-  without-part-valid A n v =
-      let o : UploadOk (s .N) u x = every-lookup numbers (UploadOk (s .N)) u x (s .U) (v .upload) is-open in
-      let k : UploadOk (s .N) u (withoutPart x n) =
-      record {
-        low = o .low;
-        high = o .high;
-        path = o .path;
-        stamp = o .stamp;
-        pairs = o .pairs;
-        sorted = ascending-remove numbers n (x .parts) (o .sorted);
-        each = every-remove numbers PartOk n (x .parts) (o .each);
-      } in
-      record {
-        objects = v .objects;
-        object = v .object;
-        uploads = ascending-insert numbers u (withoutPart x n) (s .U) (v .uploads);
-        upload = every-insert numbers (UploadOk (s .N)) u (withoutPart x n) (s .U) k (v .upload);
-        first = v .first;
-        last = v .last;
-        paths = v .paths;
-        opens = omega (arith, v .opens, same-uploads (withoutPart x n));
-        parts = omega (arith, v .parts, parts-without n);
-        room = omega (arith, v .room, held-without n);
-      }
+-- the rows after it
+unfoldable pub restIf : State → (u : ℕ) → Upload → (n : ℕ) → Option Part → List Row
+restIf s u x n none = fromPart s u x n
+restIf s u x n (some y) = afterPart s u x n
+
+abbrev pub restParts : State → (u : ℕ) → Upload → (n : ℕ) → List Row
+restParts s u x n = restIf s u x n (lookup byNumber n (x .parts))
+
+module _ (s : State) (u : ℕ) (x : Upload) (is-open : lookup byNumber u (s .U) ≡ some x) (n : ℕ) where
+  -- the part that is there, if any, and the rows after it, before and after a part is put
+  pub was-rows : rowsOf s ≡ beforePart s u x n ++ (oldParts x n ++ restParts s u x n)
+  unfolding partIf restIf
+  was-rows = go (lookup byNumber n (x .parts)) refl
+    where
+      go : (o : Option Part) → lookup byNumber n (x .parts) ≡ o → rowsOf s ≡ beforePart s u x n ++ (partIf n o ++ restIf s u x n o)
+      go none f = part-place s u x is-open n
+      go (some y) f = part-found s u x is-open n y f
+
+  module _ (y : Part) where
+    abbrev s′ : State
+    s′ = withUpload s u (withPart x n y)
+
+    pub put-rows : rowsOf s′ ≡ beforePart s u x n ++ (partRow n y ∷ restParts s u x n)
+    unfolding restIf
+    put-rows = go (lookup byNumber n (x .parts)) refl
+      where
+        go : (o : Option Part) → lookup byNumber n (x .parts) ≡ o → rowsOf s′ ≡ beforePart s u x n ++ (partRow n y ∷ restIf s u x n o)
+        go none f = new-part-rows s u x is-open n y f
+        go (some z) f = old-part-rows s u x is-open n z y f
+
+    -- as many uploads then, and how many parts
+    pub same-uploads : length (s .U) ≡ length (s′ .U)
+    same-uploads = omega (arith, rw is-open at (length-insert numbers u (withPart x n y) (s .U)))
+
+    pub put-count : total partsIn (s′ .U) + length (oldParts x n) ≡ total partsIn (s .U) + 1
+    unfolding partIf
+    put-count = go (lookup byNumber n (x .parts)) (parts-part s u n x y is-open)
+      where
+        go : (o : Option Part) → total partsIn (s′ .U) + owed (λ (z : Part). 1) o ≡ total partsIn (s .U) + 1 → total partsIn (s′ .U) + length (partIf n o) ≡ total partsIn (s .U) + 1
+        go none e = e
+        go (some z) e = e

@@ -47,7 +47,7 @@ use Rattle.edit.proofs.Changes.{new-upload-rows, without-upload-rows}
 use Rattle.edit.proofs.Fit.{tables-fit}
 use Rattle.edit.proofs.Standing.{removed}
 use Rattle.edit.proofs.Tail.{tail-stands, tail-read}
-use Rattle.edit.specs.Rows.{Insertable}
+use Rattle.edit.specs.Rows.{Replaceable}
 use Rattle.edit.proofs.OneRow as row
 
 -- the digest of a row that has none
@@ -176,7 +176,7 @@ module _ (t a : List ℕ) (b : AreBytes t) (w : whole t a ≡ true) (end : RowPl
       pub record Opened : Type 0 where
         pub small : size < 256 ^ 4
         pub few : n ≤ 16
-        pub room : Insertable t (end .at) (end .at) head p lengths
+        pub room : Replaceable t (end .at) 0 (end .at) head p lengths
         pub stands : (t′ : List ℕ) → t′ ≡ headed (spliced t (end .at) 0 (end .at) (rowBytes head (bytesOf zeroDigest) p lengths)) opened → length t′ ≡ length t → Stands t′ a′ s′
 
       pub after-block : Opened
@@ -185,8 +185,8 @@ module _ (t a : List ℕ) (b : AreBytes t) (w : whole t a ≡ true) (end : RowPl
             small = omega (arith, size-is, kept-held m (upload-ok .pairs));
             few = omega (arith, twice, length-lengths m, few);
             room =
-                subst (λ (ls : List ℕ). Insertable t (end .at) (end .at) head p ls) (sym lengths-are)
-                (row.row-room t a′ s there (rowsOf s) (uploadRow (s .N) x) [] (end .at) (end .base) (end .at) (end .base) used-is held-is used-is held-is
+                subst (λ (ls : List ℕ). Replaceable t (end .at) 0 (end .at) head p ls) (sym lengths-are)
+                (row.insert-room t a′ s there (rowsOf s) (uploadRow (s .N) x) [] (end .at) (end .base) (end .at) (end .base) used-is held-is used-is held-is
                 split s′ valid′ split′ path-most few row-encodable block-is room′ head head-is);
             stands =
                 λ t′ e′ l.

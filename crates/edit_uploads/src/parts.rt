@@ -1,57 +1,34 @@
-// A part put into an open upload, and taken out. What memory then stands for is said of the upload x that has this
-// number.
+// A part put into an open upload. What memory then stands for is said of the upload x that has this number.
+use find::Lookup;
+use find::RowPlace;
 use layout::Header;
 use md5::words::Digest;
 use row::Head;
 ghost use Rattle.machine.specs.State.{withPart};
-ghost use Rattle.find.specs.Known.{WholeOpen};
-ghost use Rattle.edit_uploads.specs.Parts.{withoutPart, partWith, partAfterHeld, UploadBecomes};
-ghost use Rattle.edit_uploads.specs.Parts.{PartRemovable, PartAddable, PartPuttable};
+ghost use Rattle.edit_uploads.specs.Parts.{partWith, UploadBecomes, PartPlaced, PartPuttable};
 
-// A part that is there, taken out.
-fn remove_part(tables: &mut [u8], arena: &mut [u8], upload: u32, number: u16)
-    requires { ⌜ PartRemovable (now tables) (now arena) upload number ⌝ }
-    ensures { λ _. ⌜ UploadBecomes (now (tables .entry)) (now (arena .entry)) (now (tables .exit)) (now (arena .exit))
-        upload (λ x. withoutPart x number) ⌝ }
-{
-    let place = find::find_part(tables, arena, upload, number);
-    let end = find::rows_end(tables, arena);
-    let header = layout::headers::read_header(tables);
-    let at = place.at;
-    let base = place.base;
-    let h = row::read_head(tables, at);
-    let m = h.size as usize;
-    let after = Header {
-        arena: header.arena,
-        next: header.next,
-        objects: header.objects,
-        uploads: header.uploads,
-        parts: header.parts - 1,
-    };
-    edit::rows::remove_rows(tables, at, row::HEAD_LENGTH, end.at, after);
-    buffer::remove(arena, base, m, end.base);
-}
-
-// A part put in where the upload has none of this number; its data, `size` bytes, stand after the last byte held.
-fn add_part(
+// A part of an open upload becomes this one: its row and its data stand in the place of the old ones, if there are any.
+// `place` is what the lookup of the part answers, and `end` the end of the rows.
+pub fn put_part(
     tables: &mut [u8],
     arena: &mut [u8],
     upload: u32,
     number: u16,
+    place: Lookup,
+    end: RowPlace,
     digest: Digest,
-    size: usize,
+    content: &[u8],
 )
-    requires { ⌜ PartAddable (now tables) (now arena) upload number digest size ⌝ }
+    requires { ⌜ PartPlaced (now tables) (now arena) upload number place end
+        × PartPuttable (now tables) (now arena) upload number digest (now content) ⌝ }
     ensures { λ _. ⌜ UploadBecomes (now (tables .entry)) (now (arena .entry)) (now (tables .exit)) (now (arena .exit))
-        upload (λ x. withPart x number (partAfterHeld (now (tables .entry)) (now (arena .entry)) digest size)) ⌝ }
+        upload (λ x. withPart x number (partWith digest (now (content .entry)))) ⌝ }
 {
-    let place = find::find_part(tables, arena, upload, number);
-    let end = find::rows_end(tables, arena);
+    let old = edit::rows::old_row(tables, place);
     let header = layout::headers::read_header(tables);
-    let base = place.base;
-    let held = end.base;
+    buffer::splice(arena, place.base, old.size, end.base, content);
     let h = Head {
-        size: size as u32,
+        size: content.len() as u32,
         number: number as u32,
         stamp: 0,
         kind: layout::PART_KIND,
@@ -64,40 +41,17 @@ fn add_part(
         next: header.next,
         objects: header.objects,
         uploads: header.uploads,
-        parts: header.parts + 1,
+        parts: header.parts + 1 - old.rows,
     };
-    edit::rows::insert_row(tables, place.at, end.at, h, digest, b"", b"", after);
-    buffer::rotate(arena, base, held - base, size);
-}
-
-// A part of an open upload becomes this one. What stood there goes first, so that its bytes are free.
-pub fn put_part(
-    tables: &mut [u8],
-    arena: &mut [u8],
-    upload: u32,
-    number: u16,
-    digest: Digest,
-    content: &[u8],
-)
-    requires { ⌜ PartPuttable (now tables) (now arena) upload number digest (now content) ⌝ }
-    ensures { λ _. ⌜ UploadBecomes (now (tables .entry)) (now (arena .entry)) (now (tables .exit)) (now (arena .exit))
-        upload (λ x. withPart x number (partWith digest (now (content .entry)))) ⌝ }
-{
-    free_part(tables, arena, upload, number);
-    let end = find::rows_end(tables, arena);
-    let tail = end.base;
-    buffer::copy_at(arena, tail, content);
-    add_part(tables, arena, upload, number, digest, content.len());
-}
-
-// A part of an open upload taken out, if there is one.
-fn free_part(tables: &mut [u8], arena: &mut [u8], upload: u32, number: u16)
-    requires { ⌜ WholeOpen (now tables) (now arena) upload ⌝ }
-    ensures { λ _. ⌜ UploadBecomes (now (tables .entry)) (now (arena .entry)) (now (tables .exit)) (now (arena .exit))
-        upload (λ x. withoutPart x number) ⌝ }
-{
-    let place = find::find_part(tables, arena, upload, number);
-    if place.found {
-        remove_part(tables, arena, upload, number);
-    }
+    edit::rows::replace_rows(
+        tables,
+        place.at,
+        old.length,
+        end.at,
+        h,
+        digest,
+        b"",
+        b"",
+        after,
+    );
 }

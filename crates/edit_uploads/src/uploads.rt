@@ -47,7 +47,7 @@ pub fn open_upload(tables: &mut [u8], arena: &mut [u8], stamp: u64, path: &[u8],
         uploads: header.uploads + 1,
         parts: header.parts,
     };
-    edit::rows::insert_row(tables, used, used, h, digest, path, &lengths[..n], after);
+    edit::rows::replace_rows(tables, used, 0, used, h, digest, path, &lengths[..n], after);
 }
 
 // The upload with this number, taken out with its parts.

@@ -1,4 +1,6 @@
 // PART: a part of an open upload is set.
+use find::Lookup;
+use find::RowPlace;
 use types::Etag;
 use types::PartAnswer;
 use types::PartNumber;
@@ -9,56 +11,104 @@ ghost use lib.ListN.{length};
 ghost use Rattle.machine.specs.Calls.{PART};
 ghost use Rattle.machine.specs.Steps.{partAt};
 ghost use Rattle.layout.specs.Memory.{whole, stateOf};
+ghost use Rattle.find.specs.Places.{uploadPlace};
 ghost use Rattle.find.specs.Known.{WholeOpen};
+ghost use Rattle.edit_uploads.specs.Parts.{PartPlaced};
 ghost use Rattle.contract.specs.Answers.{partReply};
 ghost use Rattle.contract.specs.Made.{memory, outcome, resultOf, Made, MadeWhole};
 
-// The refusal of a part of an open upload: table full, arena full or 0. The bytes of the old part are free.
+// A judgement: the refusal's number, or 0; the place of the part, and the end of the rows.
+struct PartRoom {
+    refusal: u8,
+    place: Lookup,
+    end: RowPlace,
+}
+
+// The refusal of a part of an open upload: table full, arena full or 0, and where the part goes. The bytes of the old part
+// are free. `opened` is what the lookup of the upload answers.
 fn part_room(
     tables: &[u8],
     arena: &[u8],
     upload: UploadNumber,
+    opened: Lookup,
     number: PartNumber,
     content: &[u8],
-) -> u8
-    requires { ⌜ WholeOpen (now tables) (now arena) (upload .0) ⌝ }
-    ensures { λ r. ⌜ r ≡ resultOf (partAt (length (now (arena .entry)))
-        (stateOf (now (tables .entry)) (now (arena .entry))) (upload .0) (number .0) (now (content .entry))) ⌝ }
+) -> PartRoom
+    requires { ⌜ WholeOpen (now tables) (now arena) (upload .0)
+        × (opened ≡ uploadPlace (stateOf (now tables) (now arena)) (upload .0)) ⌝ }
+    ensures { λ r. ⌜ (r .refusal ≡ resultOf (partAt (length (now (arena .entry)))
+        (stateOf (now (tables .entry)) (now (arena .entry))) (upload .0) (number .0) (now (content .entry))))
+        × PartPlaced (now (tables .entry)) (now (arena .entry)) (upload .0) (number .0) (r .place) (r .end) ⌝ }
 {
-    let old = find::find_part(tables, arena, upload.0, number.0);
-    let held = find::held(tables, arena);
-    if old.found {
-        let h = row::read_head(tables, old.at);
-        return room::arena_judge(held - h.size as usize, content.len(), arena.len());
+    let place = find::find_part_after(tables, arena, opened, number.0);
+    let end = find::rows_end_from(tables, arena, place);
+    let held = end.base;
+    if place.found {
+        let h = row::read_head(tables, place.at);
+        return PartRoom {
+            refusal: room::arena_judge(held - h.size as usize, content.len(), arena.len()),
+            place,
+            end,
+        };
     }
     let counts = find::read_counts(tables, arena);
     let parts = counts.parts;
     if layout::PARTS_MOST <= parts {
-        return types::TABLE_FULL;
+        return PartRoom {
+            refusal: types::TABLE_FULL,
+            place,
+            end,
+        };
     }
-    room::arena_judge(held, content.len(), arena.len())
+    PartRoom {
+        refusal: room::arena_judge(held, content.len(), arena.len()),
+        place,
+        end,
+    }
 }
 
-// PART's refusal over whole memory, 0 for none.
+// A refusal before the place of the part is looked for.
+fn refused(n: u8) -> PartRoom
+    ensures { λ r. ⌜ r .refusal ≡ n ⌝ }
+{
+    PartRoom {
+        refusal: n,
+        place: Lookup {
+            found: false,
+            row: 0,
+            at: 0,
+            base: 0,
+        },
+        end: RowPlace {
+            row: 0,
+            at: 0,
+            base: 0,
+        },
+    }
+}
+
+// PART's refusal over whole memory, 0 for none; of an accepted one, where its part goes.
 fn part_judge(
     tables: &[u8],
     arena: &[u8],
     upload: UploadNumber,
     number: PartNumber,
     content: &[u8],
-) -> u8
+) -> PartRoom
     requires { ⌜ whole (now tables) (now arena) ≡ true ⌝ }
-    ensures { λ r. ⌜ r ≡ resultOf (outcome (PART (upload .0) (number .0) (now (content .entry)))
-        (memory (now (tables .entry)) (now (arena .entry)))) ⌝ }
+    ensures { λ r. ⌜ (r .refusal ≡ resultOf (outcome (PART (upload .0) (number .0) (now (content .entry)))
+        (memory (now (tables .entry)) (now (arena .entry)))))
+        × (r .refusal ≡ 0
+        → PartPlaced (now (tables .entry)) (now (arena .entry)) (upload .0) (number .0) (r .place) (r .end)) ⌝ }
 {
     if !names::request_part_ok(number.0) {
-        return types::BAD_REQUEST;
+        return refused(types::BAD_REQUEST);
     }
     let place = find::find_upload(tables, arena, upload.0);
     if !place.found {
-        return types::BAD_REQUEST;
+        return refused(types::BAD_REQUEST);
     }
-    part_room(tables, arena, upload, number, content)
+    part_room(tables, arena, upload, place, number, content)
 }
 
 // PART over whole memory.
@@ -72,12 +122,21 @@ pub fn part_whole(
     requires { ⌜ whole (now tables) (now arena) ≡ true ⌝ }
     ensures { λ r. ⌜ MadeWhole (PART (upload .0) (number .0) (now (content .entry))) (memory (now (tables .entry)) (now (arena .entry))) (partReply r) (memory (now (tables .exit)) (now (arena .exit))) ⌝ }
 {
-    let n = part_judge(tables, arena, upload, number, content);
-    if n != 0 {
-        return PartAnswer::Refused(n);
+    let room = part_judge(tables, arena, upload, number, content);
+    if room.refusal != 0 {
+        return PartAnswer::Refused(room.refusal);
     }
     let digest = md5::digest(content);
-    edit_uploads::parts::put_part(tables, arena, upload.0, number.0, digest, content);
+    edit_uploads::parts::put_part(
+        tables,
+        arena,
+        upload.0,
+        number.0,
+        room.place,
+        room.end,
+        digest,
+        content,
+    );
     PartAnswer::Stored(Etag::Plain(digest))
 }
 

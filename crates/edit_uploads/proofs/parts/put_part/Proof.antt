@@ -1,59 +1,53 @@
--- `edit_uploads::parts::put_part` meets its contract: the old part goes, the data come after the last byte held, and the part is put in.
--- Assumes nothing.
-use mathlib.Core.Path.{ap}
-use mathlib.Core.Option.{Option}
-use lib.ListN.{length}
-use Rattle.machine.specs.Map.{isSome}
-use Rattle.machine.specs.State.{Upload, withUpload}
-use Rattle.layout.specs.Memory.{stateOf}
-use Rattle.layout.proofs.WholeLaws.{whole-stands}
-use Rattle.layout.proofs.StandsLaws.{stands-whole}
-use Rattle.edit_uploads.specs.Parts.{withoutPart}
-use Rattle.edit_uploads.proofs.PartPuts.{put-room, Putting, putting}
+-- `edit_uploads::parts::put_part` meets its contract: row and data stand in the place of the old ones. Assumes nothing.
+use native.Mathlib.Omega.{arith}
 use borrow.Author.Needs.{needs}
+use Rattle.edit.proofs.ObjectEdits.{header-inside}
+use Rattle.edit_uploads.proofs.PartEdits.{old-inside, Putting, putting}
 use Rattle.edit_uploads.proofs.parts.put_part.Statement.{statement}
 use Rattle.edit_uploads.proofs.parts.put_part.Tie as tie
 
-free-part-requires : tie.Need-free-part-requires
-free-part-requires c κs =
-    let p = c .before .before .before .before .before .pre in
-    (p .is-whole, ap (λ (o : Option Upload). isSome o) (p .is-open))
-
-rows-end-requires : tie.Need-rows-end-requires
-rows-end-requires c κs =
-    let f = c .before .before .before .before .before .before in
-    let k = f .before .before .before .before .before .before in
+old-row-requires : tie.Need-old-row-requires
+old-row-requires c κs e =
+    let k = c .before .before .before .before in
     let a = k .args in
-    let p = k .pre in
-    stands-whole (f .free-part .last .0) (f .free-part .last .1 .0) (withUpload (stateOf (a .tables .now) (a .arena .now)) (a .upload) (withoutPart (p .upload) (a .number)))
-    (f .free-part .ensures (p .upload) (p .is-open))
+    let p = k .pre .1 in
+    old-inside (a .tables .now) (a .arena .now) (λ j. c .before .before .before .slice-known .given j .fits) (p .is-whole) (a .upload) (a .number) (p .upload) (p .is-open) (a .place) (k .pre .0 .0 (p .upload) (p .is-open)) e
 
-copy-at-requires : tie.Need-copy-at-requires
-copy-at-requires c κs =
-    let e = c .before in
-    let f = e .before .before .before .before .before .before .before in
-    let y = f .before .before .before .before .before in
-    let a = y .before .args in
-    let p = y .before .pre in
-    put-room (stateOf (a .tables .now) (a .arena .now)) (a .upload) (a .number) (p .upload) (p .is-open) (a .content .now) (a .digest) (length (a .arena .now))
-    (whole-stands (a .tables .now) (a .arena .now) (λ j. y .slice-known .given j .fits) (p .is-whole) .valid) (p .valid)
-    (f .free-part .last .0) (f .free-part .last .1 .0) (f .free-part .ensures) (f .free-part .kept .1 .0) (e .rows-end .result) (e .rows-end .ensures)
+read-header-requires : tie.Need-read-header-requires
+read-header-requires c κs =
+    let k = c .before .before .before .before .before .before in
+    header-inside (k .args .tables .now) (k .args .arena .now) (λ j. c .before .before .before .before .before .slice-known .given j .fits) (k .pre .1 .is-whole)
 
--- what is known once the data are copied
-known : (k : tie.After-copy-at)
-    → let e = k .before .before in
-    let f = e .before .before .before .before .before .before .before in
-    let y = f .before .before .before .before .before in
-    let a = y .before .args in
-    let p = y .before .pre in
-    Putting (stateOf (a .tables .now) (a .arena .now)) (a .upload) (a .number) (p .upload) (p .is-open) (a .content .now) (a .digest) (length (a .arena .now))
-    (whole-stands (a .tables .now) (a .arena .now) (λ j. y .slice-known .given j .fits) (p .is-whole) .valid) (p .valid)
-    (f .free-part .last .0) (f .free-part .last .1 .0) (f .free-part .ensures) (f .free-part .kept .1 .0) (e .rows-end .result) (e .rows-end .ensures)
-    (k .copy-at .last .0) (k .copy-at .ensures) (k .copy-at .kept .0)
-known k = putting _ _ _ _ _ _ _ _ _ _ _ _ _ _ _ _ _ _ _
+-- what is known once the old row and the header are read
+known : (h : tie.After-read-header)
+    → let o = h .before .before in
+    let y = o .before .before .before .before in
+    let k = y .before in
+    let a = k .args in
+    Putting (a .tables .now) (a .arena .now) (λ j. y .slice-known .given j .fits) (a .upload) (a .number) (a .digest) (a .content .now) (k .pre .1) (a .place) (a .end) (k .pre .0)
+    (o .old-row .result) (o .old-row .ensures) (h .read-header .result) (h .read-header .ensures)
+known h = putting _ _ _ _ _ _ _ _ _ _ _ _ _ _ _
 
-add-part-requires : tie.Need-add-part-requires
-add-part-requires c κs = known (c .before .before .before .before) .addable
+splice-requires : tie.Need-splice-requires
+splice-requires c κs = known (c .before) .room
+
+cast-t23 : tie.Need-cast-t23
+cast-t23 c = let z = known (c .before .before .before .before) .small in omega arith
+
+add-t25 : tie.Need-add-t25
+add-t25 c = let z = known (c .before .before .before .before .before) .few in omega arith
+
+sub-t26 : tie.Need-sub-t26
+sub-t26 c = let z = known (c .before .before .before .before .before .before) .fewer in omega arith
+
+slice-aggregate-replace-rows : tie.Need-slice-aggregate-replace-rows
+slice-aggregate-replace-rows c = search needs
+
+slice-aggregate-replace-rows-2 : tie.Need-slice-aggregate-replace-rows-2
+slice-aggregate-replace-rows-2 c = search needs
+
+replace-rows-requires : tie.Need-replace-rows-requires
+replace-rows-requires c κs = known (c .before .before .before .before .before .before .before .before .before) .rows
 
 same-length : tie.Need-same-length
 same-length c = search needs
@@ -63,17 +57,23 @@ same-length-2 c = search needs
 
 returns : tie.Need-returns
 returns c =
-    let d = c .before .before .before .before in
-    known (d .before .before .before .before .before) .stands (d .add-part .last .0) (d .add-part .last .1 .0) (d .add-part .ensures)
+    let r = c .before .before in
+    let m = r .before .before .before .before .before .before .before .before in
+    known (m .before .before) .stands (r .replace-rows .last .0) (m .splice .last .0) (r .replace-rows .ensures) (m .splice .ensures) (r .replace-rows .kept .0) (m .splice .kept .0)
 
 pub put-part-spec : {M : Type 1} → statement M
 put-part-spec =
     tie.close
     (tie.spec
-    free-part-requires
-    rows-end-requires
-    copy-at-requires
-    add-part-requires
+    old-row-requires
+    read-header-requires
+    splice-requires
+    cast-t23
+    add-t25
+    sub-t26
+    slice-aggregate-replace-rows
+    slice-aggregate-replace-rows-2
+    replace-rows-requires
     same-length
     same-length-2
     returns)

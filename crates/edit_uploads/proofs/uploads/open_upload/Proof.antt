@@ -86,11 +86,11 @@ add-t35 c = let z = begun (c .before .before .before .before .before .before .be
 array-share-prefix-lengths : tie.Need-array-share-prefix-lengths
 array-share-prefix-lengths c = search needs
 
-slice-aggregate-insert-row : tie.Need-slice-aggregate-insert-row
-slice-aggregate-insert-row c = sym (lengths-length (c .before .before .before .before .before .before .before .before .before))
+slice-aggregate-replace-rows : tie.Need-slice-aggregate-replace-rows
+slice-aggregate-replace-rows c = sym (lengths-length (c .before .before .before .before .before .before .before .before .before))
 
-insert-row-requires : tie.Need-insert-row-requires
-insert-row-requires c κs = done (c .before .before .before .before .before .before .before .before .before) .room
+replace-rows-requires : tie.Need-replace-rows-requires
+replace-rows-requires c κs = done (c .before .before .before .before .before .before .before .before .before) .room
 
 same-length : tie.Need-same-length
 same-length c = search needs
@@ -101,7 +101,7 @@ same-length-2 c = search needs
 returns : tie.Need-returns
 returns c =
     let i = c .before .before in
-    done (i .before .before .before .before .before .before .before .before .before .before) .stands (i .insert-row .last .0) (i .insert-row .ensures) (i .insert-row .kept .0)
+    done (i .before .before .before .before .before .before .before .before .before .before) .stands (i .replace-rows .last .0) (i .replace-rows .ensures) (i .replace-rows .kept .0)
 
 pub open-upload-spec : {M : Type 1} → statement M
 open-upload-spec =
@@ -119,8 +119,8 @@ open-upload-spec =
     add-t34
     add-t35
     array-share-prefix-lengths
-    slice-aggregate-insert-row
-    insert-row-requires
+    slice-aggregate-replace-rows
+    replace-rows-requires
     same-length
     same-length-2
     returns)

@@ -23,7 +23,7 @@ same-length-2 : tie.Need-same-length-2
 same-length-2 c = search needs
 
 returns : tie.Need-returns
-returns c = judged _ (c .before .part-judge .ensures) (c .if1 .taken)
+returns c = judged _ (c .before .before .part-judge .ensures .0) (c .if1 .taken)
 
 digest-requires : tie.Need-digest-requires
 digest-requires c κs = search needs
@@ -31,11 +31,14 @@ digest-requires c κs = search needs
 put-part-requires : tie.Need-put-part-requires
 put-part-requires c κs =
     let k = c .before .before .before in
-    let s = k .before .before .before .before .before .before .before in
+    let s = k .before .before .before .before .before .before .before .before in
     let a = s .args in
-    let b : AreBytes (a .tables .now) = λ j. k .before .before .before .before .before .before .slice-known .given j .fits in
+    let b : AreBytes (a .tables .now) = λ j. k .before .before .before .before .before .before .before .slice-known .given j .fits in
     let d = c .before .before .digest in
-    part-ready (a .tables .now) (a .arena .now) (a .content .now) (a .upload .0) (a .number .0) (d .result) (sym (k .before .part-judge .ensures) ∙ k .if1 .left) (d .ensures) b (s .pre)
+    let r = k .before .before .part-judge .ensures in (
+      r .1 (k .if1 .left),
+      part-ready (a .tables .now) (a .arena .now) (a .content .now) (a .upload .0) (a .number .0) (d .result) (sym (r .0) ∙ k .if1 .left) (d .ensures) b (s .pre),
+    )
 
 same-length-3 : tie.Need-same-length-3
 same-length-3 c = search needs
@@ -46,8 +49,8 @@ same-length-4 c = search needs
 returns-2 : tie.Need-returns-2
 returns-2 c =
     let k = c .before .before .before .before .before .before .before .before in
-    let a = k .before .before .before .before .before .before .before .args in
-    let z = sym (k .before .part-judge .ensures) ∙ k .if1 .left in
+    let a = k .before .before .before .before .before .before .before .before .args in
+    let z = sym (k .before .before .part-judge .ensures .0) ∙ k .if1 .left in
     let d = c .before .before .before .before .before .before .before .digest in
     let o = c .before .before .before .before .put-part in
     let accepted = part-accepted (memory (a .tables .now) (a .arena .now)) (a .upload .0) (a .number .0) (a .content .now) z in

@@ -1,4 +1,6 @@
 // An upload opened, and taken out with its parts.
+use find::Lookup;
+use find::RowPlace;
 use layout::Header;
 use md5::words::Digest;
 use row::Head;
@@ -7,6 +9,8 @@ ghost use mathlib.Core.Bool.{true};
 ghost use Rattle.machine.specs.Pairs.{pairsOk, pairList};
 ghost use Rattle.machine.specs.State.{withUpload, withoutUpload, withNext};
 ghost use Rattle.machine.specs.Steps.{newUpload};
+ghost use Rattle.layout.specs.Memory.{stateOf};
+ghost use Rattle.find.specs.Places.{uploadPlace};
 ghost use Rattle.find.specs.Known.{WholeOpen};
 ghost use Rattle.edit.specs.Blocks.{keptOf};
 ghost use Rattle.edit.specs.Edits.{MayBecome, Becomes};
@@ -50,19 +54,23 @@ pub fn open_upload(tables: &mut [u8], arena: &mut [u8], stamp: u64, path: &[u8],
     edit::rows::replace_rows(tables, used, 0, used, h, digest, path, &lengths[..n], after);
 }
 
-// The upload with this number, taken out with its parts.
-pub fn remove_upload(tables: &mut [u8], arena: &mut [u8], upload: u32)
-    requires { ⌜ WholeOpen (now tables) (now arena) upload ⌝ }
+// The upload with this number, taken out with its parts. `place` is what its lookup answers.
+pub fn remove_upload(tables: &mut [u8], arena: &mut [u8], upload: u32, place: Lookup)
+    requires { ⌜ WholeOpen (now tables) (now arena) upload × (place ≡ uploadPlace (stateOf (now tables) (now arena)) upload) ⌝ }
     ensures { λ _. ⌜ Becomes (now (tables .entry)) (now (arena .entry)) (now (tables .exit)) (now (arena .exit))
         (λ s. withoutUpload s upload) ⌝ }
 {
-    let place = find::find_upload(tables, arena, upload);
-    let parts = find::parts_end(tables, arena, upload);
-    let end = find::rows_end(tables, arena);
-    let header = layout::headers::read_header(tables);
     let at = place.at;
     let base = place.base;
+    let here = RowPlace {
+        row: place.row,
+        at,
+        base,
+    };
+    let parts = find::pass_parts(tables, arena, here);
     let next = parts.next;
+    let end = find::rows_end_after(tables, arena, next);
+    let header = layout::headers::read_header(tables);
     let n = next.at - at;
     let m = next.base - base;
     let after = Header {

@@ -1,23 +1,35 @@
 // ABORT: an open upload leaves the store with its parts.
+use find::Lookup;
 use types::DoneAnswer;
 use types::UploadNumber;
 ghost use mathlib.Core.Path.{_≡_};
 ghost use mathlib.Core.Bool.{true};
 ghost use Rattle.machine.specs.Calls.{ABORT};
-ghost use Rattle.layout.specs.Memory.{whole};
+ghost use Rattle.layout.specs.Memory.{whole, stateOf};
+ghost use Rattle.find.specs.Places.{uploadPlace};
 ghost use Rattle.contract.specs.Answers.{WellNumbered, doneReply};
 ghost use Rattle.contract.specs.Made.{memory, outcome, resultOf, Made, MadeWhole};
 
-// ABORT's refusal over whole memory, 0 for none.
-fn abort_judge(tables: &[u8], arena: &[u8], upload: UploadNumber) -> u8
+// ABORT's refusal, or 0, and where its upload stands.
+struct AbortPlace {
+    refusal: u8,
+    place: Lookup,
+}
+
+// ABORT's refusal over whole memory, 0 for none, and what the lookup of its upload answers.
+fn abort_judge(tables: &[u8], arena: &[u8], upload: UploadNumber) -> AbortPlace
     requires { ⌜ whole (now tables) (now arena) ≡ true ⌝ }
-    ensures { λ r. ⌜ r ≡ resultOf (outcome (ABORT (upload .0)) (memory (now (tables .entry)) (now (arena .entry)))) ⌝ }
+    ensures { λ r. ⌜ (r .refusal ≡ resultOf (outcome (ABORT (upload .0)) (memory (now (tables .entry)) (now (arena .entry)))))
+        × (r .place ≡ uploadPlace (stateOf (now (tables .entry)) (now (arena .entry))) (upload .0)) ⌝ }
 {
     let place = find::find_upload(tables, arena, upload.0);
     if place.found {
-        return 0;
+        return AbortPlace { refusal: 0, place };
     }
-    types::BAD_REQUEST
+    AbortPlace {
+        refusal: types::BAD_REQUEST,
+        place,
+    }
 }
 
 // ABORT over whole memory.
@@ -25,11 +37,11 @@ pub fn abort_whole(tables: &mut [u8], arena: &mut [u8], upload: UploadNumber) ->
     requires { ⌜ whole (now tables) (now arena) ≡ true ⌝ }
     ensures { λ r. ⌜ MadeWhole (ABORT (upload .0)) (memory (now (tables .entry)) (now (arena .entry))) (doneReply r) (memory (now (tables .exit)) (now (arena .exit))) × WellNumbered r ⌝ }
 {
-    let n = abort_judge(tables, arena, upload);
-    if n != 0 {
-        return DoneAnswer::Refused(n);
+    let judged = abort_judge(tables, arena, upload);
+    if judged.refusal != 0 {
+        return DoneAnswer::Refused(judged.refusal);
     }
-    edit_uploads::uploads::remove_upload(tables, arena, upload.0);
+    edit_uploads::uploads::remove_upload(tables, arena, upload.0, judged.place);
     DoneAnswer::Done
 }
 

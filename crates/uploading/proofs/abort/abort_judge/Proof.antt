@@ -12,13 +12,13 @@ returns : tie.Need-returns
 returns c =
     let a = c .before .before .before .before .args in
     let f = c .before .find-upload in
-    abort-open (memory (a .tables .now) (a .arena .now)) (a .upload .0) (f .result) (f .ensures) (c .if1 .taken)
+    (abort-open (memory (a .tables .now) (a .arena .now)) (a .upload .0) (f .result) (f .ensures) (c .if1 .taken), f .ensures)
 
 returns-2 : tie.Need-returns-2
 returns-2 c =
     let a = c .before .before .before .before .args in
     let f = c .before .find-upload in
-    abort-closed (memory (a .tables .now) (a .arena .now)) (a .upload .0) (f .result) (f .ensures) (c .if1 .left)
+    (abort-closed (memory (a .tables .now) (a .arena .now)) (a .upload .0) (f .result) (f .ensures) (c .if1 .left), f .ensures)
 
 pub abort-judge-spec : {M : Type 1} → statement M
 abort-judge-spec = tie.close (tie.spec find-upload-requires returns returns-2)

@@ -18,13 +18,14 @@ same-length-2 : tie.Need-same-length-2
 same-length-2 c = search needs
 
 returns : tie.Need-returns
-returns c = (judged _ (c .before .abort-judge .ensures) (c .if1 .taken), c .if1 .taken)
+returns c = (judged _ (c .before .before .abort-judge .ensures .0) (c .if1 .taken), c .if1 .taken)
 
 remove-upload-requires : tie.Need-remove-upload-requires
 remove-upload-requires c κs =
     let k = c .before .before in
-    let s = k .before .before .before .before .before .before in
-    (s .pre, abort-there (memory (s .args .tables .now) (s .args .arena .now)) (s .args .upload .0) (sym (k .before .abort-judge .ensures) ∙ k .if1 .left))
+    let s = k .before .before .before .before .before .before .before in
+    let r = k .before .before .abort-judge .ensures in
+    ((s .pre, abort-there (memory (s .args .tables .now) (s .args .arena .now)) (s .args .upload .0) (sym (r .0) ∙ k .if1 .left)), r .1)
 
 same-length-3 : tie.Need-same-length-3
 same-length-3 c = search needs
@@ -35,9 +36,9 @@ same-length-4 c = search needs
 returns-2 : tie.Need-returns-2
 returns-2 c =
     let k = c .before .before .before .before .before .before .before in
-    let a = k .before .before .before .before .before .before .args in
+    let a = k .before .before .before .before .before .before .before .args in
     let o = c .before .before .before .before .remove-upload in
-    let accepted = abort-accepted (memory (a .tables .now) (a .arena .now)) (a .upload .0) (sym (k .before .abort-judge .ensures) ∙ k .if1 .left) in
+    let accepted = abort-accepted (memory (a .tables .now) (a .arena .now)) (a .upload .0) (sym (k .before .before .abort-judge .ensures .0) ∙ k .if1 .left) in
     (done nothing noBuffers _ accepted refl (o .ensures) (o .kept .0) (o .kept .1 .0), tt)
 
 pub abort-whole-spec : {M : Type 1} → statement M

@@ -7,7 +7,7 @@ use mathlib.Core.Option.{Option, none, some}
 use native.Mathlib.Omega.{arith}
 use borrow.Author.Tests.{eq-eqb, eqb-true, not-true}
 use lib.Dec.{eqb}
-use lib.ListN.{length}
+use lib.ListN.{length, drop}
 use Rattle.number.specs.Number.{AreBytes}
 use Rattle.order.proofs.OrderLaws.{numbers}
 use Rattle.machine.specs.Map.{isSome, Map, byNumber, lookup, Ascending, Every}
@@ -18,18 +18,20 @@ use Rattle.machine.specs.Fits.{member, distinct, allFound, fits, listedParts}
 use Rattle.machine.proofs.MapLaws.{every-lookup}
 use Rattle.machine.proofs.Options.{both}
 use Rattle.machine.proofs.Fit.{fits-fit, fit-length, distinct-snoc, found-append}
-use Rattle.layout.specs.Memory.{whole, stateOf, Stands}
+use Rattle.layout.specs.Memory.{whole, stateOf, rowsOf, Stands}
 use Rattle.layout.proofs.WholeLaws.{whole-stands}
 use Rattle.find.specs.declared.Lookup.{Lookup}
+use Rattle.find.specs.declared.RowPlace.{RowPlace}
 use Rattle.find.specs.declared.PassedParts.{PassedParts}
-use Rattle.find.specs.Places.{partPlace, passedParts}
+use Rattle.find.specs.Places.{partPlace, partsRowOf, passedParts}
 use Rattle.find.proofs.Found.{is-some}
 use Rattle.contract.specs.Answers.{partList}
 use Rattle.join_order.proofs.Listed.{fit-count}
 use Rattle.join.proofs.UploadBounds.{few-parts}
 use Rattle.join.proofs.Taking.{fit-even}
-use Rattle.commits.specs.Numbers.{numberAt, firstNumbers, numberFits}
+use Rattle.commits.specs.Numbers.{numberAt, firstNumbers, numberFits, inOrder}
 use Rattle.commits.proofs.Listing.{next-number, number-inside, no-number, all-numbers}
+use Rattle.commits.proofs.Ordered.{ordered-fits}
 
 -- a number that stands in the list
 member-inside : (n : ℕ) (ns rest : List ℕ) → member n (ns ++ (n ∷ rest)) ≡ true
@@ -128,6 +130,10 @@ module _ (s : State) (u : ℕ) (x : Upload) (list : Bytes) (i n : ℕ) (told : n
 pub upload-ok : (A : ℕ) (s : State) → Valid A s → (u : ℕ) (x : Upload) → lookup byNumber u (s .U) ≡ some x → UploadOk (s .N) u x
 upload-ok A s v u x f = every-lookup numbers (UploadOk (s .N)) u x (s .U) (v .upload) f
 
+pub count-is : (s : State) (u : ℕ) (x : Upload) (parts : PassedParts) → parts ≡ passedParts s u x → parts .count ≡ length (x .parts)
+unfolding passedParts
+count-is s u x parts e = ap (λ (k : PassedParts). k .count) e
+
 -- what `list_fits` finds in whole memory
 module _ (t a : List ℕ) (b : AreBytes t) (w : whole t a ≡ true) (u : ℕ) (parts : PassedParts) where
   abbrev s : State
@@ -137,19 +143,21 @@ module _ (t a : List ℕ) (b : AreBytes t) (w : whole t a ≡ true) (u : ℕ) (p
   h = whole-stands t a b w
 
   module _ (x : Upload) (f : lookup byNumber u (s .U) ≡ some x) (parts-are : parts ≡ passedParts s u x) where
-    count-is : parts .count ≡ length (x .parts)
-    unfolding passedParts
-    count-is = ap (λ (k : PassedParts). k .count) parts-are
+    counted : parts .count ≡ length (x .parts)
+    counted = count-is s u x parts parts-are
 
     pub unfit-list : (list : Bytes) → (length list ≡ 2 * parts .count → ⊥) → false ≡ fits (partList list) (x .parts)
     unfit-list list other =
         let k = upload-ok (length a) s (h .valid) u x f in
-        unfit-length (x .parts) list (k .sorted) (k .each) (λ e. other (e ∙ ap (λ (n : ℕ). 2 * n) (sym count-is)))
+        unfit-length (x .parts) list (k .sorted) (k .each) (λ e. other (e ∙ ap (λ (n : ℕ). 2 * n) (sym counted)))
+
+    pub ordered-list : (first : RowPlace) → first ≡ partsRowOf s u → (list : Bytes) → length list ≡ 2 * parts .count → inOrder (partList list) (drop (first .row) (rowsOf s)) ≡ true → true ≡ fits (partList list) (x .parts)
+    ordered-list first e list l = ordered-fits s u x f first e list (upload-ok (length a) s (h .valid) u x f .sorted) (l ∙ ap (λ (n : ℕ). 2 * n) counted)
 
     pub fit-list : (list : Bytes) → length list ≡ 2 * parts .count → Passed (x .parts) list (parts .count) → true ≡ fits (partList list) (x .parts)
-    fit-list list e p = passed-all (x .parts) list (e ∙ ap (λ (n : ℕ). 2 * n) count-is) (subst (Passed (x .parts) list) count-is p)
+    fit-list list e p = passed-all (x .parts) list (e ∙ ap (λ (n : ℕ). 2 * n) counted) (subst (Passed (x .parts) list) counted p)
 
   pub count-few : isSome (lookup byNumber u (s .U)) ≡ true → ((x : Upload) → lookup byNumber u (s .U) ≡ some x → parts ≡ passedParts s u x) → parts .count ≤ 256
   count-few is-open parts-are =
       let x = is-some (lookup byNumber u (s .U)) is-open in
-      omega (arith, count-is (x .0) (x .1) (parts-are (x .0) (x .1)), few-parts t a s h u (x .0) (x .1))
+      omega (arith, count-is s u (x .0) parts (parts-are (x .0) (x .1)), few-parts t a s h u (x .0) (x .1))

@@ -7,7 +7,7 @@ use native.Mathlib.Nat.{not-suc-le-zero}
 use native.Mathlib.Omega.{arith}
 use borrow.Author.Tests.{eq-eqb, ne-eqb}
 use lib.Dec.{eqb}
-use lib.ListN.{length, take, drop}
+use lib.ListN.{length, take, drop, drop-of-length-le}
 use Rattle.number.specs.Number.{fromLe}
 use Rattle.machine.specs.Fits.{member}
 use Rattle.machine.proofs.Fit.{member-snoc}
@@ -39,6 +39,14 @@ pair-inside i (x ∷ []) h = absurd (omega arith)
 pair-inside zero (x ∷ (y ∷ bs)) h = ap (λ (n : ℕ). n ∷ partList bs) (omega arith)
 pair-inside (suc i) (x ∷ (y ∷ bs)) h = ap (λ (l : List ℕ). (x + 256 * y) ∷ l) (pair-inside i bs (omega arith))
 
+rest-pair : (i : ℕ) (bs : List ℕ) → pairs (suc i) ≤ length bs
+    → partList (drop (pairs i) bs) ≡ fromLe (take 2 (drop (pairs i) bs)) ∷ partList (drop (pairs (suc i)) bs)
+unfolding partList fromLe
+rest-pair i [] h = absurd (not-suc-le-zero h)
+rest-pair i (x ∷ []) h = absurd (omega arith)
+rest-pair zero (x ∷ (y ∷ bs)) h = ap (λ (n : ℕ). n ∷ partList bs) (omega arith)
+rest-pair (suc i) (x ∷ (y ∷ bs)) h = rest-pair i bs (omega arith)
+
 all-pairs : (i : ℕ) (bs : List ℕ) → length bs ≡ pairs i → (take (pairs i) bs ≡ bs) × (length (partList bs) ≡ i)
 unfolding partList
 all-pairs zero [] h = (refl, refl)
@@ -65,6 +73,17 @@ module _ (bs : List ℕ) (i : ℕ) (inside : 2 * i + 2 ≤ length bs) where
       let rest = partList (drop (pairs (suc i)) bs) in
       (rest, pair-inside i bs (omega (arith, here)) ∙ ap (λ (n : ℕ). partList (take n bs) ++ (fromLe (take 2 (drop n bs)) ∷ rest)) here)
 
+  -- that at i, and those after it
+  pub rest-numbers : partList (drop (2 * i) bs) ≡ numberAt bs i ∷ partList (drop (2 * (i + 1)) bs)
+  rest-numbers =
+      let here = pairs-twice i in
+      let more : pairs (suc i) ≡ 2 * (i + 1) = omega (arith, here) in
+      let step = rest-pair i bs (omega (arith, here)) in
+      sym (ap (λ (n : ℕ). partList (drop n bs)) here)
+      ∙ step
+      ∙ ap (λ (n : ℕ). fromLe (take 2 (drop n bs)) ∷ partList (drop (pairs (suc i)) bs)) here
+      ∙ ap (λ (n : ℕ). numberAt bs i ∷ partList (drop n bs)) more
+
   -- the search for a number, one number on
   member-next : (n : ℕ) → member n (firstNumbers bs (i + 1)) ≡ (member n (firstNumbers bs i) || eqb n (numberAt bs i))
   member-next n = ap (member n) next-number ∙ member-snoc n (numberAt bs i) (firstNumbers bs i)
@@ -78,6 +97,10 @@ module _ (bs : List ℕ) (i : ℕ) (inside : 2 * i + 2 ≤ length bs) where
 pub no-number : (bs : List ℕ) → firstNumbers bs 0 ≡ []
 unfolding partList
 no-number bs = refl
+
+pub no-number-left : (bs : List ℕ) (i : ℕ) → length bs ≤ 2 * i → partList (drop (2 * i) bs) ≡ []
+unfolding partList
+no-number-left bs i l = rw (drop-of-length-le bs l)
 
 -- no odd byte: the numbers are all read
 pub all-numbers : (bs : List ℕ) (i : ℕ) → length bs ≡ 2 * i → (firstNumbers bs i ≡ partList bs) × (length (partList bs) ≡ i)

@@ -5,15 +5,15 @@ use types::UploadNumber;
 ghost use mathlib.Core.Path.{_≡_};
 ghost use mathlib.Core.Bool.{true, cond};
 ghost use Prim.Native.Nat.{_+_, _*_, _≤_};
-ghost use lib.ListN.{length};
+ghost use lib.ListN.{length, drop};
 ghost use Rattle.machine.specs.State.{Object, withObject, withoutUpload, counted};
 ghost use Rattle.machine.specs.Calls.{COMMIT, tableFull, code};
 ghost use Rattle.machine.specs.Fits.{member, fits};
 ghost use Rattle.layout.specs.Memory.{whole};
-ghost use Rattle.find.specs.Known.{WholeOpen, WholePlace, OfOpen, OfOpenBefore};
+ghost use Rattle.find.specs.Known.{rowsIn, WholeOpen, WholePlace, OfOpen, OfOpenBefore};
 ghost use Rattle.contract.specs.Answers.{WellNumbered, doneReply, partList};
 ghost use Rattle.contract.specs.Made.{memory, outcome, resultOf, Made, MadeWhole};
-ghost use Rattle.commits.specs.Numbers.{firstNumbers, numberFits};
+ghost use Rattle.commits.specs.Numbers.{firstNumbers, numberFits, inOrder};
 
 // Whether a number is one of the list's first i.
 fn is_listed_before(list: &[u8], i: usize, number: u16) -> bool
@@ -46,7 +46,27 @@ fn number_fits(tables: &[u8], arena: &[u8], first: RowPlace, list: &[u8], i: usi
     !is_listed_before(list, i, number)
 }
 
-// Whether the list names each part of an open upload one time.
+// Whether the list's numbers are those of the rows from `first` on, in this order.
+fn in_order(tables: &[u8], arena: &[u8], first: RowPlace, list: &[u8], count: usize) -> bool
+    requires { ⌜ WholePlace (now tables) (now arena) first
+        × (first .row + count ≤ length (rowsIn (now tables) (now arena))) × (length (now list) ≡ 2 * count) ⌝ }
+    ensures { λ r. ⌜ r ≡ inOrder (partList (now (list .entry)))
+        (drop (first .row) (rowsIn (now (tables .entry)) (now (arena .entry)))) ⌝ }
+{
+    let mut at = first.at;
+    let mut i: usize = 0;
+    while i < count {
+        let h = row::read_head(tables, at);
+        if number::get_u16(list, 2 * i) as u32 != h.number {
+            return false;
+        }
+        at += row::span(h);
+        i += 1;
+    }
+    true
+}
+
+// Whether the list names each part of an open upload one time. A list in ascending order is walked once.
 fn list_fits(tables: &[u8], arena: &[u8], upload: UploadNumber, list: &[u8]) -> bool
     requires { ⌜ WholeOpen (now tables) (now arena) (upload .0) ⌝ }
     ensures { λ r. ⌜ OfOpen (now (tables .entry)) (now (arena .entry)) (upload .0)
@@ -58,6 +78,9 @@ fn list_fits(tables: &[u8], arena: &[u8], upload: UploadNumber, list: &[u8]) -> 
         return false;
     }
     let first = find::parts_row(tables, arena, upload.0);
+    if in_order(tables, arena, first, list, count) {
+        return true;
+    }
     let mut i: usize = 0;
     while i < count {
         if !number_fits(tables, arena, first, list, i) {

@@ -27,11 +27,13 @@ use Rattle.row.specs.Row.{headAt, headLength, span}
 use Rattle.layout.specs.Memory.{whole, stateOf, Stands}
 use Rattle.layout.proofs.WholeLaws.{whole-stands}
 use Rattle.find.specs.declared.Lookup.{Lookup}
-use Rattle.find.specs.Places.{uploadPlace}
+use Rattle.find.specs.declared.RowPlace.{RowPlace}
+use Rattle.find.specs.Places.{uploadPlace, uploadRowOf}
 use Rattle.find.proofs.Found.{is-some}
 use Rattle.contract.specs.Made.{resultOf}
 use Rattle.contract.proofs.Judging.{pass, result-last}
 use Rattle.join.proofs.PathRead.{head-inside, path-inside, path-copied}
+use Rattle.commits.proofs.Handed.{lookupAt, row-place}
 
 -- The room for the object: what PUT of no bytes asks -------------------------------------------------------------------
 
@@ -54,24 +56,30 @@ module _ (A : ℕ) (s : State) (v : Valid A s) (u : ℕ) (p : Bytes) (y : Object
       ∙ ap (λ (b : Bool). cond b 0 4) same-counted
 
 -- what `commit_room` reads off whole memory
-module _ (t a : List ℕ) (b : AreBytes t) (w : whole t a ≡ true) (u : ℕ) (place : Lookup) (place-is : place ≡ uploadPlace (stateOf t a) u) where
+module _ (t a : List ℕ) (b : AreBytes t) (w : whole t a ≡ true) (u : ℕ) (here : RowPlace) (here-is : here ≡ uploadRowOf (stateOf t a) u) where
   abbrev s : State
   s = stateOf t a
 
   abbrev h : Stands t a s
   h = whole-stands t a b w
 
+  abbrev place : Lookup
+  place = lookupAt s u here
+
+  place-is : place ≡ uploadPlace s u
+  place-is = row-place s u here here-is
+
   module _ (is-open : isSome (lookup byNumber u (s .U)) ≡ true) where
-    pub row-inside : place .at + headLength ≤ length t
+    pub row-inside : here .at + headLength ≤ length t
     row-inside = let x = is-some (lookup byNumber u (s .U)) is-open in head-inside t a s h u (x .0) (x .1) place place-is
 
-    pub path-ends : (head : Head) → head ≡ headAt (drop (place .at) t) → place .at + span head ≤ length t
+    pub path-ends : (head : Head) → head ≡ headAt (drop (here .at) t) → here .at + span head ≤ length t
     path-ends head read = let x = is-some (lookup byNumber u (s .U)) is-open in path-inside t a s h u (x .0) (x .1) place place-is head read
 
-  module _ (head : Head) (read : head ≡ headAt (drop (place .at) t)) (x : Upload) (f : lookup byNumber u (s .U) ≡ some x) where
-    path-read : take (place .at + headLength + head .pathlen - (place .at + headLength)) (drop (place .at + headLength) t) ≡ x .path
+  module _ (head : Head) (read : head ≡ headAt (drop (here .at) t)) (x : Upload) (f : lookup byNumber u (s .U) ≡ some x) where
+    path-read : take (here .at + headLength + head .pathlen - (here .at + headLength)) (drop (here .at + headLength) t) ≡ x .path
     path-read =
-        let from = place .at + headLength in
+        let from = here .at + headLength in
         let src = take (head .pathlen) (drop from t) in
         let long : head .pathlen ≤ length (drop from t) = omega (arith, path-inside t a s h u x f place place-is head read, length-drop from t) in
         rw add-sub-cancel-left
@@ -79,6 +87,6 @@ module _ (t a : List ℕ) (b : AreBytes t) (w : whole t a ≡ true) (u : ℕ) (p
         ∙ path-copied t a s h u x f place place-is head read [] _ src refl refl)
 
     pub path-room : (r : ℕ)
-        → ((stamp : ℕ) (content : Bytes) (m : Map Bytes Bytes) → pairsHeld m + length content ≡ 0 → r ≡ resultOf (putAt (length a) s stamp (take (place .at + headLength + head .pathlen - (place .at + headLength)) (drop (place .at + headLength) t)) content m))
+        → ((stamp : ℕ) (content : Bytes) (m : Map Bytes Bytes) → pairsHeld m + length content ≡ 0 → r ≡ resultOf (putAt (length a) s stamp (take (here .at + headLength + head .pathlen - (here .at + headLength)) (drop (here .at + headLength) t)) content m))
         → (y : Object) → r ≡ cond (counted (withoutUpload (withObject s (x .path) y) u)) 0 4
     path-room r is y = is 0 [] [] refl ∙ ap (λ (p : Bytes). resultOf (putAt (length a) s 0 p [] [])) path-read ∙ room-is (length a) s (h .valid) u (x .path) y

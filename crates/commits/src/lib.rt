@@ -10,7 +10,7 @@ ghost use Rattle.machine.specs.State.{Object, withObject, withoutUpload, counte
 ghost use Rattle.machine.specs.Calls.{COMMIT, tableFull, code};
 ghost use Rattle.machine.specs.Fits.{member, fits};
 ghost use Rattle.layout.specs.Memory.{whole};
-ghost use Rattle.find.specs.Known.{rowsIn, WholeOpen, WholePlace, OfOpen, OfOpenBefore};
+ghost use Rattle.find.specs.Known.{rowsIn, WholeOpenAt, WholePlace, OfOpenAt, OfOpenBefore};
 ghost use Rattle.contract.specs.Answers.{WellNumbered, doneReply, partList};
 ghost use Rattle.contract.specs.Made.{memory, outcome, resultOf, Made, MadeWhole};
 ghost use Rattle.commits.specs.Numbers.{firstNumbers, numberFits, inOrder};
@@ -66,18 +66,19 @@ fn in_order(tables: &[u8], arena: &[u8], first: RowPlace, list: &[u8], count: us
     true
 }
 
-// Whether the list names each part of an open upload one time. A list in ascending order is walked once.
-fn list_fits(tables: &[u8], arena: &[u8], upload: UploadNumber, list: &[u8]) -> bool
-    requires { ⌜ WholeOpen (now tables) (now arena) (upload .0) ⌝ }
-    ensures { λ r. ⌜ OfOpen (now (tables .entry)) (now (arena .entry)) (upload .0)
-        (λ s x. r ≡ fits (partList (now (list .entry))) (x .parts)) ⌝ }
+// Whether the list names each part of the open upload one time whose row stands there. A list in ascending order is
+// walked once.
+fn list_fits(tables: &[u8], arena: &[u8], here: RowPlace, list: &[u8]) -> bool
+    requires { ⌜ WholeOpenAt (now tables) (now arena) here ⌝ }
+    ensures { λ r. ⌜ OfOpenAt (now (tables .entry)) (now (arena .entry)) here
+        (λ s u x. r ≡ fits (partList (now (list .entry))) (x .parts)) ⌝ }
 {
-    let parts = find::parts_end(tables, arena, upload.0);
+    let parts = find::pass_parts(tables, arena, here);
     let count = parts.count;
     if list.len() != 2 * count {
         return false;
     }
-    let first = find::parts_row(tables, arena, upload.0);
+    let first = find::next_row(tables, arena, here);
     if in_order(tables, arena, first, list, count) {
         return true;
     }
@@ -91,15 +92,14 @@ fn list_fits(tables: &[u8], arena: &[u8], upload: UploadNumber, list: &[u8]) -> 
     true
 }
 
-// Table full where the object at an open upload's path would be the 257th, or 0. The upload's data are held already, so
-// the object asks the room of one without data.
-fn commit_room(tables: &[u8], arena: &[u8], upload: UploadNumber) -> u8
-    requires { ⌜ WholeOpen (now tables) (now arena) (upload .0) ⌝ }
-    ensures { λ r. ⌜ OfOpen (now (tables .entry)) (now (arena .entry)) (upload .0) (λ s x. (y : Object)
-        → r ≡ cond (counted (withoutUpload (withObject s (x .path) y) (upload .0))) 0 (code tableFull)) ⌝ }
+// Table full where the object at an open upload's path would be the 257th, or 0; the upload's row stands there. Its data
+// are held already, so the object asks the room of one without data.
+fn commit_room(tables: &[u8], arena: &[u8], here: RowPlace) -> u8
+    requires { ⌜ WholeOpenAt (now tables) (now arena) here ⌝ }
+    ensures { λ r. ⌜ OfOpenAt (now (tables .entry)) (now (arena .entry)) here (λ s u x. (y : Object)
+        → r ≡ cond (counted (withoutUpload (withObject s (x .path) y) u)) 0 (code tableFull)) ⌝ }
 {
-    let place = find::find_upload(tables, arena, upload.0);
-    let at = place.at;
+    let at = here.at;
     let h = row::read_head(tables, at);
     let from = at + row::HEAD_LENGTH;
     let to = from + h.pathlen as usize;
@@ -107,7 +107,7 @@ fn commit_room(tables: &[u8], arena: &[u8], upload: UploadNumber) -> u8
     room.refusal
 }
 
-// COMMIT's refusal over whole memory, 0 for none.
+// COMMIT's refusal over whole memory, 0 for none. The upload is looked up one time.
 fn commit_judge(tables: &[u8], arena: &[u8], upload: UploadNumber, list: &[u8]) -> u8
     requires { ⌜ whole (now tables) (now arena) ≡ true ⌝ }
     ensures { λ r. ⌜ r ≡ resultOf (outcome (COMMIT (upload .0) (partList (now (list .entry))))
@@ -117,10 +117,15 @@ fn commit_judge(tables: &[u8], arena: &[u8], upload: UploadNumber, list: &[u8]) 
     if !place.found {
         return types::BAD_REQUEST;
     }
-    if !list_fits(tables, arena, upload, list) {
+    let here = RowPlace {
+        row: place.row,
+        at: place.at,
+        base: place.base,
+    };
+    if !list_fits(tables, arena, here, list) {
         return types::BAD_REQUEST;
     }
-    commit_room(tables, arena, upload)
+    commit_room(tables, arena, here)
 }
 
 // COMMIT over whole memory.

@@ -28,6 +28,12 @@ module _ (t a : List ℕ) where
   abbrev pub WholeOpen : ℕ → Type 0
   WholeOpen u = (whole t a ≡ true) × (isSome (lookup byNumber u (stateOf t a .U)) ≡ true)
 
+  -- t and a are whole, and p is the place of an open upload's row
+  abbrev pub WholeOpenAt : RowPlace → Type 0
+  WholeOpenAt p =
+      (whole t a ≡ true)
+      × ((u : ℕ) × (p ≡ uploadRowOf (stateOf t a) u) × (isSome (lookup byNumber u (stateOf t a .U)) ≡ true))
+
   -- t and a are whole, and p is the place of a row
   abbrev pub WholeRow : RowPlace → Type 0
   WholeRow p = (whole t a ≡ true) × IsRow rowsIn p

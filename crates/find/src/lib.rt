@@ -9,6 +9,7 @@ pub mod uploads;
 pub use counts::read_counts;
 pub use objects::find_object;
 pub use pairs::pairs_size;
+pub use search::next_row;
 pub use uploads::find_part;
 pub use uploads::find_part_after;
 pub use uploads::find_part_from;

@@ -36,7 +36,7 @@ fn stops(h: Head, goal: Goal) -> bool
 }
 
 // The row after a row.
-pub(crate) fn next_row(tables: &[u8], arena: &[u8], from: RowPlace) -> RowPlace
+pub fn next_row(tables: &[u8], arena: &[u8], from: RowPlace) -> RowPlace
     requires { ⌜ WholeRow (now tables) (now arena) from ⌝ }
     ensures { λ r. ⌜ r ≡ rowPlaceAt (rowsIn (now (tables .entry)) (now (arena .entry))) (from .row + 1) ⌝ }
 {

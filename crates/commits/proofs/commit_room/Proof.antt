@@ -9,27 +9,23 @@ use borrow.Author.Needs.{needs}
 use Rattle.commits.proofs.commit_room.Statement.{statement}
 use Rattle.commits.proofs.commit_room.Tie as tie
 
-find-upload-requires : tie.Need-find-upload-requires
-find-upload-requires c κs = search needs
-
 read-head-requires : tie.Need-read-head-requires
 read-head-requires c κs =
-    let a = c .before .before .before .args in
-    let b : AreBytes (a .tables .now) = λ j. c .before .before .shared-slice-known .given j .fits in
-    let p = c .before .before .before .pre in
-    let f = c .find-upload in
-    omega (arith, row-inside (a .tables .now) (a .arena .now) b (p .0) (a .upload .0) (f .result) (f .ensures) (p .1))
+    let k = c .before .before in
+    let b : AreBytes (k .args .tables .now) = λ j. c .before .shared-slice-known .given j .fits in
+    let p = k .pre .1 in
+    omega (arith, row-inside (k .args .tables .now) (k .args .arena .now) b (k .pre .0) (p .0) (k .args .here) (p .1) (p .2))
 
 -- once the head of the upload's row is read
 module _ (c : tie.After-read-head) where
   abbrev start : tie.Start
-  start = c .before .before .before .before
+  start = c .before .before .before
 
   bytes : AreBytes (start .args .tables .now)
-  bytes = λ j. c .before .before .before .shared-slice-known .given j .fits
+  bytes = λ j. c .before .before .shared-slice-known .given j .fits
 
-  ends : c .before .find-upload .result .at + span (c .read-head .result) ≤ length (start .args .tables .now)
-  ends = let f = c .before .find-upload in path-ends (start .args .tables .now) (start .args .arena .now) bytes (start .pre .0) (start .args .upload .0) (f .result) (f .ensures) (start .pre .1) (c .read-head .result) (c .read-head .ensures)
+  ends : start .args .here .at + span (c .read-head .result) ≤ length (start .args .tables .now)
+  ends = let p = start .pre .1 in path-ends (start .args .tables .now) (start .args .arena .now) bytes (start .pre .0) (p .0) (start .args .here) (p .1) (p .2) (c .read-head .result) (c .read-head .ensures)
 
 add-from : tie.Need-add-from
 add-from c = omega (arith, ends c)
@@ -56,14 +52,12 @@ returns : tie.Need-returns
 returns c =
     let d = c .before .before .before in
     let a = start d .args in
-    let f = d .before .find-upload in
-    λ x is. path-room (a .tables .now) (a .arena .now) (bytes d) (start d .pre .0) (a .upload .0) (f .result) (f .ensures) (d .read-head .result) (d .read-head .ensures) x is (c .object-judge .result .refusal) (c .object-judge .ensures .0)
+    λ u x q is. path-room (a .tables .now) (a .arena .now) (bytes d) (start d .pre .0) u (a .here) q (d .read-head .result) (d .read-head .ensures) x is (c .object-judge .result .refusal) (c .object-judge .ensures .0)
 
 pub commit-room-spec : {M : Type 1} → statement M
 commit-room-spec =
     tie.close
     (tie.spec
-    find-upload-requires
     read-head-requires
     add-from
     cast-to

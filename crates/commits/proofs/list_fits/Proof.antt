@@ -1,16 +1,18 @@
 -- `commits::list_fits` meets its contract. In order it fits. The invariant of other lists: the first i numbers fit. Assumes nothing.
-use Prim.Native.Nat.{_+_, _-_, _*_, _≤_}
+use Prim.Native.Nat.{ℕ, _+_, _-_, _*_, _≤_}
 use mathlib.Core.Path.{_≡_, sym, _∙_, subst}
+use mathlib.Core.Option.{some}
 use native.Mathlib.Omega.{arith}
-use borrow.Author.Needs.{needs}
 use borrow.Author.Tests.{not-true, not-false}
 use lib.ListN.{length}
 use Rattle.number.specs.Number.{AreBytes}
 use Rattle.machine.specs.Map.{byNumber, lookup}
+use Rattle.machine.specs.State.{Upload, State}
 use Rattle.layout.specs.Memory.{stateOf}
-use Rattle.find.specs.Known.{OfOpenBefore}
+use Rattle.find.specs.Known.{WholePlace, OfOpenBefore}
+use Rattle.find.specs.Places.{uploadRowOf, partsRowOf}
 use Rattle.find.proofs.Found.{is-some}
-use Rattle.find.proofs.Answers.{parts-row-place}
+use Rattle.find.proofs.Answers.{open-row-place, first-part-row, parts-row-place}
 use Rattle.commits.proofs.Fitting.{unfit-number, Passed, passed-none, passed-next, count-is, unfit-list, ordered-list, fit-list, count-few}
 use Rattle.commits.proofs.Ordered.{rows-there}
 use Rattle.commits.proofs.list_fits.Statement.{statement}
@@ -24,65 +26,88 @@ Inv-loop tables arena list count first i₀ i =
 abbrev μ-loop : tie.MeasureT-loop
 μ-loop tables arena list count first i₀ i = count - i
 
-parts-end-requires : tie.Need-parts-end-requires Inv-loop μ-loop
-parts-end-requires c κs = search needs
+-- once the upload's parts are passed: the state, the upload's number, and that its row is a row
+module _ (c : tie.After-pass-parts Inv-loop μ-loop) where
+  abbrev start : tie.Start Inv-loop μ-loop
+  start = c .before .before .before .before
+
+  abbrev s : State
+  s = stateOf (start .args .tables .now) (start .args .arena .now)
+
+  abbrev u : ℕ
+  u = start .pre .1 .0
+
+  bytes : AreBytes (start .args .tables .now)
+  bytes = λ j. c .before .before .before .shared-slice-known .given j .fits
+
+  upload : (x : Upload) × (lookup byNumber u (s .U) ≡ some x)
+  upload = is-some (lookup byNumber u (s .U)) (start .pre .1 .2)
+
+pass-parts-requires : tie.Need-pass-parts-requires Inv-loop μ-loop
+pass-parts-requires c κs =
+    let k = c .before .before .before in
+    (k .pre .0, open-row-place (stateOf (k .args .tables .now) (k .args .arena .now)) (k .pre .1 .0) (k .args .here) (k .pre .1 .1) (k .pre .1 .2))
 
 mul-if1 : tie.Need-mul-if1 Inv-loop μ-loop
 mul-if1 c =
-    let a = c .before .before .before .before .args in
-    let b : AreBytes (a .tables .now) = λ j. c .before .before .before .shared-slice-known .given j .fits in
-    let p = c .before .before .before .before .pre in
-    let f = c .parts-end in
-    omega (arith, count-few (a .tables .now) (a .arena .now) b (p .0) (a .upload .0) (f .result) (p .1) (f .ensures))
+    let k = start c in
+    let f = c .pass-parts in
+    omega (arith, count-few (k .args .tables .now) (k .args .arena .now) (bytes c) (k .pre .0) (u c) (f .result) (k .pre .1 .2) (λ x e. f .ensures (u c) x (k .pre .1 .1) e))
 
 returns : tie.Need-returns Inv-loop μ-loop
 returns c =
-    let a = c .before .before .before .before .before .args in
-    let b : AreBytes (a .tables .now) = λ j. c .before .before .before .before .shared-slice-known .given j .fits in
-    let p = c .before .before .before .before .before .pre in
-    let f = c .before .parts-end in
-    λ x e. unfit-list (a .tables .now) (a .arena .now) b (p .0) (a .upload .0) (f .result) x e (f .ensures x e) (a .list .now) (omega (arith, c .if1 .taken))
+    let p = c .before in
+    let k = start p in
+    let f = p .pass-parts in
+    λ v x q e. unfit-list (k .args .tables .now) (k .args .arena .now) (bytes p) (k .pre .0) v (f .result) x e (f .ensures v x q e) (k .args .list .now) (omega (arith, c .if1 .taken))
 
-parts-row-requires : tie.Need-parts-row-requires Inv-loop μ-loop
-parts-row-requires c κs = search needs
+next-row-requires : tie.Need-next-row-requires Inv-loop μ-loop
+next-row-requires c κs =
+    let k = start (c .before) in
+    (k .pre .0, open-row-place (s (c .before)) (u (c .before)) (k .args .here) (k .pre .1 .1) (k .pre .1 .2))
+
+-- once the row after the upload's is known: the first part's
+module _ (c : tie.After-next-row Inv-loop μ-loop) where
+  abbrev passed : tie.After-pass-parts Inv-loop μ-loop
+  passed = c .before .before
+
+  first-is : (v : ℕ) → start passed .args .here ≡ uploadRowOf (s passed) v → c .next-row .result ≡ partsRowOf (s passed) v
+  first-is v e = first-part-row (s passed) v (start passed .args .here) (c .next-row .result) e (c .next-row .ensures)
+
+  first-place : WholePlace (start passed .args .tables .now) (start passed .args .arena .now) (c .next-row .result)
+  first-place =
+      let p = start passed .pre in
+      (p .0, parts-row-place (s passed) (u passed) (c .next-row .result) (first-is (u passed) (p .1 .1)) (p .1 .2))
 
 in-order-requires : tie.Need-in-order-requires Inv-loop μ-loop
 in-order-requires c κs =
-    let k = c .before .before .before .before .before .before in
-    let s = stateOf (k .args .tables .now) (k .args .arena .now) in
-    let r = c .parts-row in
-    let x = is-some (lookup byNumber (k .args .upload .0) (s .U)) (k .pre .1) in
-    let n = count-is s (k .args .upload .0) (x .0) _ (c .before .before .parts-end .ensures (x .0) (x .1)) in (
-      (k .pre .0, parts-row-place s (k .args .upload .0) (r .result) (r .ensures) (k .pre .1)),
-      omega (arith, n, rows-there s (k .args .upload .0) (x .0) (x .1) (r .result) (r .ensures)),
-      omega (arith, c .before .if1 .left),
-    )
+    let p = passed c in
+    let x = upload p in
+    let q = start p .pre .1 .1 in
+    let n = count-is (s p) (u p) (x .0) _ (p .pass-parts .ensures (u p) (x .0) q (x .1)) in
+    (first-place c, omega (arith, n, rows-there (s p) (u p) (x .0) (x .1) (c .next-row .result) (first-is c (u p) q)), omega (arith, c .before .if1 .left))
 
 returns-2 : tie.Need-returns-2 Inv-loop μ-loop
 returns-2 c =
-    let k = c .before .before .before .before .before .before .before .before in
-    let a = k .args in
-    let b : AreBytes (a .tables .now) = λ j. c .before .before .before .before .before .before .before .shared-slice-known .given j .fits in
-    let r = c .before .before .parts-row in
-    let f = c .before .before .before .before .parts-end in
-    λ x e. ordered-list (a .tables .now) (a .arena .now) b (k .pre .0) (a .upload .0) (f .result) x e (f .ensures x e) (r .result) (r .ensures) (a .list .now) (omega (arith, c .before .before .before .if1 .left)) (sym (c .before .in-order .ensures) ∙ c .if2 .taken)
+    let r = c .before .before in
+    let p = passed r in
+    let a = start p .args in
+    let f = p .pass-parts in
+    λ v x q e. ordered-list (a .tables .now) (a .arena .now) (bytes p) (start p .pre .0) v (f .result) x e (f .ensures v x q e) (r .next-row .result) (first-is r v q) (a .list .now) (omega (arith, r .before .if1 .left)) (sym (c .before .in-order .ensures) ∙ c .if2 .taken)
 
 loop-holds : tie.Need-loop-holds Inv-loop μ-loop
-loop-holds c = (omega arith, λ u x p e. passed-none (x .parts) (c .before .before .before .before .before .before .before .before .args .list .now))
+loop-holds c = (omega arith, λ u x p e. passed-none (x .parts) (start (c .before .before .before .before) .args .list .now))
 
 number-fits-requires : tie.Need-number-fits-requires Inv-loop μ-loop
-number-fits-requires c κs =
-    let k = c .before .before .before .before .before .before .before .before .before .before in
-    let r = c .before .before .before .before .parts-row in
-    ((k .pre .0, parts-row-place (stateOf (k .args .tables .now) (k .args .arena .now)) (k .args .upload .0) (r .result) (r .ensures) (k .pre .1)), omega arith)
+number-fits-requires c κs = (first-place (c .before .before .before .before), omega arith)
 
 returns-3 : tie.Need-returns-3 Inv-loop μ-loop
 returns-3 c =
     let l = c .before .before .before in
-    let a = l .before .before .before .before .before .before .before .before .before .args in
-    let r = l .before .before .before .parts-row in
+    let r = l .before .before .before in
+    let a = start (passed r) .args in
     let inside : 2 * l .loop .i + 2 ≤ length (a .list .now) = omega arith in
-    λ x e. unfit-number (x .parts) (a .list .now) (l .loop .i) inside (sym (c .before .number-fits .ensures (a .upload .0) x (r .ensures) e) ∙ not-true _ (c .if3 .taken))
+    λ v x q e. unfit-number (x .parts) (a .list .now) (l .loop .i) inside (sym (c .before .number-fits .ensures v x (first-is r v q) e) ∙ not-true _ (c .if3 .taken))
 
 add-i : tie.Need-add-i Inv-loop μ-loop
 add-i c = omega arith
@@ -93,20 +118,19 @@ loop-less c = omega arith
 loop-again : tie.Need-loop-again Inv-loop μ-loop
 loop-again c =
     let l = c .before .before .before in
-    let a = l .before .before .before .before .before .before .before .before .before .args in
+    let a = start (passed (l .before .before .before)) .args in
     let inside : 2 * l .loop .i + 2 ≤ length (a .list .now) = omega arith in
-    (omega arith, λ u x p e. passed-next (x .parts) (a .list .now) (l .loop .i) inside (l .loop .inv .1 u x p e) (sym (c .before .number-fits .ensures u x p e) ∙ not-false _ (c .if3 .left)))
+    (omega arith, λ v x q e. passed-next (x .parts) (a .list .now) (l .loop .i) inside (l .loop .inv .1 v x q e) (sym (c .before .number-fits .ensures v x q e) ∙ not-false _ (c .if3 .left)))
 
 returns-4 : tie.Need-returns-4 Inv-loop μ-loop
 returns-4 c =
     let l = c .before in
-    let k = l .before .before .before .before .before .before .before .before .before in
-    let a = k .args in
-    let b : AreBytes (a .tables .now) = λ j. l .before .before .before .before .before .before .before .before .shared-slice-known .given j .fits in
-    let r = l .before .before .before .parts-row in
-    let f = l .before .before .before .before .before .parts-end in
+    let r = l .before .before .before in
+    let p = passed r in
+    let a = start p .args in
+    let f = p .pass-parts in
     let end : l .loop .i ≡ f .result .count = omega arith in
-    λ x e. fit-list (a .tables .now) (a .arena .now) b (k .pre .0) (a .upload .0) (f .result) x e (f .ensures x e) (a .list .now) (omega (arith, l .before .before .before .before .if1 .left)) (subst (Passed (x .parts) (a .list .now)) end (l .loop .inv .1 (a .upload .0) x (r .ensures) e))
+    λ v x q e. fit-list (a .tables .now) (a .arena .now) (bytes p) (start p .pre .0) v (f .result) x e (f .ensures v x q e) (a .list .now) (omega (arith, r .before .if1 .left)) (subst (Passed (x .parts) (a .list .now)) end (l .loop .inv .1 v x (first-is r v q) e))
 
 pub list-fits-spec : {M : Type 1} → statement M
 list-fits-spec =
@@ -114,10 +138,10 @@ list-fits-spec =
     (tie.spec
     Inv-loop
     μ-loop
-    parts-end-requires
+    pass-parts-requires
     mul-if1
     returns
-    parts-row-requires
+    next-row-requires
     in-order-requires
     returns-2
     loop-holds

@@ -66,8 +66,8 @@ fn in_order(tables: &[u8], arena: &[u8], first: RowPlace, list: &[u8], count: us
     true
 }
 
-// Whether the list names each part of the open upload one time whose row stands there. A list in ascending order is
-// walked once.
+// Whether the list names each part of an open upload one time, `here` being the upload's row. A list in ascending order
+// is walked once.
 fn list_fits(tables: &[u8], arena: &[u8], here: RowPlace, list: &[u8]) -> bool
     requires { ⌜ WholeOpenAt (now tables) (now arena) here ⌝ }
     ensures { λ r. ⌜ OfOpenAt (now (tables .entry)) (now (arena .entry)) here
@@ -92,8 +92,8 @@ fn list_fits(tables: &[u8], arena: &[u8], here: RowPlace, list: &[u8]) -> bool
     true
 }
 
-// Table full where the object at an open upload's path would be the 257th, or 0; the upload's row stands there. Its data
-// are held already, so the object asks the room of one without data.
+// Table full where the object at an open upload's path would be the 257th, or 0, `here` being the upload's row. The
+// upload's data are held already, so the object asks the room of one without data.
 fn commit_room(tables: &[u8], arena: &[u8], here: RowPlace) -> u8
     requires { ⌜ WholeOpenAt (now tables) (now arena) here ⌝ }
     ensures { λ r. ⌜ OfOpenAt (now (tables .entry)) (now (arena .entry)) here (λ s u x. (y : Object)

@@ -1,7 +1,7 @@
 /*
  * The test "whole" by the length of paths, with two archives side by side: HEAD of the empty path over a full store (256
  * objects and 16 uploads whose paths differ in their last two letters; 70 objects where a path is one byte). With "calls",
- * that test, HEAD, GET and PUT of an object amid them instead, at some lengths. No object has pairs, so archives from before
+ * that test, HEAD, GET, PUT and COMMIT of 16 parts at an object amid them instead, at some lengths. No object has pairs, so archives from before
  * and after pairs take the same memory, the former the front of its tables. bench/paths builds and runs it. Microseconds,
  * the smallest of many rounds, the two archives in turn.
  */
@@ -28,6 +28,9 @@ struct calls {
     uint32_t (*initiate)(const uint8_t *path, size_t n);
     uint32_t (*get)(const uint8_t *path, size_t n);
     uint32_t (*head)(const uint8_t *path, size_t n);
+    uint32_t (*part)(uint32_t upload, uint16_t part);
+    uint32_t (*commit)(uint32_t upload, const uint8_t *list, size_t n);
+    uint32_t (*abort)(uint32_t upload);
 };
 
 #define SLICES uint8_t *, size_t, uint8_t *, size_t
@@ -42,6 +45,9 @@ struct calls {
     uint32_t side##_rathnodi_initiate(SLICES, uint64_t, const uint8_t *, size_t in_type, uint8_t *, size_t);           \
     uint32_t side##_rathnodi_get(READ_SLICES, const uint8_t *, size_t, uint8_t *, size_t out_type, uint8_t *, size_t); \
     uint32_t side##_rathnodi_head(READ_SLICES, const uint8_t *, size_t out_type, uint8_t *, size_t);                   \
+    uint32_t side##_rathnodi_part(SLICES, uint32_t, uint16_t, const uint8_t *, size_t, uint8_t *, size_t);             \
+    uint32_t side##_rathnodi_commit(SLICES, uint32_t, const uint8_t *, size_t);                                        \
+    uint32_t side##_rathnodi_abort(SLICES, uint32_t);                                                                  \
     static uint32_t side##_fresh(void) { return side##_rathnodi_fresh(STORE(len)); }                                   \
     static uint32_t side##_put(const uint8_t *path, size_t n)                                                          \
     {                                                                                                                  \
@@ -59,7 +65,17 @@ struct calls {
     {                                                                                                                  \
         return side##_rathnodi_head(STORE(len), path, n out, REPLY);                                                   \
     }                                                                                                                  \
-    static const struct calls side = {side##_fresh, side##_put, side##_initiate, side##_get, side##_head};
+    static uint32_t side##_part(uint32_t upload, uint16_t part)                                                        \
+    {                                                                                                                  \
+        return side##_rathnodi_part(STORE(len), upload, part, (const uint8_t *)"weighing", 8, REPLY);                  \
+    }                                                                                                                  \
+    static uint32_t side##_commit(uint32_t upload, const uint8_t *list, size_t n)                                      \
+    {                                                                                                                  \
+        return side##_rathnodi_commit(STORE(len), upload, list, n);                                                    \
+    }                                                                                                                  \
+    static uint32_t side##_abort(uint32_t upload) { return side##_rathnodi_abort(STORE(len), upload); }                \
+    static const struct calls side = {side##_fresh, side##_put,  side##_initiate, side##_get,                          \
+                                      side##_head,  side##_part, side##_commit,   side##_abort};
 
 #define COMMA ,
 #define CALLS_1(side) CALLS(side, 53842, , , , )
@@ -127,6 +143,24 @@ static double once(uint32_t (*call)(const uint8_t *, size_t), const uint8_t *p, 
     return (now() - start) / 40;
 }
 
+/* The time of a COMMIT of 16 parts in ascending order, after the upload was opened at the path and its parts were set. */
+static double commit_once(const struct calls *calls, const uint8_t *p, size_t n)
+{
+    uint8_t list[32];
+    uint32_t upload, result = calls->initiate(p, n);
+    memcpy(&upload, reply + 12, 4);
+    for (uint16_t i = 0; i < 16; i++) {
+        result |= calls->part(upload, (uint16_t)(i + 1));
+        list[2 * i] = (uint8_t)(i + 1);
+        list[2 * i + 1] = 0;
+    }
+    double start = now();
+    result |= calls->commit(upload, list, sizeof list);
+    double time = now() - start;
+    if (result) exit(1);
+    return time;
+}
+
 static double least(double a, double b) { return a < b ? a : b; }
 
 static void by_length(int rounds)
@@ -175,6 +209,14 @@ static void by_call(int rounds)
             printf("| %zu | %s | %.2f | %.2f | %.2f |\n", n, calls[i].name, x, y, y / x);
             fflush(stdout);
         }
+        double x = 1e9, y = 1e9;
+        if (after.abort(16)) exit(1);
+        for (int round = 0; round < 20 * rounds; round++) {
+            x = least(x, commit_once(&before, p, n));
+            y = least(y, commit_once(&after, p, n));
+        }
+        printf("| %zu | COMMIT | %.2f | %.2f | %.2f |\n", n, x, y, y / x);
+        fflush(stdout);
     }
 }
 

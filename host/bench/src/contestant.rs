@@ -44,6 +44,11 @@ impl Proved {
         results.iter().for_each(|result| done(u32::from(*result)));
     }
 
+    /// The test "whole": a HEAD of a bad path is refused right after it.
+    pub fn whole(&self) {
+        assert_eq!(slices::head(&self.tables, &self.arena, b"/", &mut [], &mut [0; REPLY_LEN]), 2);
+    }
+
     pub fn abort(&mut self, upload: u32) {
         done(slices::abort(&mut self.tables, &mut self.arena, upload));
     }

@@ -1,10 +1,12 @@
 //! bench [--rounds N] [--chart FOLDER]
 //!
 //! Each call on an empty, a half-full and a full store, and how each cost grows, for the proved
-//! store, the independent one and SQLite in memory, in one run. A figure is a median.
+//! store, the independent one and SQLite in memory, in one run, beside the least that a call does.
+//! A figure is a median.
 
 mod chart;
 mod contestant;
+mod floor;
 mod shelf;
 mod sqlite;
 mod sweep;
@@ -12,6 +14,7 @@ mod whole;
 
 use chart::{svg, Curve};
 use contestant::{listing, Contestant, Proved};
+use floor::Floor;
 use model::Model;
 use sqlite::Sqlite;
 use std::collections::BTreeMap;
@@ -88,10 +91,14 @@ fn filled(mut store: Box<dyn Contestant>, state: &State) -> Box<dyn Contestant> 
     store
 }
 
+/// How many resident objects stand before the measured one; it moves through the store from round to round.
+fn place(state: &State, i: usize) -> usize {
+    i * 37 % (state.objects + 1)
+}
+
 fn round(store: &mut dyn Contestant, state: &State, i: usize, samples: &mut Samples) {
     let mut answer = vec![0; 65_536.max(PARTS as usize * 4096)];
-    // A place that moves through the store from round to round.
-    let path = name(2 * (i * 37 % (state.objects + 1)) + 1);
+    let path = name(2 * place(state, i) + 1);
     let (new, again) = (data(SIZE, i), data(SIZE, i + 1));
     samples.time("PUT, new", 1, || store.put(5, &path, &new));
     samples.time("PUT, again", 1, || store.put(6, &path, &again));
@@ -115,16 +122,18 @@ fn round(store: &mut dyn Contestant, state: &State, i: usize, samples: &mut Samp
     }
 }
 
-/// Medians by store and call. The stores take turns, so that a slow moment meets all of them.
-fn measure(state: &State, rounds: usize) -> [Samples; 3] {
+/// Samples by store, and those of the floor. All take turns, so that a slow moment meets each of them.
+fn measure(state: &State, rounds: usize) -> ([Samples; 3], Samples) {
     let stores: [Box<dyn Contestant>; 3] =
         [Box::new(Proved::fresh(ARENA)), Box::new(Model::fresh(ARENA)), Box::new(Sqlite::fresh())];
     let mut stores = stores.map(|store| filled(store, state));
     let mut samples: [Samples; 3] = Default::default();
+    let (mut floor, mut least) = (Floor::of(state), Samples::default());
     for i in 0..rounds {
         for (store, samples) in stores.iter_mut().zip(&mut samples) {
             round(store.as_mut(), state, i, samples);
         }
+        floor.round(state, i, &mut least);
     }
     let listings = stores.map(|mut store| {
         store.initiate(9, b"joined");
@@ -135,7 +144,7 @@ fn measure(state: &State, rounds: usize) -> [Samples; 3] {
         listing(store.as_mut())
     });
     assert!(listings[0] == listings[1] && listings[1] == listings[2], "the stores differ");
-    samples
+    (samples, least)
 }
 
 fn time(nanoseconds: f64) -> String {
@@ -147,19 +156,25 @@ fn time(nanoseconds: f64) -> String {
 }
 
 fn table(title: &str, state: &State, rounds: usize) {
-    let samples = measure(state, rounds);
+    let (samples, least) = measure(state, rounds);
     println!("\n### {title}\n");
-    println!("| call | {} | proved / model | proved / SQLite |", NAMES.join(" | "));
-    println!("|---|---|---|---|---|---|");
+    println!(
+        "| call | {} | proved / model | proved / SQLite | floor | proved / floor |",
+        NAMES.join(" | ")
+    );
+    println!("|---|---|---|---|---|---|---|---|");
     for call in CALLS {
         let [proved, model, sqlite] = [0, 1, 2].map(|i| samples[i].median(call));
+        let floor = least.0.contains_key(call).then(|| least.median(call));
         println!(
-            "| {call} | {} | {} | {} | {:.2} | {:.2} |",
+            "| {call} | {} | {} | {} | {:.2} | {:.2} | {} | {} |",
             time(proved),
             time(model),
             time(sqlite),
             proved / model,
-            proved / sqlite
+            proved / sqlite,
+            floor.map_or(String::new(), time),
+            floor.map_or(String::new(), |floor| format!("{:.2}", proved / floor))
         );
     }
 }

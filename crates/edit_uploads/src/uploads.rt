@@ -10,20 +10,27 @@ ghost use Rattle.machine.specs.Pairs.{pairsOk, pairList};
 ghost use Rattle.machine.specs.State.{withUpload, withoutUpload, withNext};
 ghost use Rattle.machine.specs.Steps.{newUpload};
 ghost use Rattle.layout.specs.Memory.{stateOf};
-ghost use Rattle.find.specs.Places.{uploadPlace};
-ghost use Rattle.find.specs.Known.{WholeOpen};
+ghost use Rattle.find.specs.Places.{placeAfter, uploadPlace};
+ghost use Rattle.find.specs.Known.{rowsIn, WholeOpen};
 ghost use Rattle.edit.specs.Blocks.{keptOf};
 ghost use Rattle.edit.specs.Edits.{MayBecome, Becomes};
 
-// An upload without parts, put after all rows with the next number. The kept pairs of the request are its block, after
-// the last byte held.
-pub fn open_upload(tables: &mut [u8], arena: &mut [u8], stamp: u64, path: &[u8], pairs: &[u8])
-    requires { ⌜ (pairsOk (pairList (now pairs)) ≡ true) × MayBecome (now tables) (now arena)
+// An upload without parts, put after all rows, at `end`, with the next number. The kept pairs of the request are its
+// block, after the last byte held.
+pub fn open_upload(
+    tables: &mut [u8],
+    arena: &mut [u8],
+    end: RowPlace,
+    stamp: u64,
+    path: &[u8],
+    pairs: &[u8],
+)
+    requires { ⌜ (pairsOk (pairList (now pairs)) ≡ true) × (end ≡ placeAfter (rowsIn (now tables) (now arena)))
+        × MayBecome (now tables) (now arena)
         (λ s. withNext (withUpload s (s .N) (newUpload stamp (now path) (keptOf (now pairs))))) ⌝ }
     ensures { λ _. ⌜ Becomes (now (tables .entry)) (now (arena .entry)) (now (tables .exit)) (now (arena .exit))
         (λ s. withNext (withUpload s (s .N) (newUpload stamp (now (path .entry)) (keptOf (now (pairs .entry)))))) ⌝ }
 {
-    let end = find::rows_end(tables, arena);
     let header = layout::headers::read_header(tables);
     let used = end.at;
     let mut lengths = [0u8; 16];

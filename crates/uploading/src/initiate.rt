@@ -1,4 +1,5 @@
 // INITIATE: an upload is opened, without parts, under a number that was never used.
+use find::RowPlace;
 use types::InitiateAnswer;
 use types::Stamp;
 use types::UploadNumber;
@@ -7,47 +8,73 @@ ghost use mathlib.Core.Bool.{true};
 ghost use Rattle.machine.specs.Pairs.{pairsOk, pairMap, pairList};
 ghost use Rattle.machine.specs.Calls.{INITIATE};
 ghost use Rattle.layout.specs.Memory.{whole};
+ghost use Rattle.find.specs.Places.{placeAfter};
+ghost use Rattle.find.specs.Known.{rowsIn};
 ghost use Rattle.contract.specs.Answers.{initiateReply};
 ghost use Rattle.contract.specs.Made.{memory, outcome, resultOf, Made, MadeWhole};
 ghost use Rattle.uploading.specs.Initiate.{OpenResult};
 
-// The refusal of an upload with pairs that are taken: table full, arena full, numbers used up or 0.
-fn initiate_room(tables: &[u8], arena: &[u8], pairs: &[u8]) -> u8
+// A judgement: the refusal's number, or 0; of an accepted upload, the end of the rows.
+struct OpenRoom {
+    refusal: u8,
+    end: RowPlace,
+}
+
+// A refusal; its end says nothing.
+fn refused(n: u8) -> OpenRoom
+    ensures { λ r. ⌜ r .refusal ≡ n ⌝ }
+{
+    OpenRoom {
+        refusal: n,
+        end: RowPlace {
+            row: 0,
+            at: 0,
+            base: 0,
+        },
+    }
+}
+
+// The refusal of an upload with pairs that are taken: table full, arena full, numbers used up or 0; of an accepted one,
+// the end of the rows.
+fn initiate_room(tables: &[u8], arena: &[u8], pairs: &[u8]) -> OpenRoom
     requires { ⌜ (whole (now tables) (now arena) ≡ true) × (pairsOk (pairList (now pairs)) ≡ true) ⌝ }
-    ensures { λ r. ⌜ OpenResult (now (tables .entry)) (now (arena .entry)) (pairMap (pairList (now (pairs .entry)))) r ⌝ }
+    ensures { λ r. ⌜ OpenResult (now (tables .entry)) (now (arena .entry)) (pairMap (pairList (now (pairs .entry)))) (r .refusal)
+        × (r .refusal ≡ 0 → r .end ≡ placeAfter (rowsIn (now (tables .entry)) (now (arena .entry)))) ⌝ }
 {
     let counts = find::read_counts(tables, arena);
     let uploads = counts.uploads;
     if layout::UPLOADS_MOST <= uploads {
-        return types::TABLE_FULL;
+        return refused(types::TABLE_FULL);
     }
-    let held = find::held(tables, arena);
+    let end = find::rows_end(tables, arena);
+    let held = end.base;
     let n = pairs::held(pairs);
     let full = room::arena_judge(held, n, arena.len());
     if full != 0 {
-        return full;
+        return refused(full);
     }
     let header = layout::headers::read_header(tables);
     if 4294967295 < header.next {
-        return types::NUMBERS_USED_UP;
+        return refused(types::NUMBERS_USED_UP);
     }
-    0
+    OpenRoom { refusal: 0, end }
 }
 
-// INITIATE's refusal over whole memory, 0 for none.
-fn initiate_judge(tables: &[u8], arena: &[u8], stamp: Stamp, path: &[u8], pairs: &[u8]) -> u8
+// INITIATE's refusal over whole memory, 0 for none; of an accepted one, the end of the rows.
+fn initiate_judge(tables: &[u8], arena: &[u8], stamp: Stamp, path: &[u8], pairs: &[u8]) -> OpenRoom
     requires { ⌜ whole (now tables) (now arena) ≡ true ⌝ }
-    ensures { λ r. ⌜ r ≡ resultOf (outcome (INITIATE (stamp .0) (now (path .entry)) (pairList (now (pairs .entry))))
-        (memory (now (tables .entry)) (now (arena .entry)))) ⌝ }
+    ensures { λ r. ⌜ (r .refusal ≡ resultOf (outcome (INITIATE (stamp .0) (now (path .entry)) (pairList (now (pairs .entry))))
+        (memory (now (tables .entry)) (now (arena .entry)))))
+        × (r .refusal ≡ 0 → r .end ≡ placeAfter (rowsIn (now (tables .entry)) (now (arena .entry)))) ⌝ }
 {
     if !names::stamp_ok(stamp.0) {
-        return types::BAD_REQUEST;
+        return refused(types::BAD_REQUEST);
     }
     if !names::new_path_ok(path) {
-        return types::BAD_REQUEST;
+        return refused(types::BAD_REQUEST);
     }
     if !pairs::judge(pairs) {
-        return types::BAD_REQUEST;
+        return refused(types::BAD_REQUEST);
     }
     initiate_room(tables, arena, pairs)
 }
@@ -65,12 +92,12 @@ pub fn initiate_whole(
         (memory (now (tables .entry)) (now (arena .entry))) (initiateReply r)
         (memory (now (tables .exit)) (now (arena .exit))) ⌝ }
 {
-    let n = initiate_judge(tables, arena, stamp, path, pairs);
-    if n != 0 {
-        return InitiateAnswer::Refused(n);
+    let room = initiate_judge(tables, arena, stamp, path, pairs);
+    if room.refusal != 0 {
+        return InitiateAnswer::Refused(room.refusal);
     }
     let header = layout::headers::read_header(tables);
-    edit_uploads::uploads::open_upload(tables, arena, stamp.0, path, pairs);
+    edit_uploads::uploads::open_upload(tables, arena, room.end, stamp.0, path, pairs);
     InitiateAnswer::Opened(UploadNumber(header.next as u32))
 }
 

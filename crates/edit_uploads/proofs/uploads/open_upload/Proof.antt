@@ -13,28 +13,22 @@ use Rattle.edit_uploads.proofs.UploadEdits.{Opening, opening, Opened, a
 use Rattle.edit_uploads.proofs.uploads.open_upload.Statement.{statement}
 use Rattle.edit_uploads.proofs.uploads.open_upload.Tie as tie
 
-rows-end-requires : tie.Need-rows-end-requires
-rows-end-requires c κs = search needs
-
 read-header-requires : tie.Need-read-header-requires
 read-header-requires c κs =
-    let y = c .before .before .before .before .before .before .before in
+    let y = c .before .before .before .before in
     let a = y .before .args in
-    header-inside (a .tables .now) (a .arena .now) (λ j. y .slice-known .given j .fits) (y .before .pre .1 .0)
+    header-inside (a .tables .now) (a .arena .now) (λ j. y .slice-known .given j .fits) (y .before .pre .2 .0)
 
 -- once the header is read
 module _ (k : tie.After-read-header) where
   abbrev start : tie.Start
-  start = k .before .before .before .before .before .before .before .before .before
-
-  abbrev end : tie.After-rows-end
-  end = k .before .before
+  start = k .before .before .before .before .before .before
 
   bytes : AreBytes (start .args .tables .now)
-  bytes = λ j. k .before .before .before .before .before .before .before .before .slice-known .given j .fits
+  bytes = λ j. k .before .before .before .before .before .slice-known .given j .fits
 
-  begun : Opening (start .args .tables .now) (start .args .arena .now) bytes (start .pre .1 .0) (end .rows-end .result) (end .rows-end .ensures) (k .read-header .result) (k .read-header .ensures)
-      (start .args .stamp) (start .args .path .now) (keptOf (start .args .pairs .now)) (start .pre .1 .1)
+  begun : Opening (start .args .tables .now) (start .args .arena .now) bytes (start .pre .2 .0) (start .args .end) (start .pre .1) (k .read-header .result) (k .read-header .ensures)
+      (start .args .stamp) (start .args .path .now) (keptOf (start .args .pairs .now)) (start .pre .2 .1)
   begun = opening _ _ _ _ _ _ _ _ _ _ _ _
 
 slice-aggregate-write-block : tie.Need-slice-aggregate-write-block
@@ -60,28 +54,28 @@ module _ (w : tie.After-write-block) where
   lengths-length : length lengths ≡ n
   lengths-length = let z = w .write-block .ensures .few in length-take-le n (w .write-block .last .1 .1 .1 .1 .0) (omega (arith, w .write-block .kept .1 .1 .1 .1 .0))
 
-  done : Opened (start k .args .tables .now) (start k .args .arena .now) (bytes k) (start k .pre .1 .0) (end k .rows-end .result) (end k .rows-end .ensures) (k .read-header .result) (k .read-header .ensures)
-      (start k .args .stamp) (start k .args .path .now) (keptOf (start k .args .pairs .now)) (start k .pre .1 .1)
+  done : Opened (start k .args .tables .now) (start k .args .arena .now) (bytes k) (start k .pre .2 .0) (start k .args .end) (start k .pre .1) (k .read-header .result) (k .read-header .ensures)
+      (start k .args .stamp) (start k .args .path .now) (keptOf (start k .args .pairs .now)) (start k .pre .2 .1)
       (w .write-block .last .0) n (w .write-block .result .bytes) (w .write-block .ensures .bytes) (w .write-block .ensures .block) (w .write-block .kept .0) lengths lengths-length (w .write-block .ensures .lengths)
   done = after-block _ _ _ _ _ _ _ _ _ _ _ _ _ _ _ _ _ _ _ _ _
 
-cast-t28 : tie.Need-cast-t28
-cast-t28 c = let z = done (c .before .before .before .before) .small in omega arith
+cast-t24 : tie.Need-cast-t24
+cast-t24 c = let z = done (c .before .before .before .before) .small in omega arith
+
+cast-t25 : tie.Need-cast-t25
+cast-t25 c = let z = begun (c .before .before .before .before .before .before .before .before .before) .number in omega arith
+
+cast-t27 : tie.Need-cast-t27
+cast-t27 c = search needs
 
 cast-t29 : tie.Need-cast-t29
-cast-t29 c = let z = begun (c .before .before .before .before .before .before .before .before .before) .number in omega arith
+cast-t29 c = let z = begun (c .before .before .before .before .before .before .before .before .before) .path in omega arith
 
-cast-t31 : tie.Need-cast-t31
-cast-t31 c = search needs
+add-t30 : tie.Need-add-t30
+add-t30 c = let z = begun (c .before .before .before .before .before .before .before .before .before .before) .number in omega arith
 
-cast-t33 : tie.Need-cast-t33
-cast-t33 c = let z = begun (c .before .before .before .before .before .before .before .before .before) .path in omega arith
-
-add-t34 : tie.Need-add-t34
-add-t34 c = let z = begun (c .before .before .before .before .before .before .before .before .before .before) .number in omega arith
-
-add-t35 : tie.Need-add-t35
-add-t35 c = let z = begun (c .before .before .before .before .before .before .before .before .before .before .before) .count in omega arith
+add-t31 : tie.Need-add-t31
+add-t31 c = let z = begun (c .before .before .before .before .before .before .before .before .before .before .before) .count in omega arith
 
 array-share-prefix-lengths : tie.Need-array-share-prefix-lengths
 array-share-prefix-lengths c = search needs
@@ -107,17 +101,16 @@ pub open-upload-spec : {M : Type 1} → statement M
 open-upload-spec =
     tie.close
     (tie.spec
-    rows-end-requires
     read-header-requires
     slice-aggregate-write-block
     slice-aggregate-write-block-2
     write-block-requires
-    cast-t28
+    cast-t24
+    cast-t25
+    cast-t27
     cast-t29
-    cast-t31
-    cast-t33
-    add-t34
-    add-t35
+    add-t30
+    add-t31
     array-share-prefix-lengths
     slice-aggregate-replace-rows
     replace-rows-requires

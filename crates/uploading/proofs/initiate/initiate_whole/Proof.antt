@@ -25,12 +25,12 @@ same-length-2 : tie.Need-same-length-2
 same-length-2 c = search needs
 
 returns : tie.Need-returns
-returns c = judged _ (c .before .initiate-judge .ensures) (c .if1 .taken)
+returns c = judged _ (c .before .before .initiate-judge .ensures .0) (c .if1 .taken)
 
 -- where nothing refuses it
 module _ (c : tie.Else1) where
   abbrev start : tie.Start
-  start = c .before .before .before .before .before .before .before .before
+  start = c .before .before .before .before .before .before .before .before .before
 
   abbrev t : List ℕ
   t = start .args .tables .now
@@ -45,10 +45,10 @@ module _ (c : tie.Else1) where
   ps = pairList (start .args .pairs .now)
 
   bytes : AreBytes t
-  bytes = λ j. c .before .before .before .before .before .before .before .slice-known .given j .fits
+  bytes = λ j. c .before .before .before .before .before .before .before .before .slice-known .given j .fits
 
   zero-result : resultOf (outcome (INITIATE (start .args .stamp .0) p ps) (memory t a)) ≡ 0
-  zero-result = sym (c .before .initiate-judge .ensures) ∙ c .if1 .left
+  zero-result = sym (c .before .before .initiate-judge .ensures .0) ∙ c .if1 .left
 
 read-header-requires : tie.Need-read-header-requires
 read-header-requires c κs = let k = c .before in header-inside (t k) (a k) (bytes k) (start k .pre)
@@ -58,7 +58,8 @@ open-upload-requires c κs =
     let k = c .before .before .before .before in
     let m = memory (t k) (a k) in
     let stamp = start k .args .stamp .0 in
-    (pairs-taken m stamp (p k) (ps k) (zero-result k), (start k .pre, target-valid m stamp (p k) (ps k) (zero-result k) (whole-stands (t k) (a k) (bytes k) (start k .pre) .valid)))
+    let valid = target-valid m stamp (p k) (ps k) (zero-result k) (whole-stands (t k) (a k) (bytes k) (start k .pre) .valid) in
+    (pairs-taken m stamp (p k) (ps k) (zero-result k), k .before .before .initiate-judge .ensures .1 (k .if1 .left), (start k .pre, valid))
 
 cast-t20 : tie.Need-cast-t20
 cast-t20 c =

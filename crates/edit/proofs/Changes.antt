@@ -6,7 +6,7 @@ use mathlib.Core.Option.{Option, none, some}
 use lib.ListN.{length, take, drop}
 use Rattle.order.specs.Order.{byBytes}
 use Rattle.order.proofs.OrderLaws.{numbers, bytes, compare-above}
-use Rattle.machine.specs.Map.{Map, byNumber, lookup, insert, remove, place, owed, Every}
+use Rattle.machine.specs.Map.{Map, byNumber, lookup, insert, place, owed, Every}
 use Rattle.machine.specs.Names.{Bytes}
 use Rattle.machine.specs.State.{Object, Part, Upload, State, withObject, withoutObject, withUpload, withoutUpload, withPart}
 use Rattle.machine.specs.Valid.{UploadOk}
@@ -108,16 +108,6 @@ module _ (s : State) (u : ℕ) (x : Upload) (f : lookup byNumber u (s .U) ≡ so
       ∙ ap (λ (rs : List Row). objectRows (s .O) ++ rs) (upload-rows-append (take k (s .U)) ((u, changed ps) ∷ drop (suc k) (s .U)))
       ∙ sym (append-assoc (objectRows (s .O)) (uploadRows (take k (s .U))) (uploadRow u x ∷ (partRows ps ++ uploadRows (drop (suc k) (s .U)))))
       ∙ sym (append-assoc (objectRows (s .O) ++ uploadRows (take k (s .U))) (uploadRow u x ∷ []) (partRows ps ++ uploadRows (drop (suc k) (s .U))))
-
-  pub without-part-rows : (n : ℕ) (y : Part) → lookup byNumber n (x .parts) ≡ some y
-      → rowsOf (withUpload s u (changed (remove byNumber n (x .parts)))) ≡ beforePart s u x n ++ afterPart s u x n
-  unfolding beforePart afterPart
-  without-part-rows n y g =
-      let j = place byNumber n (x .parts) in
-      changed-rows (remove byNumber n (x .parts))
-      ∙ ap (λ (m : Map ℕ Part). beforeParts s u x ++ (partRows m ++ afterUpload s u)) (remove-old numbers n y (x .parts) g)
-      ∙ ap (λ (rs : List Row). beforeParts s u x ++ (rs ++ afterUpload s u)) (part-rows-append (take j (x .parts)) (drop (suc j) (x .parts)))
-      ∙ simp append-assoc
 
   pub new-part-rows : (n : ℕ) (y : Part) → lookup byNumber n (x .parts) ≡ none → rowsOf (withUpload s u (withPart x n y)) ≡ beforePart s u x n ++ (partRow n y ∷ fromPart s u x n)
   unfolding beforePart fromPart partRows

@@ -20,7 +20,7 @@ use Rattle.machine.specs.Steps.{newUpload}
 use Rattle.machine.specs.Valid.{Valid, UploadOk}
 use Rattle.machine.proofs.MapSums.{length-insert, length-remove, total-insert, total-remove, total-share}
 use Rattle.machine.proofs.MapLaws.{lookup-insert, every-lookup}
-pub use Rattle.machine.proofs.Counts.{no-upload, held-open}
+use Rattle.machine.proofs.Counts.{no-upload, held-open}
 use Rattle.machine.proofs.KeepsValid.{without-upload-valid}
 use Rattle.machine.proofs.PairLaws.{kept-few, kept-held}
 use Rattle.stored_pairs.specs.Stored.{pairLengths, pairBytes}

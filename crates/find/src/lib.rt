@@ -1,4 +1,4 @@
-// Readers of whole memory: where an object, an upload or a part stands, how many there are, how much is held, and the
+// Readers of whole memory: where an object, an upload or a part stands, where the rows end, how many there are, and the
 // lengths of a row's pairs.
 pub mod counts;
 pub mod objects;
@@ -10,14 +10,11 @@ pub use counts::read_counts;
 pub use objects::find_object;
 pub use pairs::pairs_size;
 pub use search::next_row;
-pub use uploads::find_part;
 pub use uploads::find_part_after;
 pub use uploads::find_part_from;
 pub use uploads::find_upload;
 pub use uploads::first_due;
-pub use uploads::held;
 pub use uploads::parts_end;
-pub use uploads::parts_row;
 pub use uploads::pass_parts;
 pub use uploads::rows_end;
 pub use uploads::rows_end_after;

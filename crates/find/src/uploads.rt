@@ -1,4 +1,4 @@
-// Where an upload and its parts stand, where the rows end, and how much is held.
+// Where an upload and its parts stand, and where the rows end.
 use crate::Lookup;
 use crate::Numbered;
 use crate::PassedParts;
@@ -11,9 +11,8 @@ use crate::search::seek_first;
 use crate::search::stands;
 ghost use mathlib.Core.Path.{_≡_};
 ghost use mathlib.Core.Bool.{true};
-ghost use Rattle.machine.specs.State.{held};
 ghost use Rattle.layout.specs.Memory.{whole, stateOf};
-ghost use Rattle.find.specs.Places.{placeOf, placeAfter, uploadPlace, partPlace, uploadRowOf, partsRowOf, passedParts, firstDue};
+ghost use Rattle.find.specs.Places.{placeOf, placeAfter, uploadPlace, partPlace, uploadRowOf, passedParts, firstDue};
 ghost use Rattle.find.specs.Known.{rowsIn, WholeOpen, WholeRow, WholePlace, OfOpen, OfOpenAt, OfOpenBefore};
 
 // The row of the upload with this number, or where it would stand.
@@ -22,15 +21,6 @@ pub fn upload_row(tables: &[u8], arena: &[u8], upload: u32) -> RowPlace
     ensures { λ r. ⌜ r ≡ uploadRowOf (stateOf (now (tables .entry)) (now (arena .entry))) upload ⌝ }
 {
     seek_first(tables, arena, Goal::Upload(upload))
-}
-
-// The row after that of an open upload: its first part's, where it has one.
-pub fn parts_row(tables: &[u8], arena: &[u8], upload: u32) -> RowPlace
-    requires { ⌜ WholeOpen (now tables) (now arena) upload ⌝ }
-    ensures { λ r. ⌜ r ≡ partsRowOf (stateOf (now (tables .entry)) (now (arena .entry))) upload ⌝ }
-{
-    let here = upload_row(tables, arena, upload);
-    next_row(tables, arena, here)
 }
 
 // The end of the rows.
@@ -62,15 +52,6 @@ pub fn rows_end_from(tables: &[u8], arena: &[u8], place: Lookup) -> RowPlace
     seek(tables, arena, from, Goal::End)
 }
 
-// The sum of the lengths of all data.
-pub fn held(tables: &[u8], arena: &[u8]) -> usize
-    requires { ⌜ whole (now tables) (now arena) ≡ true ⌝ }
-    ensures { λ r. ⌜ r ≡ held (stateOf (now (tables .entry)) (now (arena .entry))) ⌝ }
-{
-    let end = rows_end(tables, arena);
-    end.base
-}
-
 // The place of the upload with this number.
 pub fn find_upload(tables: &[u8], arena: &[u8], upload: u32) -> Lookup
     requires { ⌜ whole (now tables) (now arena) ≡ true ⌝ }
@@ -100,16 +81,6 @@ pub fn find_part_from(tables: &[u8], arena: &[u8], first: RowPlace, number: u16)
         at: here.at,
         base: here.base,
     }
-}
-
-// The place of a part of an open upload.
-pub fn find_part(tables: &[u8], arena: &[u8], upload: u32, number: u16) -> Lookup
-    requires { ⌜ WholeOpen (now tables) (now arena) upload ⌝ }
-    ensures { λ r. ⌜ OfOpen (now (tables .entry)) (now (arena .entry)) upload
-        (λ s x. r ≡ partPlace s upload x number) ⌝ }
-{
-    let first = parts_row(tables, arena, upload);
-    find_part_from(tables, arena, first, number)
 }
 
 // The place of a part of the open upload that a lookup found.

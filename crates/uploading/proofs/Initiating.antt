@@ -16,7 +16,7 @@ use Rattle.machine.specs.State.{State, held, counted}
 use Rattle.machine.specs.Valid.{Valid}
 use Rattle.machine.specs.Calls.{INITIATE, number, noBuffers, badRequest, tableFull, arenaFull, numbersUsedUp, Outcome, accept, _else_then_}
 use Rattle.machine.specs.Steps.{newUpload, act, after}
-use Rattle.machine.proofs.Counts.{initiate-counted}
+use Rattle.machine.proofs.Counts.{no-upload, held-open, initiate-counted}
 use Rattle.machine.proofs.KeepsValid.{next-valid}
 use Rattle.machine.proofs.MapSums.{length-insert}
 use Rattle.machine.proofs.Options.{both}
@@ -25,7 +25,6 @@ use Rattle.layout.specs.Memory.{whole, stateOf, Stands}
 use Rattle.layout.proofs.WholeLaws.{whole-stands}
 use Rattle.layout.proofs.StandsLaws.{header-back}
 use Rattle.layout.specs.Header.{headerAt, headerLength}
-use Rattle.edit_uploads.proofs.UploadEdits.{no-upload, held-open}
 use Rattle.contract.specs.Made.{Memory, stateIn, outcome, resultOf}
 use Rattle.contract.proofs.Judging.{pass, result-pass, result-stop, passed}
 use Rattle.uploading.specs.Initiate.{withNew, openAt, OpenResult}

@@ -18,17 +18,9 @@ use Rattle.layout.specs.Header.{headerLength}
 use Rattle.layout.specs.Memory.{objectRows, Stands}
 use Rattle.layout.proofs.ObjectLaws.{length-object-rows}
 use Rattle.find.specs.declared.Lookup.{Lookup}
-use Rattle.find.specs.Places.{beforeObject, objectPlace}
+use Rattle.find.specs.Places.{beforeObject, objectPlace, Passed}
 use Rattle.find.proofs.RowsAt.{At, Read, row-at, row-read}
 use Rattle.find.proofs.ObjectAt.{blank, entry, row, front, rest, split, next-front}
-
--- the paths of the first i objects are below p, and the next row begins at `at`
-pub record Passed (s : State) (p : Bytes) (i at base : ℕ) : Type 0 where
-  pub within : i ≤ length (s .O)
-  pub rows : at ≡ headerLength + length (encodeRows (objectRows (take i (s .O))))
-  pub contents : base ≡ length (contentsOf (objectRows (take i (s .O))))
-  pub places : place byBytes p (s .O) ≡ i + place byBytes p (drop i (s .O))
-  pub found : lookup byBytes p (s .O) ≡ lookup byBytes p (drop i (s .O))
 
 abbrev pub placed : Bool → (i at base : ℕ) → Lookup
 placed found i at base = record { found = found; row = i; at = at; base = base }

@@ -1,5 +1,6 @@
 -- Where the rows of a state stand. Assumes nothing.
-use Prim.Native.Nat.{ℕ, suc, _+_}
+use Prim.Native.Nat.{ℕ, suc, _+_, _≤_}
+use mathlib.Core.Path.{_≡_}
 use mathlib.Core.Bool.{Bool, true, false}
 use mathlib.Core.List.{List, [], _∷_, _++_}
 use lib.ListN.{length, take, drop}
@@ -92,3 +93,11 @@ firstOf (e ∷ m) = record { found = true; number = e .0 }
 
 abbrev pub firstDue : (stamp : ℕ) → State → Numbered
 firstDue t s = firstOf (due t (s .U))
+
+-- the paths of the first i objects are below p, and the next row begins at `at`
+pub record Passed (s : State) (p : Bytes) (i at base : ℕ) : Type 0 where
+  pub within : i ≤ length (s .O)
+  pub rows : at ≡ headerLength + length (encodeRows (objectRows (take i (s .O))))
+  pub contents : base ≡ length (contentsOf (objectRows (take i (s .O))))
+  pub places : place byBytes p (s .O) ≡ i + place byBytes p (drop i (s .O))
+  pub found : lookup byBytes p (s .O) ≡ lookup byBytes p (drop i (s .O))

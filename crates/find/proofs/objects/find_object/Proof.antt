@@ -1,6 +1,6 @@
 -- `find::objects::find_object` meets its contract. The invariant: the paths of the rows passed are below the path. Assumes nothing.
 use Prim.Native.Nat.{ℕ, _+_, _-_, _≤_, _<_}
-use mathlib.Core.Path.{_≡_, sym, _∙_}
+use mathlib.Core.Path.{_≡_, sym, _∙_, subst}
 use mathlib.Core.List.{List}
 use native.Mathlib.Nat.{add-sub-cancel-left}
 use native.Mathlib.Omega.{arith}
@@ -13,8 +13,9 @@ use Rattle.order.proofs.Answers.{answer-less, answer-equal, answer-greater}
 use Rattle.machine.specs.State.{State}
 use Rattle.row.specs.Row.{headLength, span}
 use Rattle.layout.specs.Memory.{stateOf, Stands}
+use Rattle.find.specs.Places.{Passed}
 use Rattle.layout.proofs.WholeLaws.{whole-stands}
-use Rattle.find.proofs.ObjectSearch.{Passed, Turn, passed-none, passed-all, object-inside, object-turn}
+use Rattle.find.proofs.ObjectSearch.{Turn, passed-none, passed-all, object-inside, object-turn}
 use Rattle.find.proofs.objects.find_object.Statement.{statement}
 use Rattle.find.proofs.objects.find_object.Tie as tie
 
@@ -72,33 +73,39 @@ turn c =
 inside : (c : tie.After-read-head Inv-loop μ-loop) → c .before .before .loop .at + span (c .read-head .result) ≤ length (t (c .before .before))
 inside c = turn c .inside
 
+find-from-requires : tie.Need-find-from-requires Inv-loop μ-loop
+find-from-requires c κs = let k = c .before .before .before .before in (start k .pre, k .loop .inv)
+
+returns : tie.Need-returns Inv-loop μ-loop
+returns c = c .find-from .ensures
+
 add-from : tie.Need-add-from Inv-loop μ-loop
-add-from c = omega (arith, inside c)
+add-from c = omega (arith, inside (c .before .before))
 
 cast-to : tie.Need-cast-to Inv-loop μ-loop
 cast-to c = search needs
 
 add-to : tie.Need-add-to Inv-loop μ-loop
-add-to c = omega (arith, inside (c .before))
+add-to c = omega (arith, inside (c .before .before .before))
 
 sub-compare : tie.Need-sub-compare Inv-loop μ-loop
 sub-compare c = omega arith
 
 part-compare-start : tie.Need-part-compare-start Inv-loop μ-loop
-part-compare-start c = omega (arith, inside (c .before))
+part-compare-start c = omega (arith, inside (c .before .before .before))
 
 part-compare-end : tie.Need-part-compare-end Inv-loop μ-loop
-part-compare-end c = omega (arith, inside (c .before))
+part-compare-end c = omega (arith, inside (c .before .before .before))
 
 compare-requires : tie.Need-compare-requires Inv-loop μ-loop
 compare-requires c κs = search needs
 
 -- the paths compare as the code was told
 compared : (c : tie.After-compare Inv-loop μ-loop) (o : Order) → c .compare .result ≡ o
-    → let r = c .before .before .before in
+    → let r = c .before .before .before .before .before in
     orderOf (byBytes (start (r .before .before) .args .path .now) (take (r .read-head .result .pathlen) (drop (r .before .before .loop .at + headLength) (t (r .before .before))))) ≡ o
 compared c o told =
-    let r = c .before .before .before in
+    let r = c .before .before .before .before .before in
     rw add-sub-cancel-left at (sym (c .compare .ensures) ∙ told)
 
 enum-told : tie.Need-enum-told Inv-loop μ-loop
@@ -107,26 +114,20 @@ enum-told c = search needs
 enum-told-2 : tie.Need-enum-told-2 Inv-loop μ-loop
 enum-told-2 c = search needs
 
-returns : tie.Need-returns Inv-loop μ-loop
-returns c = let d = c .before .before in turn (d .before .before .before) .equal (answer-equal _ (compared d _ (c .enum-told2 .given .1)))
+returns-2 : tie.Need-returns-2 Inv-loop μ-loop
+returns-2 c = let d = c .before .before in turn (d .before .before .before .before .before) .equal (answer-equal _ (compared d _ (c .enum-told2 .given .1)))
 
 enum-told-3 : tie.Need-enum-told-3 Inv-loop μ-loop
 enum-told-3 c = search needs
 
-returns-2 : tie.Need-returns-2 Inv-loop μ-loop
-returns-2 c = let d = c .before .before in turn (d .before .before .before) .less (answer-less _ (compared d _ (c .enum-told3 .given .1)))
-
-span-requires : tie.Need-span-requires Inv-loop μ-loop
-span-requires c κs = search needs
-
-add-at : tie.Need-add-at Inv-loop μ-loop
-add-at c = omega (arith, inside (c .before .before .before .before .before .before), c .span .ensures)
+returns-3 : tie.Need-returns-3 Inv-loop μ-loop
+returns-3 c = let d = c .before .before in turn (d .before .before .before .before .before) .less (answer-less _ (compared d _ (c .enum-told3 .given .1)))
 
 cast-base : tie.Need-cast-base Inv-loop μ-loop
 cast-base c = search needs
 
 add-base : tie.Need-add-base Inv-loop μ-loop
-add-base c = omega (arith, turn (c .before .before .before .before .before .before .before) .arena-inside, c .before .before .before .before .before .before .before .before .before .before .before .before .before .before .good .1 .0 .0)
+add-base c = omega (arith, turn (c .before .before .before .before .before .before .before .before) .arena-inside, c .before .before .before .before .before .before .before .before .before .before .before .before .before .before .before .good .1 .0 .0)
 
 add-i : tie.Need-add-i Inv-loop μ-loop
 add-i c = omega arith
@@ -136,11 +137,15 @@ loop-less c = omega arith
 
 loop-again : tie.Need-loop-again Inv-loop μ-loop
 loop-again c =
-    let d = c .before .before .before .before in
-    rw (c .before .span .ensures) (turn (d .before .before .before) .greater (answer-greater _ (compared d _ (c .before .before .enum-told .given .1))))
+    let d = c .before .before .before in
+    let k = c .before .before .before .before .before .before .before .before .before .before in
+    let h = c .before .before .before .before .before .before .before .before .read-head .result in
+    let next : k .loop .at + headLength + h .pathlen ≡ k .loop .at + span h = omega (arith, c .before .before .before .before .before .before .if1 .left) in
+    subst (λ (n : ℕ). Passed (s k) (start k .args .path .now) (k .loop .i + 1) n (k .loop .base + h .size)) (sym next)
+    (turn (c .before .before .before .before .before .before .before .before) .greater (answer-greater _ (compared d _ (c .before .enum-told .given .1))))
 
-returns-3 : tie.Need-returns-3 Inv-loop μ-loop
-returns-3 c = let k = c .before in passed-all (s k) (start k .args .path .now) (k .loop .i) (k .loop .at) (k .loop .base) (k .loop .inv) (let n = c .loop-test .left in omega (arith, counted k))
+returns-4 : tie.Need-returns-4 Inv-loop μ-loop
+returns-4 c = let k = c .before in passed-all (s k) (start k .args .path .now) (k .loop .i) (k .loop .at) (k .loop .base) (k .loop .inv) (let n = c .loop-test .left in omega (arith, counted k))
 
 pub find-object-spec : {M : Type 1} → statement M
 find-object-spec =
@@ -151,6 +156,8 @@ find-object-spec =
     read-counts-requires
     loop-holds
     read-head-requires
+    find-from-requires
+    returns
     add-from
     cast-to
     add-to
@@ -160,14 +167,12 @@ find-object-spec =
     compare-requires
     enum-told
     enum-told-2
-    returns
-    enum-told-3
     returns-2
-    span-requires
-    add-at
+    enum-told-3
+    returns-3
     cast-base
     add-base
     add-i
     loop-less
     loop-again
-    returns-3)
+    returns-4)

@@ -1,6 +1,6 @@
 -- A turn of the test of uploads and parts. Assumes nothing.
 use Prim.Native.Nat.{ℕ, _+_, _-_, _≤_, _<_}
-use mathlib.Core.Path.{_≡_, sym, ap, _∙_}
+use mathlib.Core.Path.{_≡_, refl, sym, ap, _∙_}
 use mathlib.Core.Bool.{Bool, true, false, not, cond}
 use mathlib.Core.List.{List}
 use native.Mathlib.Nat.{add-zero, add-assoc}
@@ -9,14 +9,15 @@ use lib.Dec.{eqb, lit≤}
 use lib.ListN.{drop}
 use Rattle.number.specs.Number.{AreBytes}
 use Rattle.row.specs.declared.Head.{Head}
-use Rattle.row.specs.Row.{Row, rowAt, rowsAt}
+use Rattle.row.specs.Row.{Row, rowAt, rowsAt, headLength}
 use Rattle.layout.specs.declared.Mark.{Mark}
 use Rattle.scan.specs.declared.Offset.{Offset}
 use Rattle.scan.specs.declared.Reading.the-variants.{Short, Fits}
-use Rattle.layout.specs.Rules.{entryRule, uploadKind, entryOk, entryNext, markAfter}
+use Rattle.layout.specs.Rules.{entryRule, partRule, uploadKind, entryOk, entryNext, markAfter}
 use Rattle.layout.specs.Memory.{uploadsAmong}
 use Rattle.scan.specs.Scan.{readingOf, past, opensOne, entriesOk}
-use borrow.Author.Tests.{not-true, not-false}
+use borrow.Author.Tests.{ne-eqb, not-true, not-false}
+use Rattle.scan.proofs.Readings.{part-is}
 use Rattle.scan.proofs.Turns.{digestPart, pathPart, lengthsPart, contentPart, head-of, digest-of, path-of, lengths-of, content-of, rest-tables, rest-arena, more, good-end, good-short, good-wrong, good-next}
 
 pub opens-small : (h : Head) → opensOne h ≤ 1
@@ -65,13 +66,26 @@ module _ (t a : List ℕ) (most N uploads opened n i : ℕ) (m : Mark) (o : Offs
         unfolding entriesOk
         entries-wrong q = rw (good-wrong Mark (entryOk most N) entryNext t a n i m o l h f (judged ∙ not-true r q))
 
-        pub entries-next : not r ≡ false
-            → entriesOk most N uploads opened (n - i) m o t a ≡ entriesOk most N uploads (opened + opensOne h) (n - (i + 1)) (markAfter m h) (past o h) t a
+        pub entries-next : not r ≡ false → (x : ℕ) → x ≡ opensOne h → (k : Mark) → k ≡ markAfter m h
+            → entriesOk most N uploads opened (n - i) m o t a ≡ entriesOk most N uploads (opened + x) (n - (i + 1)) k (past o h) t a
         unfolding entriesOk
-        entries-next q =
+        entries-next q x y k z =
             rw (
               good-next Mark (entryOk most N) entryNext t a n i m o l h f (judged ∙ not-false r q),
               opens-next,
               head-of t a o h f bytes,
               add-assoc opened,
+              y,
+              z,
             )
+
+      -- a part's row is passed by its length, and opens no upload
+      pub part-next : partRule m h ≡ true → (k : Mark) → k ≡ markAfter m h
+          → entriesOk most N uploads opened (n - i) m o t a
+          ≡ entriesOk most N uploads opened (n - (i + 1)) k (record { at = o .at + headLength; base = o .base + h .size }) t a
+      unfolding entryRule opensOne
+      part-next e k z =
+          let p = part-is m h e in
+          let no : eqb (h .kind) uploadKind ≡ false = ne-eqb (h .kind) uploadKind (λ q. omega (arith, p)) in
+          let end : past o h .at ≡ o .at + headLength = omega (arith, p) in
+          entries-next true (rw (no, e)) refl 0 (rw no) k z ∙ rw (add-zero, end)

@@ -22,7 +22,9 @@ use Rattle.stored_pairs.proofs.Blocks.{block, block-none}
 use Rattle.row.specs.declared.Head.{Head}
 use Rattle.row.specs.Row.{headAt, spanAt, inside, headLength, span}
 use Rattle.scan.specs.declared.Reading.the-variants.{Short, Fits}
-use Rattle.layout.specs.Rules.{isLess, noDigest, pairsRule}
+use Rattle.layout.specs.declared.Mark.{Mark}
+use Rattle.layout.specs.Rules.{isLess, noDigest, partKind, pairsRule, partRule}
+use Rattle.layout.proofs.TestLaws.{all-true}
 use Rattle.scan.specs.Scan.{readingOf}
 
 -- the tests of `read_row`
@@ -80,3 +82,19 @@ lengths-few most h lengths content e = block lengths content (both (leb (h .pair
 -- a row without pairs may stand
 pub no-pairs : (most n : ℕ) (t content : List ℕ) → n ≡ 0 → leb n most && blockOk (take (2 * n) t) content ≡ true
 no-pairs most n t content e = rw (le-leb n most (omega arith), block-none (take (2 * n) t) content (omega (arith, length-take (2 * n) t)))
+
+-- a part's row is its head alone
+module _ (m : Mark) (h : Head) (e : partRule m h ≡ true) where
+  pub part-is : (h .kind ≡ partKind) × (h .pathlen ≡ 0) × (h .pairs ≡ 0)
+  unfolding partRule
+  part-is =
+      let k = all-true _ e in
+      (eqb-true _ _ (k .0), eqb-true _ _ (k .1 .1 .1 .0), eqb-true _ _ (k .1 .1 .1 .1 .0))
+
+  pub part-fits : (t : List ℕ) (at : ℕ) (a : List ℕ) (base : ℕ) → h ≡ headAt (drop at t) → headLength ≤ length t - at → h .size ≤ length a - base
+      → (k : Head) → Fits h ≡ Fits k → (readingOf (drop at t) (drop base a) ≡ Fits k) × (partRule m k ≡ true)
+  part-fits t at a base q l n k f =
+      let reading : readingOf (drop at t) (drop base a) ≡ Fits h =
+      reading-is t at a base h (span h) q refl
+      ∙ rw (le-leb headLength (length t - at) l, le-leb (span h) (length t - at) (omega (arith, part-is)), le-leb (h .size) (length a - base) n) in
+      (reading ∙ f, cc)

@@ -1,15 +1,25 @@
 // The rows of uploads and parts, in memory that need not be whole.
 ghost use mathlib.Core.Path.{_≡_};
-ghost use Prim.Native.Nat.{_+_, _≤_};
-ghost use lib.ListN.{length};
+ghost use mathlib.Core.Bool.{true};
+ghost use Prim.Native.Nat.{ℕ, _+_, _-_, _≤_};
+ghost use lib.ListN.{length, drop};
 ghost use Rattle.order.specs.Order.{same};
 ghost use Rattle.layout.specs.Rules.{entryRule, noDigest, uploadRule, partRule, markAfter, start};
-ghost use Rattle.scan.specs.Scan.{opensOne, entriesOk};
+ghost use Rattle.scan.specs.Scan.{readingOf, opensOne, entriesOk};
+ghost use Rattle.scan.specs.declared.Reading.the-variants.{Fits};
+ghost use Rattle.row.specs.declared.Head.{Head};
 use crate::Offset;
 use crate::Reading;
 use crate::rows;
 use layout::Mark;
 use row::Head;
+
+// Parts that were passed: how many rows, where they end, and the mark after them.
+struct Run {
+    rows: usize,
+    end: Offset,
+    m: Mark,
+}
 
 // Whether 16 bytes are 0.
 fn is_zero(d: &[u8]) -> bool
@@ -135,6 +145,61 @@ fn mark_after(m: Mark, h: Head) -> Mark
     }
 }
 
+// The head of the row at `at`, with its data at `base`, where it is a part's that fits and may stand after m. `Short`
+// says nothing of the row.
+fn read_part(t: &[u8], at: usize, arena: &[u8], base: usize, m: Mark) -> Reading
+    requires { ⌜ (at ≤ length (now t)) × (base ≤ length (now arena)) ⌝ }
+    ensures { λ r. ⌜ ((h : Head) → r ≡ Fits h
+        → (readingOf (drop at (now (t .entry))) (drop base (now (arena .entry))) ≡ Fits h) × (partRule m h ≡ true)) ⌝ }
+{
+    if t.len() - at < row::HEAD_LENGTH {
+        return Reading::Short;
+    }
+    let h = row::read_head(t, at);
+    if !part_ok(m, h) {
+        return Reading::Short;
+    }
+    if arena.len() - base < h.size as usize {
+        return Reading::Short;
+    }
+    Reading::Fits(h)
+}
+
+// Passes the parts from `from` on that may stand after m, at most so many rows, and stops at any other row: that one is
+// the caller's to judge. A part has no path and no pairs, so where the next row begins does not depend on what is read.
+fn pass_parts(t: &[u8], arena: &[u8], from: Offset, m: Mark, rows: usize) -> Run
+    requires { ⌜ (from .at ≤ length (now t)) × (from .base ≤ length (now arena)) ⌝ }
+    ensures { λ r. ⌜ (r .rows ≤ rows)
+        × (r .end .at ≤ length (now (t .entry)))
+        × (r .end .base ≤ length (now (arena .entry)))
+        × ((most next uploads opened : ℕ)
+        → entriesOk most next uploads opened rows m from (now (t .entry)) (now (arena .entry))
+        ≡ entriesOk most next uploads opened (rows - r .rows) (r .m) (r .end) (now (t .entry)) (now (arena .entry))) ⌝ }
+{
+    let mut at = from.at;
+    let mut base = from.base;
+    let mut after = m;
+    let mut i: usize = 0;
+    while i < rows {
+        let Reading::Fits(h) = read_part(t, at, arena, base, after) else {
+            return Run {
+                rows: i,
+                end: Offset { at, base },
+                m: after,
+            };
+        };
+        after = mark_after(after, h);
+        at += row::HEAD_LENGTH;
+        base += h.size as usize;
+        i += 1;
+    }
+    Run {
+        rows: i,
+        end: Offset { at, base },
+        m: after,
+    }
+}
+
 // Whether the rows of uploads and parts stand from `from` on, just so many of each.
 pub(crate) fn entries_ok(
     t: &[u8],
@@ -146,7 +211,8 @@ pub(crate) fn entries_ok(
     most: u8,
 ) -> bool
     requires { ⌜ (from .at ≤ length (now t)) × (from .base ≤ length (now arena)) ⌝ }
-    ensures { λ r. ⌜ r ≡ entriesOk most next uploads 0 (uploads + parts) start from (now (t .entry)) (now (arena .entry)) ⌝ }
+    ensures { λ r. ⌜ r ≡ entriesOk most next uploads 0 (uploads + parts) start from (now (t .entry))
+        (now (arena .entry)) ⌝ }
 {
     let rows = uploads as usize + parts as usize;
     let mut at = from.at;
@@ -175,11 +241,17 @@ pub(crate) fn entries_ok(
         ) {
             return false;
         }
-        m = mark_after(m, h);
         opened += opening(h);
-        at = after;
-        base = data_end;
         i += 1;
+        let next_row = Offset {
+            at: after,
+            base: data_end,
+        };
+        let run = pass_parts(t, arena, next_row, mark_after(m, h), rows - i);
+        at = run.end.at;
+        base = run.end.base;
+        m = run.m;
+        i += run.rows;
     }
     opened == uploads as usize
 }

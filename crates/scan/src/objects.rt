@@ -49,7 +49,8 @@ fn object_ok(
     arena: &[u8],
     base: usize,
 ) -> bool
-    requires { ⌜ (33 ≤ path) × (path ≤ end) × (end + 2 * h .pairs ≤ length (now t)) × (base + h .size ≤ length (now arena)) ⌝ }
+    requires { ⌜ (33 ≤ path) × (path ≤ end) × (end + 2 * h .pairs ≤ length (now t))
+        × (base + h .size ≤ length (now arena)) ⌝ }
     ensures { λ r. ⌜ r ≡ objectRule most (now (last .entry)) h (take (end - path) (drop path (now (t .entry))))
         (take (2 * h .pairs) (drop end (now (t .entry)))) (take (h .size) (drop base (now (arena .entry)))) ⌝ }
 {

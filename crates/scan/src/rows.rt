@@ -39,7 +39,8 @@ pub(crate) fn pairs_ok(most: u8, h: Head, lengths: &[u8], content: &[u8]) -> boo
 // The same of a row whose lengths stand at `at` and its block at `base`.
 pub(crate) fn pairs_ok_at(most: u8, h: Head, t: &[u8], at: usize, arena: &[u8], base: usize) -> bool
     requires { ⌜ (at + 2 * h .pairs ≤ length (now t)) × (base + h .size ≤ length (now arena)) ⌝ }
-    ensures { λ r. ⌜ r ≡ pairsRule most h (take (2 * h .pairs) (drop at (now (t .entry)))) (take (h .size) (drop base (now (arena .entry)))) ⌝ }
+    ensures { λ r. ⌜ r ≡ pairsRule most h (take (2 * h .pairs) (drop at (now (t .entry))))
+        (take (h .size) (drop base (now (arena .entry)))) ⌝ }
 {
     if h.pairs == 0 {
         return true;

@@ -1,5 +1,5 @@
 -- `scan::entries::entries_ok` meets its contract. The invariant: the scan of all rows is the scan of those not yet passed. Assumes nothing.
-use Prim.Native.Nat.{ℕ, _+_, _-_, _≤_}
+use Prim.Native.Nat.{ℕ, _+_, _-_, _≤_, _<_}
 use mathlib.Core.Path.{_≡_, sym, _∙_}
 use mathlib.Core.List.{List}
 use native.Mathlib.Nat.{sub-zero}
@@ -53,6 +53,26 @@ module _ (c : tie.After-h Inv-loop μ-loop) where
 
   data-ends : turn .loop .base + head .size ≤ length (content turn)
   data-ends = data-in (tables turn) (content turn) (here turn) head fits (omega arith)
+
+-- a row that may stand was passed
+module _ (c : tie.After-opening Inv-loop μ-loop) where
+  abbrev read : tie.After-h Inv-loop μ-loop
+  read = c .before .before .before .before .before .before .before .before .before .before .before
+
+  abbrev from : tie.At-loop Inv-loop μ-loop
+  from = turn read
+
+  abbrev all-rows : ℕ
+  all-rows = from .before .before .before .args .uploads + from .before .before .before .args .parts
+
+  more : from .loop .i < all-rows
+  more = c .before .before .before .before .before .before .before .before .before .before .before .before .before .before .loop-test .taken
+
+  counted : all-rows < 131072
+  counted = omega (arith, c .before .before .before .before .before .before .before .before .before .before .before .before .before .before .before .before .before .before .fits .uploads, c .before .before .before .before .before .before .before .before .before .before .before .before .before .before .before .before .before .before .fits .parts)
+
+  opens : c .opening .result ≤ 1
+  opens = omega (arith, c .opening .ensures, opens-small (head read))
 
 add-rows : tie.Need-add-rows Inv-loop μ-loop
 add-rows c = omega arith
@@ -147,32 +167,53 @@ returns-2 c =
     let a = k .before .before .before .args in
     sym (k .loop .inv .0 ∙ entries-wrong (tables k) (content k) (a .most) (a .next) (a .uploads) (k .loop .opened) (a .uploads + a .parts) (k .loop .i) (k .loop .m) (here k) (c .before .before .before .before .before .before .before .before .before .before .before .before .before .loop-test .taken) (λ j. k .before .before .shared-slice-known .given j .fits) _ (fits (c .before .before .before .before .before .before .before .before .before .before)) _ (c .before .entry-ok .ensures) (c .if1 .taken))
 
-mark-after-requires : tie.Need-mark-after-requires Inv-loop μ-loop
-mark-after-requires c κs = search needs
-
 opening-requires : tie.Need-opening-requires Inv-loop μ-loop
 opening-requires c κs = search needs
 
 add-opened : tie.Need-add-opened Inv-loop μ-loop
-add-opened c = omega (arith, c .opening .ensures, opens-small (head (c .before .before .before .before .before .before .before .before .before .before .before .before)), c .before .before .before .before .before .before .before .before .before .before .before .before .before .before .before .loop-test .taken, c .before .before .before .before .before .before .before .before .before .before .before .before .before .before .before .before .loop .inv, c .before .before .before .before .before .before .before .before .before .before .before .before .before .before .before .before .before .before .before .fits .uploads, c .before .before .before .before .before .before .before .before .before .before .before .before .before .before .before .before .before .before .before .fits .parts)
+add-opened c = omega (arith, opens c, more c, counted c, from c .loop .inv)
 
 add-i : tie.Need-add-i Inv-loop μ-loop
-add-i c = omega (arith, c .before .before .before .before .before .before .before .before .before .before .before .before .before .before .before .loop-test .taken, c .before .before .before .before .before .before .before .before .before .before .before .before .before .before .before .before .before .before .before .fits .uploads, c .before .before .before .before .before .before .before .before .before .before .before .before .before .before .before .before .before .before .before .fits .parts)
+add-i c = omega (arith, more c, counted c)
+
+mark-after-requires : tie.Need-mark-after-requires Inv-loop μ-loop
+mark-after-requires c κs = search needs
+
+sub-pass-parts : tie.Need-sub-pass-parts Inv-loop μ-loop
+sub-pass-parts c = omega (arith, more (c .before))
+
+pass-parts-requires : tie.Need-pass-parts-requires Inv-loop μ-loop
+pass-parts-requires c κs = omega (arith, ends (read (c .before)), data-ends (read (c .before)))
+
+-- the parts that follow were passed too
+module _ (c : tie.After-struct-known4 Inv-loop μ-loop) where
+  abbrev row : tie.After-opening Inv-loop μ-loop
+  row = c .before .before .before .before
+
+  passed : from row .loop .i + 1 + c .before .before .pass-parts .result .rows ≤ all-rows row
+  passed = omega (arith, c .before .before .pass-parts .ensures .0, more row)
+
+add-i-2 : tie.Need-add-i-2 Inv-loop μ-loop
+add-i-2 c = omega (arith, passed c, counted (row c))
 
 loop-less : tie.Need-loop-less Inv-loop μ-loop
-loop-less c = omega (arith, c .before .before .before .before .before .before .before .before .before .before .before .before .before .before .before .loop-test .taken)
+loop-less c = omega (arith, more (row c), passed c)
 
 loop-again : tie.Need-loop-again Inv-loop μ-loop
 loop-again c =
-    let k = c .before .before .before .before .before .before .before .before .before .before .before .before .before .before .before .before in
-    let a = k .before .before .before .args in (
+    let r = row c in
+    let k = from r in
+    let a = k .before .before .before .args in
+    let run = c .before .before .pass-parts in
+    let left : all-rows r - (k .loop .i + 1) - run .result .rows ≡ all-rows r - (k .loop .i + 1 + run .result .rows) = omega arith in (
       k .loop .inv .0
-          ∙ entries-next (tables k) (content k) (a .most) (a .next) (a .uploads) (k .loop .opened) (a .uploads + a .parts) (k .loop .i) (k .loop .m) (here k) (c .before .before .before .before .before .before .before .before .before .before .before .before .before .before .before .loop-test .taken) (λ j. k .before .before .shared-slice-known .given j .fits) _ (fits (c .before .before .before .before .before .before .before .before .before .before .before .before)) _ (c .before .before .before .entry-ok .ensures) (c .before .before .if1 .left)
-          ∙ rw (c .opening .ensures, c .before .mark-after .ensures),
-      omega (arith, ends (c .before .before .before .before .before .before .before .before .before .before .before .before)),
-      data-ends (c .before .before .before .before .before .before .before .before .before .before .before .before),
-      omega (arith, c .before .before .before .before .before .before .before .before .before .before .before .before .before .before .before .loop-test .taken),
-      omega (arith, c .opening .ensures, opens-small (head (c .before .before .before .before .before .before .before .before .before .before .before .before)), k .loop .inv),
+          ∙ entries-next (tables k) (content k) (a .most) (a .next) (a .uploads) (k .loop .opened) (all-rows r) (k .loop .i) (k .loop .m) (here k) (more r) (λ j. k .before .before .shared-slice-known .given j .fits) _ (fits (read r)) _ (r .before .before .entry-ok .ensures) (r .before .if1 .left) _ (r .opening .ensures) _ (c .before .before .before .mark-after .ensures)
+          ∙ run .ensures .3 (a .most) (a .next) (a .uploads) (k .loop .opened + r .opening .result)
+          ∙ rw left,
+      run .ensures .1,
+      run .ensures .2,
+      passed c,
+      omega (arith, opens r, k .loop .inv),
     )
 
 returns-3 : tie.Need-returns-3 Inv-loop μ-loop
@@ -216,10 +257,13 @@ entries-ok-spec =
     part-entry-ok-end-4
     entry-ok-requires
     returns-2
-    mark-after-requires
     opening-requires
     add-opened
     add-i
+    mark-after-requires
+    sub-pass-parts
+    pass-parts-requires
+    add-i-2
     loop-less
     loop-again
     returns-3)

@@ -1,9 +1,10 @@
 /*
  * The test "whole" by the length of paths, with two archives side by side: HEAD of the empty path over a full store (256
  * objects and 16 uploads whose paths differ in their last two letters; 70 objects where a path is one byte). With "calls",
- * that test, HEAD, GET, PUT and COMMIT of 16 parts at an object amid them instead, at some lengths. No object has pairs, so archives from before
- * and after pairs take the same memory, the former the front of its tables. bench/paths builds and runs it. Microseconds,
- * the smallest of many rounds, the two archives in turn.
+ * that test, HEAD, GET, PUT and COMMIT of 16 parts at an object amid them instead, at some lengths, and that test where
+ * each upload has 16 parts. No object has pairs, so archives from before and after pairs take the same memory, the former
+ * the front of its tables. bench/paths builds and runs it. Microseconds, the smallest of many rounds, the two archives in
+ * turn.
  */
 #include <stdint.h>
 #include <stdio.h>
@@ -134,6 +135,16 @@ static int fill(size_t n, int wide)
     return objects;
 }
 
+/* 16 parts of each upload of a store that was filled. */
+static void fill_parts(void)
+{
+    for (uint32_t upload = 1; upload <= 16; upload++) {
+        for (uint16_t i = 1; i <= 16; i++) {
+            if (after.part(upload, i)) exit(1);
+        }
+    }
+}
+
 static double once(uint32_t (*call)(const uint8_t *, size_t), const uint8_t *p, size_t n)
 {
     double start = now();
@@ -184,6 +195,24 @@ static void by_length(int rounds)
     }
 }
 
+static void print_row(size_t n, const char *name, double x, double y)
+{
+    printf("| %zu | %s | %.2f | %.2f | %.2f |\n", n, name, x, y, y / x);
+    fflush(stdout);
+}
+
+/* The row of a call that both archives make, with the first `given` bytes of a path of n. */
+static void time_row(size_t n, const char *name, uint32_t (*x_call)(const uint8_t *, size_t),
+                     uint32_t (*y_call)(const uint8_t *, size_t), const uint8_t *p, size_t given, int rounds)
+{
+    double x = 1e9, y = 1e9;
+    for (int round = 0; round < rounds; round++) {
+        x = least(x, once(x_call, p, given));
+        y = least(y, once(y_call, p, given));
+    }
+    print_row(n, name, x, y);
+}
+
 static void by_call(int rounds)
 {
     static const size_t lengths[] = {4, 24, 64, 128};
@@ -192,31 +221,20 @@ static void by_call(int rounds)
         uint8_t p[128];
         size_t n = lengths[k];
         path(p, n, fill(n, 0) / 2, 0);
-        const struct {
-            const char *name;
-            uint32_t (*before)(const uint8_t *, size_t), (*after)(const uint8_t *, size_t);
-            size_t n;
-        } calls[] = {{"whole", before.head, after.head, 0},
-                     {"HEAD", before.head, after.head, n},
-                     {"GET", before.get, after.get, n},
-                     {"PUT, again", before.put, after.put, n}};
-        for (size_t i = 0; i < sizeof calls / sizeof *calls; i++) {
-            double x = 1e9, y = 1e9;
-            for (int round = 0; round < rounds; round++) {
-                x = least(x, once(calls[i].before, p, calls[i].n));
-                y = least(y, once(calls[i].after, p, calls[i].n));
-            }
-            printf("| %zu | %s | %.2f | %.2f | %.2f |\n", n, calls[i].name, x, y, y / x);
-            fflush(stdout);
-        }
+        time_row(n, "whole", before.head, after.head, p, 0, rounds);
+        time_row(n, "HEAD", before.head, after.head, p, n, rounds);
+        time_row(n, "GET", before.get, after.get, p, n, rounds);
+        time_row(n, "PUT, again", before.put, after.put, p, n, rounds);
         double x = 1e9, y = 1e9;
         if (after.abort(16)) exit(1);
         for (int round = 0; round < 20 * rounds; round++) {
             x = least(x, commit_once(&before, p, n));
             y = least(y, commit_once(&after, p, n));
         }
-        printf("| %zu | COMMIT | %.2f | %.2f | %.2f |\n", n, x, y, y / x);
-        fflush(stdout);
+        print_row(n, "COMMIT", x, y);
+        fill(n, 0);
+        fill_parts();
+        time_row(n, "whole, 256 parts", before.head, after.head, p, 0, rounds);
     }
 }
 

@@ -14,9 +14,9 @@ use crate::rows;
 use layout::Mark;
 use row::Head;
 
-// Parts that were passed: how many rows, where they end, and the mark after them.
+// Where a run of parts ends: the number of the next row, its offset, and the mark after the parts.
 struct Run {
-    rows: usize,
+    row: usize,
     end: Offset,
     m: Mark,
 }
@@ -165,25 +165,27 @@ fn read_part(t: &[u8], at: usize, arena: &[u8], base: usize, m: Mark) -> Reading
     Reading::Fits(h)
 }
 
-// Passes the parts from `from` on that may stand after m, at most so many rows, and stops at any other row: that one is
-// the caller's to judge. A part has no path and no pairs, so where the next row begins does not depend on what is read.
-fn pass_parts(t: &[u8], arena: &[u8], from: Offset, m: Mark, rows: usize) -> Run
-    requires { ⌜ (from .at ≤ length (now t)) × (from .base ≤ length (now arena)) ⌝ }
-    ensures { λ r. ⌜ (r .rows ≤ rows)
+// Passes the parts that may stand after m, from row `first` at `from` on, and stops at any other of the `rows` rows: that
+// one is the caller's to judge. A part has no path and no pairs, so where the next row begins does not depend on what is
+// read.
+fn pass_parts(t: &[u8], arena: &[u8], from: Offset, m: Mark, first: usize, rows: usize) -> Run
+    requires { ⌜ (from .at ≤ length (now t)) × (from .base ≤ length (now arena)) × (first ≤ rows) ⌝ }
+    ensures { λ r. ⌜ (first ≤ r .row)
+        × (r .row ≤ rows)
         × (r .end .at ≤ length (now (t .entry)))
         × (r .end .base ≤ length (now (arena .entry)))
         × ((most next uploads opened : ℕ)
-        → entriesOk most next uploads opened rows m from (now (t .entry)) (now (arena .entry))
-        ≡ entriesOk most next uploads opened (rows - r .rows) (r .m) (r .end) (now (t .entry)) (now (arena .entry))) ⌝ }
+        → entriesOk most next uploads opened (rows - first) m from (now (t .entry)) (now (arena .entry))
+        ≡ entriesOk most next uploads opened (rows - r .row) (r .m) (r .end) (now (t .entry)) (now (arena .entry))) ⌝ }
 {
     let mut at = from.at;
     let mut base = from.base;
     let mut after = m;
-    let mut i: usize = 0;
+    let mut i = first;
     while i < rows {
         let Reading::Fits(h) = read_part(t, at, arena, base, after) else {
             return Run {
-                rows: i,
+                row: i,
                 end: Offset { at, base },
                 m: after,
             };
@@ -194,7 +196,7 @@ fn pass_parts(t: &[u8], arena: &[u8], from: Offset, m: Mark, rows: usize) -> Run
         i += 1;
     }
     Run {
-        rows: i,
+        row: i,
         end: Offset { at, base },
         m: after,
     }
@@ -242,16 +244,15 @@ pub(crate) fn entries_ok(
             return false;
         }
         opened += opening(h);
-        i += 1;
         let next_row = Offset {
             at: after,
             base: data_end,
         };
-        let run = pass_parts(t, arena, next_row, mark_after(m, h), rows - i);
+        let run = pass_parts(t, arena, next_row, mark_after(m, h), i + 1, rows);
         at = run.end.at;
         base = run.end.base;
         m = run.m;
-        i += run.rows;
+        i = run.row;
     }
     opened == uploads as usize
 }

@@ -173,47 +173,31 @@ opening-requires c κs = search needs
 add-opened : tie.Need-add-opened Inv-loop μ-loop
 add-opened c = omega (arith, opens c, more c, counted c, from c .loop .inv)
 
-add-i : tie.Need-add-i Inv-loop μ-loop
-add-i c = omega (arith, more c, counted c)
-
 mark-after-requires : tie.Need-mark-after-requires Inv-loop μ-loop
 mark-after-requires c κs = search needs
 
-sub-pass-parts : tie.Need-sub-pass-parts Inv-loop μ-loop
-sub-pass-parts c = omega (arith, more (c .before))
+add-pass-parts : tie.Need-add-pass-parts Inv-loop μ-loop
+add-pass-parts c = omega (arith, more (c .before), counted (c .before))
 
 pass-parts-requires : tie.Need-pass-parts-requires Inv-loop μ-loop
-pass-parts-requires c κs = omega (arith, ends (read (c .before)), data-ends (read (c .before)))
-
--- the parts that follow were passed too
-module _ (c : tie.After-struct-known4 Inv-loop μ-loop) where
-  abbrev row : tie.After-opening Inv-loop μ-loop
-  row = c .before .before .before .before
-
-  passed : from row .loop .i + 1 + c .before .before .pass-parts .result .rows ≤ all-rows row
-  passed = omega (arith, c .before .before .pass-parts .ensures .0, more row)
-
-add-i-2 : tie.Need-add-i-2 Inv-loop μ-loop
-add-i-2 c = omega (arith, passed c, counted (row c))
+pass-parts-requires c κs = omega (arith, ends (read (c .before)), data-ends (read (c .before)), more (c .before))
 
 loop-less : tie.Need-loop-less Inv-loop μ-loop
-loop-less c = omega (arith, more (row c), passed c)
+loop-less c = omega (arith, c .before .pass-parts .ensures, more (c .before .before .before))
 
 loop-again : tie.Need-loop-again Inv-loop μ-loop
 loop-again c =
-    let r = row c in
+    let r = c .before .before .before in
     let k = from r in
     let a = k .before .before .before .args in
-    let run = c .before .before .pass-parts in
-    let left : all-rows r - (k .loop .i + 1) - run .result .rows ≡ all-rows r - (k .loop .i + 1 + run .result .rows) = omega arith in (
+    let run = c .before .pass-parts .ensures in (
       k .loop .inv .0
-          ∙ entries-next (tables k) (content k) (a .most) (a .next) (a .uploads) (k .loop .opened) (all-rows r) (k .loop .i) (k .loop .m) (here k) (more r) (λ j. k .before .before .shared-slice-known .given j .fits) _ (fits (read r)) _ (r .before .before .entry-ok .ensures) (r .before .if1 .left) _ (r .opening .ensures) _ (c .before .before .before .mark-after .ensures)
-          ∙ run .ensures .3 (a .most) (a .next) (a .uploads) (k .loop .opened + r .opening .result)
-          ∙ rw left,
-      run .ensures .1,
-      run .ensures .2,
-      passed c,
-      omega (arith, opens r, k .loop .inv),
+          ∙ entries-next (tables k) (content k) (a .most) (a .next) (a .uploads) (k .loop .opened) (all-rows r) (k .loop .i) (k .loop .m) (here k) (more r) (λ j. k .before .before .shared-slice-known .given j .fits) _ (fits (read r)) _ (r .before .before .entry-ok .ensures) (r .before .if1 .left) _ (r .opening .ensures) _ (c .before .before .mark-after .ensures)
+          ∙ run .4 (a .most) (a .next) (a .uploads) (k .loop .opened + r .opening .result),
+      run .2,
+      run .3,
+      run .1,
+      omega (arith, run .0, opens r, k .loop .inv),
     )
 
 returns-3 : tie.Need-returns-3 Inv-loop μ-loop
@@ -259,11 +243,9 @@ entries-ok-spec =
     returns-2
     opening-requires
     add-opened
-    add-i
     mark-after-requires
-    sub-pass-parts
+    add-pass-parts
     pass-parts-requires
-    add-i-2
     loop-less
     loop-again
     returns-3)

@@ -1,9 +1,8 @@
 -- `scan::entries::pass_parts` meets its contract. The invariant: the test of all rows is the test of those not yet passed. Assumes nothing.
 use Prim.Native.Nat.{ℕ, _+_, _-_, _≤_}
-use mathlib.Core.Path.{_≡_, _∙_}
+use mathlib.Core.Path.{_≡_, refl, _∙_}
 use mathlib.Core.Bool.{true}
 use mathlib.Core.List.{List}
-use native.Mathlib.Nat.{sub-zero}
 use native.Mathlib.Omega.{arith}
 use lib.ListN.{length, drop}
 use Rattle.row.specs.declared.Head.{Head}
@@ -19,16 +18,17 @@ use Rattle.scan.proofs.entries.pass_parts.Statement.{statement}
 use Rattle.scan.proofs.entries.pass_parts.Tie as tie
 
 abbrev Inv-loop : tie.InvT-loop
-Inv-loop t arena rows at₀ base₀ after₀ i₀ at base after i =
+Inv-loop t arena first rows at₀ base₀ after₀ i₀ at base after i =
     ((most next uploads opened : ℕ)
-    → entriesOk most next uploads opened rows after₀ (record { at = at₀; base = base₀ }) t arena
+    → entriesOk most next uploads opened (rows - first) after₀ (record { at = at₀; base = base₀ }) t arena
     ≡ entriesOk most next uploads opened (rows - i) after (record { at = at; base = base }) t arena)
     × (at ≤ length t)
     × (base ≤ length arena)
+    × (first ≤ i)
     × (i ≤ rows)
 
 abbrev μ-loop : tie.MeasureT-loop
-μ-loop t arena rows at₀ base₀ after₀ i₀ at base after i = rows - i
+μ-loop t arena first rows at₀ base₀ after₀ i₀ at base after i = rows - i
 
 abbrev tables : tie.At-loop Inv-loop μ-loop → List ℕ
 tables c = c .before .before .before .args .t .now
@@ -57,7 +57,7 @@ module _ (c : tie.After-h Inv-loop μ-loop) where
   data-ends = data-in (tables turn) (content turn) (here turn) head (part .0) (omega arith)
 
 loop-holds : tie.Need-loop-holds Inv-loop μ-loop
-loop-holds c = (λ most next uploads opened. rw sub-zero, omega arith, omega arith, omega arith)
+loop-holds c = (λ most next uploads opened. refl, omega arith, omega arith, omega arith, omega arith)
 
 read-part-requires : tie.Need-read-part-requires Inv-loop μ-loop
 read-part-requires c κs = omega arith
@@ -69,7 +69,7 @@ enum-told : tie.Need-enum-told Inv-loop μ-loop
 enum-told c = search needs
 
 returns : tie.Need-returns Inv-loop μ-loop
-returns c = let k = c .before .before .before .before in (omega arith, omega arith, omega arith, k .loop .inv .0)
+returns c = let k = c .before .before .before .before in (omega arith, omega arith, omega arith, omega arith, k .loop .inv .0)
 
 mark-after-requires : tie.Need-mark-after-requires Inv-loop μ-loop
 mark-after-requires c κs = search needs
@@ -100,10 +100,11 @@ loop-again c =
       ends h,
       data-ends h,
       omega arith,
+      omega arith,
     )
 
 returns-2 : tie.Need-returns-2 Inv-loop μ-loop
-returns-2 c = let k = c .before in (omega arith, omega arith, omega arith, k .loop .inv .0)
+returns-2 c = let k = c .before in (omega arith, omega arith, omega arith, omega arith, k .loop .inv .0)
 
 pub pass-parts-spec : {M : Type 1} → statement M
 pass-parts-spec =

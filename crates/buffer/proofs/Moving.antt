@@ -9,6 +9,12 @@ use lib.ListN.{length, take, drop, getD, set, length-drop, take-append-drop, dro
 use lib.Seq.{paste, paste-suc, length-paste, take-paste, drop-paste, take-add, take-at, drop-at, take-take, drop-drop, length-take-le, length-paste-head, getD-append-add, getD-drop, getD-take, take-suc, drop-cons, set-at}
 use Rattle.number.proofs.Fields.{drop-take}
 
+-- a part of a list is the end of its front
+pub part-of : (l : List ℕ) (from m : ℕ) → from ≤ length l → take m (drop from l) ≡ drop from (take (from + m) l)
+part-of l from m room =
+    let q : from + m - from ≡ m = omega arith in
+    sym (drop-take from (from + m) l (omega arith) room ∙ ap (λ (i : ℕ). take i (drop from l)) q)
+
 -- a byte that a move to the left has not come to yet
 pub left-read : (b₀ : List ℕ) (from to i : ℕ) → to ≤ from → from + i < length b₀ → getD (paste b₀ to (drop from b₀) i) (from + i) 0 ≡ getD (drop from b₀) i 0
 left-read b₀ from to i le room =
@@ -122,11 +128,8 @@ right-pieces b b₁ b₂ from to n k m le room mk one two =
     λ j h. sym (take-take j (to + m) b₁ h) ∙ ap (take j) front ∙ take-take j (to + m) b h in
     let back : drop (to + m) b₁ ≡ rest = ap (drop (to + m)) e ∙ drop-at (take (to + m) b) rest (to + m) lt in
     let l₁ : length b₁ ≡ length b = ap length one ∙ length-paste b (to + m) (drop (from + m) b) k (omega arith) (rw (length-drop (from + m) b) (omega arith)) in
-    let q : from + m - from ≡ m = omega arith in
-    let part : (l : List ℕ) → from ≤ length l → take m (drop from l) ≡ drop from (take (from + m) l) =
-    λ l h. sym (drop-take from (from + m) l (omega arith) h ∙ ap (λ (i : ℕ). take i (drop from l)) q) in
     let read : take m (drop from b₁) ≡ take m s =
-    part b₁ (omega arith) ∙ ap (drop from) (lower (from + m) (omega arith)) ∙ sym (part b (omega arith)) in
+    part-of b₁ from m (omega arith) ∙ ap (drop from) (lower (from + m) (omega arith)) ∙ sym (part-of b from m (omega arith)) in
     let end : to + m + k ≡ to + n = omega arith in
     let all : take m s ++ upper ≡ take n s =
     ap (λ (l : List ℕ). take m s ++ take k l) (sym (drop-drop m from b)) ∙ sym (take-add m k s) ∙ ap (λ (i : ℕ). take i s) mk in

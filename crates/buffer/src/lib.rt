@@ -2,6 +2,7 @@
 mod blocks;
 
 ghost use mathlib.Core.Path.{_≡_};
+ghost use mathlib.Core.Logic.{_⊎_};
 ghost use Prim.Native.Nat.{_+_, _-_, _≤_, _<_};
 ghost use mathlib.Core.List.{[]};
 ghost use lib.ListN.{length, take, drop};
@@ -81,6 +82,22 @@ pub fn splice(b: &mut [u8], at: usize, n: usize, used: usize, src: &[u8])
     let m = src.len();
     copy_within(b, at + n, at + m, used - (at + n));
     copy_at(b, at, src);
+}
+
+// The n bytes at `at` give way to a copy of the m bytes at `from`, which stand before or after them, and those after
+// them up to `used` move to follow it.
+pub fn splice_within(b: &mut [u8], at: usize, n: usize, used: usize, from: usize, m: usize)
+    requires { ⌜ (at + n ≤ used) × (used ≤ length (now b)) × (used + m ≤ length (now b) + n) × (from + m ≤ used)
+        × ((from + m ≤ at) ⊎ (at + n ≤ from)) ⌝ }
+    ensures { λ _. ⌜ now (b .exit) ≡ spliced (now (b .entry)) at n used (take m (drop from (now (b .entry)))) ⌝ }
+{
+    let end = at + n;
+    copy_within(b, end, at + m, used - end);
+    if from + m <= at {
+        copy_within(b, from, at, m);
+    } else {
+        copy_within(b, from + m - n, at, m);
+    }
 }
 
 // The n bytes at `at` are removed: a splice of no bytes.

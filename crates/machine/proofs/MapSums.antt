@@ -1,13 +1,15 @@
 -- Finite maps: counts and sums over the values.
 -- Assumes nothing.
 use Prim.Native.Nat.{ℕ, _+_, _≤_, Ordering}
-use mathlib.Core.Path.{_≡_, refl}
+use mathlib.Core.Path.{_≡_, refl, sym, ap, _∙_}
+use mathlib.Core.Logic.{_⊎_, inl, inr, ⊎-map}
 use mathlib.Core.List.{[], _∷_}
 use mathlib.Core.Option.{some}
 use native.Mathlib.Omega.{arith}
-use lib.ListN.{length}
+use lib.ListN.{length, take}
 use Rattle.order.proofs.OrderLaws.{cases, Lawful}
-use Rattle.machine.specs.Map.{Map, lookup, insert, remove, total, owed}
+use Rattle.machine.specs.Map.{Map, lookup, insert, remove, place, total, owed}
+use Rattle.machine.proofs.Options.{none-some}
 
 pub length-total : {K X : Type 0} (m : Map K X) → total (λ (x : X). 1) m ≡ length m
 length-total [] = refl
@@ -40,3 +42,20 @@ module _ {K X : Type 0} {cmp : K → K → Ordering} (L : Lawful cmp) where
   -- one value's share
   pub total-share : (f : X → ℕ) (k : K) (v : X) (m : Map K X) → lookup cmp k m ≡ some v → f v ≤ total f m
   total-share f k v m h = let t = rw h at (total-remove f k m) in omega arith
+
+  -- two keys stand apart: the first with its value before the second, or after it with its value
+  pub total-apart : (f : X → ℕ) (j k : K) (v : X) (m : Map K X) → lookup cmp j m ≡ some v → (j ≡ k → ⊥)
+      → (total f (take (place cmp j m) m) + f v ≤ total f (take (place cmp k m) m)) ⊎ (total f (take (place cmp k m) m) + owed f (lookup cmp k m) ≤ total f (take (place cmp j m) m))
+  total-apart f j k v [] h d = absurd (none-some h)
+  total-apart f j k v (e ∷ m) h d =
+      cases (cmp j (e .0))
+      (λ q. absurd (none-some (simp q at h)))
+      (λ q. let n : some (e .1) ≡ some v = simp q at h in let w : e .1 ≡ v = cc in
+      cases (cmp k (e .0))
+      (λ r. simp (q, r) (inr (omega arith)))
+      (λ r. absurd (d (L .alike j (e .0) q ∙ sym (L .alike k (e .0) r))))
+      (λ r. simp (q, r) (inl (omega (arith, ap f w)))))
+      (λ q. cases (cmp k (e .0))
+      (λ r. simp (q, r) (inr (omega arith)))
+      (λ r. simp (q, r) (inr (omega arith)))
+      (λ r. simp (q, r) (⊎-map (λ z. omega arith) (λ z. omega arith) (total-apart f j k v m (simp q at h) d))))

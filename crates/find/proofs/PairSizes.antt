@@ -54,10 +54,7 @@ module _ (t a : List ℕ) (s : State) (h : Stands t a s) (xs : List Row) (r : Ro
   pub row-lengths : lengthsAt (drop at t) ≡ r .lengths
   row-lengths = ap (λ (i : ℕ). lengthsAt (drop i t)) e ∙ k .lengths
 
--- the pairs of an object, and of an upload
-module _ (t a : List ℕ) (s : State) (h : Stands t a s) (xs ys : List Row) (at : ℕ) (e : at ≡ headerLength + length (encodeRows xs)) where
-  pub object-pairs-size : (p : Bytes) (x : Object) → At t a s h xs (objectRow p x) ys → sumOf (lengthsAt (drop at t)) ≡ pairsHeld (x .pairs)
-  object-pairs-size p x k = ap sumOf (row-lengths t a s h xs (objectRow p x) ys k at e) ∙ sum-lengths (x .pairs)
-
-  pub upload-pairs-size : (u : ℕ) (x : Upload) → At t a s h xs (uploadRow u x) ys → sumOf (lengthsAt (drop at t)) ≡ pairsHeld (x .pairs)
-  upload-pairs-size u x k = ap sumOf (row-lengths t a s h xs (uploadRow u x) ys k at e) ∙ sum-lengths (x .pairs)
+-- the pairs of an object
+pub object-pairs-size : (t a : List ℕ) (s : State) (h : Stands t a s) (xs ys : List Row) (at : ℕ) (e : at ≡ headerLength + length (encodeRows xs))
+    → (p : Bytes) (x : Object) → At t a s h xs (objectRow p x) ys → sumOf (lengthsAt (drop at t)) ≡ pairsHeld (x .pairs)
+object-pairs-size t a s h xs ys at e p x k = ap sumOf (row-lengths t a s h xs (objectRow p x) ys k at e) ∙ sum-lengths (x .pairs)

@@ -18,16 +18,19 @@ use Rattle.find.specs.declared.PassedParts.{PassedParts}
 use Rattle.find.specs.declared.Numbered.{Numbered}
 use Rattle.find.specs.Search.{rowPlaceAt}
 
+-- a lookup that answers a place, and the place that a lookup answers
+abbrev pub lookupOf : (found : Bool) → RowPlace → Lookup
+lookupOf found p = record { found = found; row = p .row; at = p .at; base = p .base }
+
+abbrev pub placeOf : Lookup → RowPlace
+placeOf l = record { row = l .row; at = l .at; base = l .base }
+
 -- the place of the row that follows the rows rs, and a lookup that answers it
 abbrev pub placeAfter : List Row → RowPlace
 placeAfter rs = record { row = length rs; at = headerLength + length (encodeRows rs); base = length (contentsOf rs) }
 
 abbrev pub lookupAfter : (found : Bool) → List Row → Lookup
-lookupAfter found rs = record { found = found; row = placeAfter rs .row; at = placeAfter rs .at; base = placeAfter rs .base }
-
--- the place that a lookup answers
-abbrev pub placeOf : Lookup → RowPlace
-placeOf l = record { row = l .row; at = l .at; base = l .base }
+lookupAfter found rs = lookupOf found (placeAfter rs)
 
 -- the rows before those of the object at a path, of an upload, of an upload's parts, of a part, and of what follows an
 -- upload's parts

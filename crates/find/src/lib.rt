@@ -6,6 +6,8 @@ pub mod pairs;
 mod search;
 pub mod uploads;
 
+ghost use mathlib.Core.Path.{_≡_};
+ghost use Rattle.find.specs.Places.{lookupOf, placeOf};
 pub use counts::read_counts;
 pub use objects::find_object;
 pub use pairs::pairs_size;
@@ -48,4 +50,27 @@ pub struct Numbered {
 pub struct PassedParts {
     pub count: usize,
     pub next: RowPlace,
+}
+
+// A lookup that answers a place, and whether what was looked for stands there.
+fn lookup_at(found: bool, here: RowPlace) -> Lookup
+    ensures { λ r. ⌜ r ≡ lookupOf found here ⌝ }
+{
+    Lookup {
+        found,
+        row: here.row,
+        at: here.at,
+        base: here.base,
+    }
+}
+
+// The place that a lookup answers.
+pub fn place_of(l: Lookup) -> RowPlace
+    ensures { λ r. ⌜ r ≡ placeOf l ⌝ }
+{
+    RowPlace {
+        row: l.row,
+        at: l.at,
+        base: l.base,
+    }
 }

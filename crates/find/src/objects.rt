@@ -2,6 +2,7 @@
 use crate::Lookup;
 use crate::RowPlace;
 use crate::counts::read_counts;
+use crate::lookup_at;
 use order::Order;
 ghost use mathlib.Core.Path.{_≡_};
 ghost use mathlib.Core.Bool.{true};
@@ -30,32 +31,17 @@ pub fn find_object(tables: &[u8], arena: &[u8], path: &[u8]) -> Lookup
         match o {
             Order::Greater => {}
             Order::Equal => {
-                return Lookup {
-                    found: true,
-                    row: i,
-                    at,
-                    base,
-                };
+                return lookup_at(true, RowPlace { row: i, at, base });
             }
             Order::Less => {
-                return Lookup {
-                    found: false,
-                    row: i,
-                    at,
-                    base,
-                };
+                return lookup_at(false, RowPlace { row: i, at, base });
             }
         }
         at = to;
         base += h.size as usize;
         i += 1;
     }
-    Lookup {
-        found: false,
-        row: i,
-        at,
-        base,
-    }
+    lookup_at(false, RowPlace { row: i, at, base })
 }
 
 // The same from a row on, where the paths of all rows before it are below `path`.
@@ -77,30 +63,15 @@ fn find_from(tables: &[u8], arena: &[u8], path: &[u8], start: RowPlace) -> Looku
         match o {
             Order::Greater => {}
             Order::Equal => {
-                return Lookup {
-                    found: true,
-                    row: i,
-                    at,
-                    base,
-                };
+                return lookup_at(true, RowPlace { row: i, at, base });
             }
             Order::Less => {
-                return Lookup {
-                    found: false,
-                    row: i,
-                    at,
-                    base,
-                };
+                return lookup_at(false, RowPlace { row: i, at, base });
             }
         }
         at += row::span(h);
         base += h.size as usize;
         i += 1;
     }
-    Lookup {
-        found: false,
-        row: i,
-        at,
-        base,
-    }
+    lookup_at(false, RowPlace { row: i, at, base })
 }

@@ -3,6 +3,8 @@ use crate::Lookup;
 use crate::Numbered;
 use crate::PassedParts;
 use crate::RowPlace;
+use crate::lookup_at;
+use crate::place_of;
 use crate::search::Goal;
 use crate::search::next_row;
 use crate::search::number_of;
@@ -44,11 +46,7 @@ pub fn rows_end_from(tables: &[u8], arena: &[u8], place: Lookup) -> RowPlace
     requires { ⌜ WholePlace (now tables) (now arena) (placeOf place) ⌝ }
     ensures { λ r. ⌜ r ≡ placeAfter (rowsIn (now (tables .entry)) (now (arena .entry))) ⌝ }
 {
-    let from = RowPlace {
-        row: place.row,
-        at: place.at,
-        base: place.base,
-    };
+    let from = place_of(place);
     seek(tables, arena, from, Goal::End)
 }
 
@@ -59,12 +57,7 @@ pub fn find_upload(tables: &[u8], arena: &[u8], upload: u32) -> Lookup
 {
     let here = upload_row(tables, arena, upload);
     let found = stands(tables, arena, here, layout::UPLOAD_KIND, upload);
-    Lookup {
-        found,
-        row: here.row,
-        at: here.at,
-        base: here.base,
-    }
+    lookup_at(found, here)
 }
 
 // The place of a part of an open upload, `first` being the row after the upload's.
@@ -75,12 +68,7 @@ pub fn find_part_from(tables: &[u8], arena: &[u8], first: RowPlace, number: u16)
 {
     let here = seek(tables, arena, first, Goal::Part(number));
     let found = stands(tables, arena, here, layout::PART_KIND, number as u32);
-    Lookup {
-        found,
-        row: here.row,
-        at: here.at,
-        base: here.base,
-    }
+    lookup_at(found, here)
 }
 
 // The place of a part of the open upload that a lookup found.
@@ -89,11 +77,7 @@ pub fn find_part_after(tables: &[u8], arena: &[u8], upload: Lookup, number: u16)
     ensures { λ r. ⌜ OfOpenAt (now (tables .entry)) (now (arena .entry)) (placeOf upload)
         (λ s u x. r ≡ partPlace s u x number) ⌝ }
 {
-    let here = RowPlace {
-        row: upload.row,
-        at: upload.at,
-        base: upload.base,
-    };
+    let here = place_of(upload);
     let first = next_row(tables, arena, here);
     find_part_from(tables, arena, first, number)
 }

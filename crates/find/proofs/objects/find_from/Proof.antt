@@ -108,14 +108,20 @@ enum-told c = search needs
 enum-told-2 : tie.Need-enum-told-2 Inv-loop μ-loop
 enum-told-2 c = search needs
 
+lookup-at-requires : tie.Need-lookup-at-requires Inv-loop μ-loop
+lookup-at-requires c κs = search needs
+
 returns : tie.Need-returns Inv-loop μ-loop
-returns c = let d = c .before .before in turn (d .before .before .before) .equal (answer-equal _ (compared d _ (c .enum-told2 .given .1)))
+returns c = let d = c .before .before .before in c .lookup-at .ensures ∙ turn (d .before .before .before) .equal (answer-equal _ (compared d _ (c .before .enum-told2 .given .1)))
 
 enum-told-3 : tie.Need-enum-told-3 Inv-loop μ-loop
 enum-told-3 c = search needs
 
+lookup-at-requires-2 : tie.Need-lookup-at-requires-2 Inv-loop μ-loop
+lookup-at-requires-2 c κs = search needs
+
 returns-2 : tie.Need-returns-2 Inv-loop μ-loop
-returns-2 c = let d = c .before .before in turn (d .before .before .before) .less (answer-less _ (compared d _ (c .enum-told3 .given .1)))
+returns-2 c = let d = c .before .before .before in c .lookup-at2 .ensures ∙ turn (d .before .before .before) .less (answer-less _ (compared d _ (c .before .enum-told3 .given .1)))
 
 span-requires : tie.Need-span-requires Inv-loop μ-loop
 span-requires c κs = search needs
@@ -140,8 +146,13 @@ loop-again c =
     let d = c .before .before .before .before in
     rw (c .before .span .ensures) (turn (d .before .before .before) .greater (answer-greater _ (compared d _ (c .before .before .enum-told .given .1))))
 
+lookup-at-requires-3 : tie.Need-lookup-at-requires-3 Inv-loop μ-loop
+lookup-at-requires-3 c κs = search needs
+
 returns-3 : tie.Need-returns-3 Inv-loop μ-loop
-returns-3 c = let k = c .before in passed-all (s k) (start k .args .path .now) (k .loop .i) (k .loop .at) (k .loop .base) (k .loop .inv) (let n = c .loop-test .left in omega (arith, counted k))
+returns-3 c =
+    let k = c .before .before in
+    c .lookup-at3 .ensures ∙ passed-all (s k) (start k .args .path .now) (k .loop .i) (k .loop .at) (k .loop .base) (k .loop .inv) (let n = c .before .loop-test .left in omega (arith, counted k))
 
 pub find-from-spec : {M : Type 1} → statement M
 find-from-spec =
@@ -161,8 +172,10 @@ find-from-spec =
     compare-requires
     enum-told
     enum-told-2
+    lookup-at-requires
     returns
     enum-told-3
+    lookup-at-requires-2
     returns-2
     span-requires
     add-at
@@ -171,4 +184,5 @@ find-from-spec =
     add-i
     loop-less
     loop-again
+    lookup-at-requires-3
     returns-3)

@@ -114,14 +114,20 @@ enum-told c = search needs
 enum-told-2 : tie.Need-enum-told-2 Inv-loop μ-loop
 enum-told-2 c = search needs
 
+lookup-at-requires : tie.Need-lookup-at-requires Inv-loop μ-loop
+lookup-at-requires c κs = search needs
+
 returns-2 : tie.Need-returns-2 Inv-loop μ-loop
-returns-2 c = let d = c .before .before in turn (d .before .before .before .before .before) .equal (answer-equal _ (compared d _ (c .enum-told2 .given .1)))
+returns-2 c = let d = c .before .before .before in c .lookup-at .ensures ∙ turn (d .before .before .before .before .before) .equal (answer-equal _ (compared d _ (c .before .enum-told2 .given .1)))
 
 enum-told-3 : tie.Need-enum-told-3 Inv-loop μ-loop
 enum-told-3 c = search needs
 
+lookup-at-requires-2 : tie.Need-lookup-at-requires-2 Inv-loop μ-loop
+lookup-at-requires-2 c κs = search needs
+
 returns-3 : tie.Need-returns-3 Inv-loop μ-loop
-returns-3 c = let d = c .before .before in turn (d .before .before .before .before .before) .less (answer-less _ (compared d _ (c .enum-told3 .given .1)))
+returns-3 c = let d = c .before .before .before in c .lookup-at2 .ensures ∙ turn (d .before .before .before .before .before) .less (answer-less _ (compared d _ (c .before .enum-told3 .given .1)))
 
 cast-base : tie.Need-cast-base Inv-loop μ-loop
 cast-base c = search needs
@@ -144,8 +150,13 @@ loop-again c =
     subst (λ (n : ℕ). Passed (s k) (start k .args .path .now) (k .loop .i + 1) n (k .loop .base + h .size)) (sym next)
     (turn (c .before .before .before .before .before .before .before .before) .greater (answer-greater _ (compared d _ (c .before .enum-told .given .1))))
 
+lookup-at-requires-3 : tie.Need-lookup-at-requires-3 Inv-loop μ-loop
+lookup-at-requires-3 c κs = search needs
+
 returns-4 : tie.Need-returns-4 Inv-loop μ-loop
-returns-4 c = let k = c .before in passed-all (s k) (start k .args .path .now) (k .loop .i) (k .loop .at) (k .loop .base) (k .loop .inv) (let n = c .loop-test .left in omega (arith, counted k))
+returns-4 c =
+    let k = c .before .before in
+    c .lookup-at3 .ensures ∙ passed-all (s k) (start k .args .path .now) (k .loop .i) (k .loop .at) (k .loop .base) (k .loop .inv) (let n = c .before .loop-test .left in omega (arith, counted k))
 
 pub find-object-spec : {M : Type 1} → statement M
 find-object-spec =
@@ -167,12 +178,15 @@ find-object-spec =
     compare-requires
     enum-told
     enum-told-2
+    lookup-at-requires
     returns-2
     enum-told-3
+    lookup-at-requires-2
     returns-3
     cast-base
     add-base
     add-i
     loop-less
     loop-again
+    lookup-at-requires-3
     returns-4)

@@ -2,7 +2,7 @@
 use Prim.Native.Nat.{ℕ}
 use mathlib.Core.Path.{_≡_, refl, sym, ap, _∙_, subst}
 use mathlib.Core.Bool.{Bool, true, false, cond}
-use mathlib.Core.List.{List, []}
+use mathlib.Core.List.{List}
 use mathlib.Core.Option.{some}
 use lib.ListN.{length}
 use Rattle.number.specs.Number.{AreBytes}
@@ -23,7 +23,8 @@ use Rattle.find.proofs.Found.{is-some, is-none}
 use Rattle.contract.specs.Answers.{partList}
 use Rattle.contract.specs.Made.{Memory, memory, stateIn, outcome, resultOf}
 use Rattle.contract.proofs.Judging.{result-pass, result-stop, result-last, passed, result-found, result-missing, was-found}
-use Rattle.join.specs.Joined.{Listed, joinedState, Joinable}
+use Rattle.join.specs.declared.Bounds.{Bounds}
+use Rattle.join.specs.Joined.{Listed, joinedState, JoinPlaced, Joinable}
 use Rattle.commits.proofs.Fitting.{upload-ok}
 
 -- The checks -----------------------------------------------------------------------------------------------------------
@@ -115,11 +116,13 @@ module _ (t a : List ℕ) (u : ℕ) (list : Bytes) (place : Lookup) (place-is : 
 
 -- What `join` asks, and what the machine does ---------------------------------------------------------------------------
 
-module _ (t a : List ℕ) (u : ℕ) (list : Bytes) (w : whole t a ≡ true) (zero-result : resultOf (outcome (COMMIT u (partList list)) (memory t a)) ≡ 0) (b : AreBytes t) where
-  pub commit-ready : Joinable t a u list
+module _ (t a : List ℕ) (u : ℕ) (list : Bytes) (w : whole t a ≡ true) (zero-result : resultOf (outcome (COMMIT u (partList list)) (memory t a)) ≡ 0) (b : AreBytes t)
+    (bounds : Bounds) (place : Lookup) (placed : JoinPlaced t a u bounds place) where
+  pub commit-ready : Joinable t a u bounds place list
   commit-ready =
       record {
         is-whole = w;
+        placed = placed;
         listed = commit-listed (memory t a) u (partList list) zero-result;
         valid = commit-valid (memory t a) u (partList list) zero-result (whole-stands t a b w .valid);
       }

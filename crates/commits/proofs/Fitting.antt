@@ -135,29 +135,26 @@ unfolding passedParts
 count-is s u x parts e = ap (λ (k : PassedParts). k .count) e
 
 -- what `list_fits` finds in whole memory
-module _ (t a : List ℕ) (b : AreBytes t) (w : whole t a ≡ true) (u : ℕ) (parts : PassedParts) where
+module _ (t a : List ℕ) (b : AreBytes t) (w : whole t a ≡ true) (u count : ℕ) where
   abbrev s : State
   s = stateOf t a
 
   abbrev h : Stands t a s
   h = whole-stands t a b w
 
-  module _ (x : Upload) (f : lookup byNumber u (s .U) ≡ some x) (parts-are : parts ≡ passedParts s u x) where
-    counted : parts .count ≡ length (x .parts)
-    counted = count-is s u x parts parts-are
-
-    pub unfit-list : (list : Bytes) → (length list ≡ 2 * parts .count → ⊥) → false ≡ fits (partList list) (x .parts)
+  module _ (x : Upload) (f : lookup byNumber u (s .U) ≡ some x) (counted : count ≡ length (x .parts)) where
+    pub unfit-list : (list : Bytes) → (length list ≡ 2 * count → ⊥) → false ≡ fits (partList list) (x .parts)
     unfit-list list other =
         let k = upload-ok (length a) s (h .valid) u x f in
         unfit-length (x .parts) list (k .sorted) (k .each) (λ e. other (e ∙ ap (λ (n : ℕ). 2 * n) (sym counted)))
 
-    pub ordered-list : (first : RowPlace) → first ≡ partsRowOf s u → (list : Bytes) → length list ≡ 2 * parts .count → inOrder (partList list) (drop (first .row) (rowsOf s)) ≡ true → true ≡ fits (partList list) (x .parts)
+    pub ordered-list : (first : RowPlace) → first ≡ partsRowOf s u → (list : Bytes) → length list ≡ 2 * count → inOrder (partList list) (drop (first .row) (rowsOf s)) ≡ true → true ≡ fits (partList list) (x .parts)
     ordered-list first e list l = ordered-fits s u x f first e list (upload-ok (length a) s (h .valid) u x f .sorted) (l ∙ ap (λ (n : ℕ). 2 * n) counted)
 
-    pub fit-list : (list : Bytes) → length list ≡ 2 * parts .count → Passed (x .parts) list (parts .count) → true ≡ fits (partList list) (x .parts)
+    pub fit-list : (list : Bytes) → length list ≡ 2 * count → Passed (x .parts) list count → true ≡ fits (partList list) (x .parts)
     fit-list list e p = passed-all (x .parts) list (e ∙ ap (λ (n : ℕ). 2 * n) counted) (subst (Passed (x .parts) list) counted p)
 
-  pub count-few : isSome (lookup byNumber u (s .U)) ≡ true → ((x : Upload) → lookup byNumber u (s .U) ≡ some x → parts ≡ passedParts s u x) → parts .count ≤ 256
-  count-few is-open parts-are =
+  pub count-few : isSome (lookup byNumber u (s .U)) ≡ true → ((x : Upload) → lookup byNumber u (s .U) ≡ some x → count ≡ length (x .parts)) → count ≤ 256
+  count-few is-open counted =
       let x = is-some (lookup byNumber u (s .U)) is-open in
-      omega (arith, count-is s u (x .0) parts (parts-are (x .0) (x .1)), few-parts t a s h u (x .0) (x .1))
+      omega (arith, counted (x .0) (x .1), few-parts t a s h u (x .0) (x .1))

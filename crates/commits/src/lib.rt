@@ -1,5 +1,7 @@
 // COMMIT: an open upload's parts become an object, in listed order.
+use find::Lookup;
 use find::RowPlace;
+use join::Bounds;
 use types::DoneAnswer;
 use types::UploadNumber;
 ghost use mathlib.Core.Path.{_≡_};
@@ -10,9 +12,11 @@ ghost use Rattle.machine.specs.State.{Object, withObject, withoutUpload, counte
 ghost use Rattle.machine.specs.Calls.{COMMIT, tableFull, code};
 ghost use Rattle.machine.specs.Fits.{member, fits};
 ghost use Rattle.layout.specs.Memory.{whole};
+ghost use Rattle.find.specs.Places.{objectPlace};
 ghost use Rattle.find.specs.Known.{rowsIn, WholeOpenAt, WholePlace, OfOpenAt, OfOpenBefore};
 ghost use Rattle.contract.specs.Answers.{WellNumbered, doneReply, partList};
 ghost use Rattle.contract.specs.Made.{memory, outcome, resultOf, Made, MadeWhole};
+ghost use Rattle.join.specs.Joined.{JoinPlaced};
 ghost use Rattle.commits.specs.Numbers.{firstNumbers, numberFits, inOrder};
 
 // Whether a number is one of the list's first i.
@@ -66,15 +70,14 @@ fn in_order(tables: &[u8], arena: &[u8], first: RowPlace, list: &[u8], count: us
     true
 }
 
-// Whether the list names each part of an open upload one time, `here` being the upload's row. A list in ascending order
-// is walked once.
-fn list_fits(tables: &[u8], arena: &[u8], here: RowPlace, list: &[u8]) -> bool
-    requires { ⌜ WholeOpenAt (now tables) (now arena) here ⌝ }
+// Whether the list names each part of an open upload one time, `here` being the upload's row, and `count` how many parts
+// it has. A list in ascending order is walked once.
+fn list_fits(tables: &[u8], arena: &[u8], here: RowPlace, count: usize, list: &[u8]) -> bool
+    requires { ⌜ WholeOpenAt (now tables) (now arena) here
+        × OfOpenAt (now tables) (now arena) here (λ s u x. count ≡ length (x .parts)) ⌝ }
     ensures { λ r. ⌜ OfOpenAt (now (tables .entry)) (now (arena .entry)) here
         (λ s u x. r ≡ fits (partList (now (list .entry))) (x .parts)) ⌝ }
 {
-    let parts = find::pass_parts(tables, arena, here);
-    let count = parts.count;
     if list.len() != 2 * count {
         return false;
     }
@@ -92,40 +95,104 @@ fn list_fits(tables: &[u8], arena: &[u8], here: RowPlace, list: &[u8]) -> bool
     true
 }
 
-// Table full where the object at an open upload's path would be the 257th, or 0, `here` being the upload's row. The
-// upload's data are held already, so the object asks the room of one without data.
-fn commit_room(tables: &[u8], arena: &[u8], here: RowPlace) -> u8
+// A judgement: the refusal's number, or 0, and what the lookup of the upload's path answers.
+struct PathPlace {
+    refusal: u8,
+    place: Lookup,
+}
+
+// Table full where the object at an open upload's path would be the 257th, or 0, and the place of the path, `here` being
+// the upload's row. The upload's data are held already, so the arena has room for the object.
+fn commit_room(tables: &[u8], arena: &[u8], here: RowPlace) -> PathPlace
     requires { ⌜ WholeOpenAt (now tables) (now arena) here ⌝ }
-    ensures { λ r. ⌜ OfOpenAt (now (tables .entry)) (now (arena .entry)) here (λ s u x. (y : Object)
-        → r ≡ cond (counted (withoutUpload (withObject s (x .path) y) u)) 0 (code tableFull)) ⌝ }
+    ensures { λ r. ⌜ OfOpenAt (now (tables .entry)) (now (arena .entry)) here (λ s u x.
+        ((y : Object) → r .refusal ≡ cond (counted (withoutUpload (withObject s (x .path) y) u)) 0 (code tableFull))
+        × (r .place ≡ objectPlace s (x .path))) ⌝ }
 {
     let at = here.at;
     let h = row::read_head(tables, at);
     let from = at + row::HEAD_LENGTH;
     let to = from + h.pathlen as usize;
-    let room = room::object_judge(tables, arena, &tables[from..to], 0);
-    room.refusal
+    let place = find::find_object(tables, arena, &tables[from..to]);
+    if place.found {
+        return PathPlace { refusal: 0, place };
+    }
+    let counts = find::read_counts(tables, arena);
+    let objects = counts.objects;
+    if layout::OBJECTS_MOST <= objects {
+        return PathPlace {
+            refusal: types::TABLE_FULL,
+            place,
+        };
+    }
+    PathPlace { refusal: 0, place }
 }
 
-// COMMIT's refusal over whole memory, 0 for none. The upload is looked up one time.
-fn commit_judge(tables: &[u8], arena: &[u8], upload: UploadNumber, list: &[u8]) -> u8
-    requires { ⌜ whole (now tables) (now arena) ≡ true ⌝ }
-    ensures { λ r. ⌜ r ≡ resultOf (outcome (COMMIT (upload .0) (partList (now (list .entry))))
-        (memory (now (tables .entry)) (now (arena .entry)))) ⌝ }
+// A judgement: the refusal's number, or 0; of an accepted COMMIT, the bounds of its upload and the place of its path.
+struct CommitRoom {
+    refusal: u8,
+    bounds: Bounds,
+    place: Lookup,
+}
+
+// A refusal; its places say nothing.
+fn refused(n: u8) -> CommitRoom
+    ensures { λ r. ⌜ r .refusal ≡ n ⌝ }
 {
-    let place = find::find_upload(tables, arena, upload.0);
-    if !place.found {
-        return types::BAD_REQUEST;
+    CommitRoom {
+        refusal: n,
+        bounds: Bounds {
+            at: 0,
+            first: 0,
+            after: 0,
+            used: 0,
+            base: 0,
+            parts: 0,
+            size: 0,
+            held: 0,
+            count: 0,
+            rows: 0,
+        },
+        place: Lookup {
+            found: false,
+            row: 0,
+            at: 0,
+            base: 0,
+        },
     }
-    let here = RowPlace {
-        row: place.row,
-        at: place.at,
-        base: place.base,
-    };
-    if !list_fits(tables, arena, here, list) {
-        return types::BAD_REQUEST;
+}
+
+// COMMIT's refusal over whole memory, 0 for none; of an accepted one, the bounds of its upload and the place of its path.
+// Upload and path are looked up one time each.
+fn commit_judge(tables: &[u8], arena: &[u8], upload: UploadNumber, list: &[u8]) -> CommitRoom
+    requires { ⌜ whole (now tables) (now arena) ≡ true ⌝ }
+    ensures { λ r. ⌜ (r .refusal ≡ resultOf (outcome (COMMIT (upload .0) (partList (now (list .entry))))
+        (memory (now (tables .entry)) (now (arena .entry)))))
+        × (r .refusal ≡ 0
+        → JoinPlaced (now (tables .entry)) (now (arena .entry)) (upload .0) (r .bounds) (r .place)) ⌝ }
+{
+    let opened = find::find_upload(tables, arena, upload.0);
+    if !opened.found {
+        return refused(types::BAD_REQUEST);
     }
-    commit_room(tables, arena, here)
+    let here = find::place_of(opened);
+    let parts = find::pass_parts(tables, arena, here);
+    if !list_fits(tables, arena, here, parts.count, list) {
+        return refused(types::BAD_REQUEST);
+    }
+    let path = commit_room(tables, arena, here);
+    if path.refusal != 0 {
+        return refused(path.refusal);
+    }
+    let next = parts.next;
+    let end = find::rows_end_after(tables, arena, next);
+    let bounds = join::upload_bounds(tables, arena, here, parts, end);
+    let target = path.place;
+    CommitRoom {
+        refusal: 0,
+        bounds,
+        place: target,
+    }
 }
 
 // COMMIT over whole memory.
@@ -138,11 +205,11 @@ pub fn commit_whole(
     requires { ⌜ whole (now tables) (now arena) ≡ true ⌝ }
     ensures { λ r. ⌜ MadeWhole (COMMIT (upload .0) (partList (now (list .entry)))) (memory (now (tables .entry)) (now (arena .entry))) (doneReply r) (memory (now (tables .exit)) (now (arena .exit))) × WellNumbered r ⌝ }
 {
-    let n = commit_judge(tables, arena, upload, list);
-    if n != 0 {
-        return DoneAnswer::Refused(n);
+    let room = commit_judge(tables, arena, upload, list);
+    if room.refusal != 0 {
+        return DoneAnswer::Refused(room.refusal);
     }
-    join::join(tables, arena, upload.0, list);
+    join::join(tables, arena, upload.0, room.bounds, room.place, list);
     DoneAnswer::Done
 }
 

@@ -1,4 +1,6 @@
 // COPY: the destination becomes what PUT of the source's data and pairs would make.
+use find::Lookup;
+use find::RowPlace;
 use md5::words::Digest;
 use types::DoneAnswer;
 use types::Stamp;
@@ -8,54 +10,100 @@ ghost use lib.ListN.{length};
 ghost use Rattle.md5.specs.Md5.{md5};
 ghost use Rattle.machine.specs.Calls.{COPY};
 ghost use Rattle.layout.specs.Memory.{whole, stateOf};
-ghost use Rattle.find.specs.Known.{WholeObject};
-ghost use Rattle.edit_copy.specs.Copy.{contentAt};
+ghost use Rattle.find.specs.Known.{WholeLookup, OfPath};
+ghost use Rattle.edit_copy.specs.Copy.{contentAt, CopyPlaced};
 ghost use Rattle.contract.specs.Answers.{WellNumbered, doneReply};
 ghost use Rattle.copies.specs.Source.{sourceOutcome};
 ghost use Rattle.contract.specs.Made.{memory, outcome, resultOf, Made, MadeWhole};
 
-// The refusal of COPY whose arguments keep their rules: not found, table full, arena full or 0.
-fn source_judge(tables: &[u8], arena: &[u8], stamp: Stamp, source: &[u8], destination: &[u8]) -> u8
-    requires { ⌜ whole (now tables) (now arena) ≡ true ⌝ }
-    ensures { λ r. ⌜ r ≡ resultOf (sourceOutcome (length (now (arena .entry)))
-        (stateOf (now (tables .entry)) (now (arena .entry))) (stamp .0)
-        (now (source .entry)) (now (destination .entry))) ⌝ }
-{
-    let place = find::find_object(tables, arena, source);
-    if !place.found {
-        return types::NOT_FOUND;
-    }
-    let h = row::read_head(tables, place.at);
-    let room = room::object_judge(tables, arena, destination, h.size as usize);
-    room.refusal
+// A judgement: the refusal's number, or 0; the places of source and destination, and the end of the rows.
+struct CopyRoom {
+    refusal: u8,
+    source: Lookup,
+    place: Lookup,
+    end: RowPlace,
 }
 
-// COPY's refusal over whole memory, 0 for none.
-fn copy_judge(tables: &[u8], arena: &[u8], stamp: Stamp, source: &[u8], destination: &[u8]) -> u8
+// A refusal before the places are known.
+fn refused(n: u8) -> CopyRoom
+    ensures { λ r. ⌜ r .refusal ≡ n ⌝ }
+{
+    let none = room::refused(n);
+    let place = none.place;
+    let end = none.end;
+    CopyRoom {
+        refusal: n,
+        source: place,
+        place,
+        end,
+    }
+}
+
+// The refusal of COPY whose arguments keep their rules: not found, table full, arena full or 0; of an accepted one,
+// where source and copy stand.
+fn source_judge(
+    tables: &[u8],
+    arena: &[u8],
+    stamp: Stamp,
+    source: &[u8],
+    destination: &[u8],
+) -> CopyRoom
     requires { ⌜ whole (now tables) (now arena) ≡ true ⌝ }
-    ensures { λ r. ⌜ r ≡ resultOf (outcome (COPY (stamp .0) (now (source .entry)) (now (destination .entry)))
-        (memory (now (tables .entry)) (now (arena .entry)))) ⌝ }
+    ensures { λ r. ⌜ (r .refusal ≡ resultOf (sourceOutcome (length (now (arena .entry)))
+        (stateOf (now (tables .entry)) (now (arena .entry))) (stamp .0)
+        (now (source .entry)) (now (destination .entry))))
+        × (r .refusal ≡ 0 → CopyPlaced (now (tables .entry)) (now (arena .entry)) (now (source .entry))
+        (now (destination .entry)) (r .source) (r .place) (r .end)) ⌝ }
+{
+    let from = find::find_object(tables, arena, source);
+    if !from.found {
+        return refused(types::NOT_FOUND);
+    }
+    let h = row::read_head(tables, from.at);
+    let room = room::object_judge(tables, arena, destination, h.size as usize);
+    let place = room.place;
+    let end = room.end;
+    CopyRoom {
+        refusal: room.refusal,
+        source: from,
+        place,
+        end,
+    }
+}
+
+// COPY's refusal over whole memory, 0 for none; of an accepted one, where source and copy stand.
+fn copy_judge(
+    tables: &[u8],
+    arena: &[u8],
+    stamp: Stamp,
+    source: &[u8],
+    destination: &[u8],
+) -> CopyRoom
+    requires { ⌜ whole (now tables) (now arena) ≡ true ⌝ }
+    ensures { λ r. ⌜ (r .refusal ≡ resultOf (outcome (COPY (stamp .0) (now (source .entry)) (now (destination .entry)))
+        (memory (now (tables .entry)) (now (arena .entry)))))
+        × (r .refusal ≡ 0 → CopyPlaced (now (tables .entry)) (now (arena .entry)) (now (source .entry))
+        (now (destination .entry)) (r .source) (r .place) (r .end)) ⌝ }
 {
     if !names::stamp_ok(stamp.0) {
-        return types::BAD_REQUEST;
+        return refused(types::BAD_REQUEST);
     }
     if !names::request_path_ok(source) {
-        return types::BAD_REQUEST;
+        return refused(types::BAD_REQUEST);
     }
     if !names::new_path_ok(destination) {
-        return types::BAD_REQUEST;
+        return refused(types::BAD_REQUEST);
     }
     source_judge(tables, arena, stamp, source, destination)
 }
 
-// The digest of the data at source, which stand in its block after its pairs.
-fn source_digest(tables: &[u8], arena: &[u8], source: &[u8]) -> Digest
-    requires { ⌜ WholeObject (now tables) (now arena) (now source) ⌝ }
-    ensures { λ r. ⌜ r ≡ md5 (contentAt (stateOf (now (tables .entry)) (now (arena .entry))) (now (source .entry))) ⌝ }
+// The digest of the data of the object that a lookup found, which stand in its block after its pairs.
+fn source_digest(tables: &[u8], arena: &[u8], source: Lookup) -> Digest
+    requires { ⌜ WholeLookup (now tables) (now arena) source × (source .found ≡ true) ⌝ }
+    ensures { λ r. ⌜ OfPath (now (tables .entry)) (now (arena .entry)) source (λ s p. r ≡ md5 (contentAt s p)) ⌝ }
 {
-    let place = find::find_object(tables, arena, source);
-    let at = place.at;
-    let base = place.base;
+    let at = source.at;
+    let base = source.base;
     let h = row::read_head(tables, at);
     let from = base + find::pairs_size(tables, at);
     let to = base + h.size as usize;
@@ -73,12 +121,22 @@ pub fn copy_whole(
     requires { ⌜ whole (now tables) (now arena) ≡ true ⌝ }
     ensures { λ r. ⌜ MadeWhole (COPY (stamp .0) (now (source .entry)) (now (destination .entry))) (memory (now (tables .entry)) (now (arena .entry))) (doneReply r) (memory (now (tables .exit)) (now (arena .exit))) × WellNumbered r ⌝ }
 {
-    let n = copy_judge(tables, arena, stamp, source, destination);
-    if n != 0 {
-        return DoneAnswer::Refused(n);
+    let room = copy_judge(tables, arena, stamp, source, destination);
+    if room.refusal != 0 {
+        return DoneAnswer::Refused(room.refusal);
     }
-    let digest = source_digest(tables, arena, source);
-    edit_copy::copy_object(tables, arena, stamp.0, digest, source, destination);
+    let digest = source_digest(tables, arena, room.source);
+    edit_copy::copy_object(
+        tables,
+        arena,
+        stamp.0,
+        digest,
+        room.source,
+        room.place,
+        room.end,
+        source,
+        destination,
+    );
     DoneAnswer::Done
 }
 

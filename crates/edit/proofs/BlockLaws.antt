@@ -9,7 +9,7 @@ use lib.Seq.{take-at}
 use Rattle.number.specs.Number.{over, written}
 use Rattle.number.proofs.Halves.{write-next}
 use Rattle.buffer.proofs.Splicing.{move-copy}
-use Rattle.machine.specs.Pairs.{every, pairOk, kept, pairsOk, pairMap, pairsHeld, pairList}
+use Rattle.machine.specs.Pairs.{every, pairOk, kept, pairsHeld, pairList}
 use Rattle.machine.proofs.PairLaws.{formed-is, count-is, held-is, few}
 use Rattle.stored_pairs.specs.Stored.{pairLengths, pairBytes}
 use Rattle.stored_pairs.proofs.StoredLaws.{length-lengths, length-bytes}

@@ -2,11 +2,12 @@
 use Prim.Native.Nat.{ℕ, suc, _+_}
 use mathlib.Core.Path.{_≡_, refl, sym, ap, _∙_}
 use mathlib.Core.List.{List, [], _∷_, _++_, append-assoc}
-use mathlib.Core.Option.{Option, none, some}
+use mathlib.Core.Option.{none, some}
+use native.Mathlib.Omega.{arith}
 use lib.ListN.{length, take, drop}
 use Rattle.order.specs.Order.{byBytes}
 use Rattle.order.proofs.OrderLaws.{numbers, bytes, compare-above}
-use Rattle.machine.specs.Map.{Map, byNumber, lookup, insert, place, owed, Every}
+use Rattle.machine.specs.Map.{Map, byNumber, lookup, insert, place, Every}
 use Rattle.machine.specs.Names.{Bytes}
 use Rattle.machine.specs.State.{Object, Part, Upload, State, withObject, withoutObject, withUpload, withoutUpload, withPart}
 use Rattle.machine.specs.Valid.{UploadOk}
@@ -14,8 +15,8 @@ use Rattle.machine.proofs.MapSums.{length-insert}
 use Rattle.machine.proofs.MapPlaces.{insert-new, insert-old, remove-old}
 use Rattle.row.specs.Row.{Row}
 use Rattle.layout.specs.Memory.{objectRow, objectRows, uploadRow, partRow, partRows, uploadRows, rowsOf}
-use Rattle.edit.specs.Objects.{rowIf, oldRows, restIf, restRows}
 use Rattle.find.specs.Places.{beforeObject, beforeUpload, beforeParts, beforePart, fromObject, afterObject, afterUpload, fromPart, afterPart}
+use Rattle.edit.proofs.OldRows.{rowIf, restIf, by-there}
 use Rattle.find.proofs.Splits.{object-place, object-found, object-rows-append, part-rows-append, upload-rows-append}
 
 -- Objects ----------------------------------------------------------------------------------------------------------------
@@ -45,31 +46,28 @@ module _ (s : State) (p : Bytes) where
       ∙ ap (λ (rs : List Row). rs ++ uploadRows (s .U)) (object-rows-append (take i (s .O)) ((p, y) ∷ drop (suc i) (s .O)))
       ∙ append-assoc (objectRows (take i (s .O))) (objectRow p y ∷ objectRows (drop (suc i) (s .O))) (uploadRows (s .U))
 
-  -- the row that is there, if any, and those after it, before and after an object is put
-  pub was-rows : rowsOf s ≡ beforeObject s p ++ (oldRows s p ++ restRows s p)
-  unfolding rowIf restIf
-  was-rows = go (lookup byBytes p (s .O)) refl
-    where
-      go : (o : Option Object) → lookup byBytes p (s .O) ≡ o → rowsOf s ≡ beforeObject s p ++ (rowIf p o ++ restIf s p o)
-      go none f = object-place s p
-      go (some x) f = object-found s p x f
+  -- the row that is there, if any, and those after it
+  abbrev pub oldRows : List Row
+  oldRows = rowIf (objectRow p) (lookup byBytes p (s .O))
 
-  pub put-rows : (y : Object) → rowsOf (withObject s p y) ≡ beforeObject s p ++ (objectRow p y ∷ restRows s p)
-  unfolding restIf
-  put-rows y = go (lookup byBytes p (s .O)) refl
-    where
-      go : (o : Option Object) → lookup byBytes p (s .O) ≡ o → rowsOf (withObject s p y) ≡ beforeObject s p ++ (objectRow p y ∷ restIf s p o)
-      go none f = new-object-rows y f
-      go (some x) f = old-object-rows x y f
+  abbrev pub restRows : List Row
+  restRows = restIf (fromObject s p) (afterObject s p) (lookup byBytes p (s .O))
 
-  -- how many objects there are then
-  pub put-count : (y : Object) → length (withObject s p y .O) + length (oldRows s p) ≡ length (s .O) + 1
-  unfolding rowIf
-  put-count y = go (lookup byBytes p (s .O)) (length-insert bytes p y (s .O))
-    where
-      go : (o : Option Object) → length (withObject s p y .O) + owed (λ (x : Object). 1) o ≡ length (s .O) + 1 → length (withObject s p y .O) + length (rowIf p o) ≡ length (s .O) + 1
-      go none e = e
-      go (some x) e = e
+  pub was-rows : rowsOf s ≡ beforeObject s p ++ (oldRows ++ restRows)
+  was-rows =
+      by-there (λ (old rest : List Row). rowsOf s ≡ beforeObject s p ++ (old ++ rest)) (objectRow p) (fromObject s p) (afterObject s p) (lookup byBytes p (s .O))
+      (λ f. object-place s p) (λ x f. object-found s p x f)
+
+  -- the rows, and how many objects there are, once an object is put
+  pub put-rows : (y : Object) → rowsOf (withObject s p y) ≡ beforeObject s p ++ (objectRow p y ∷ restRows)
+  put-rows y =
+      by-there (λ (old rest : List Row). rowsOf (withObject s p y) ≡ beforeObject s p ++ (objectRow p y ∷ rest)) (objectRow p) (fromObject s p) (afterObject s p) (lookup byBytes p (s .O))
+      (new-object-rows y) (λ x f. old-object-rows x y f)
+
+  pub put-count : (y : Object) → length (withObject s p y .O) + length oldRows ≡ length (s .O) + 1
+  put-count y =
+      by-there (λ (old rest : List Row). length (withObject s p y .O) + length old ≡ length (s .O) + 1) (objectRow p) (fromObject s p) (afterObject s p) (lookup byBytes p (s .O))
+      (λ f. omega (arith, rw f at (length-insert bytes p y (s .O)))) (λ x f. omega (arith, rw f at (length-insert bytes p y (s .O))))
 
 -- Uploads ----------------------------------------------------------------------------------------------------------------
 

@@ -1,11 +1,9 @@
 pub mod RowLists
 pub mod Fit
 pub mod Standing
+pub mod OldRows
 pub mod Changes
 pub mod OneRow
 pub mod ObjectEdits
-pub mod Tail
-pub mod MapEdits
-pub mod PutLaws
 pub mod ObjectPuts
 pub mod BlockLaws

@@ -1,10 +1,10 @@
--- One row taken out, put in or put in the place of others: what the functions that do it require, and what memory then stands for. Assumes nothing.
+-- One row taken out, or put in the place of others: what the functions that do it require, and what memory then stands for. Assumes nothing.
 use Prim.Native.Nat.{ℕ, _+_, _-_, _*_, _≤_}
 use mathlib.Core.Path.{_≡_, refl, sym, ap, _∙_}
 use mathlib.Core.List.{List, [], _∷_, _++_, append-nil}
 use native.Mathlib.Omega.{arith}
 use lib.ListN.{length, take, drop, length-append}
-use Rattle.machine.specs.State.{State, held}
+use Rattle.machine.specs.State.{State}
 use Rattle.machine.specs.Valid.{Valid}
 use Rattle.buffer.specs.Buffer.{spliced, rotated}
 use Rattle.row.specs.declared.Head.{Head}
@@ -17,7 +17,7 @@ use Rattle.layout.specs.Header.{headerOf, headed, headerLength}
 use Rattle.find.proofs.RowsAt.{At, row-at}
 use Rattle.edit.specs.Rows.{Replaceable}
 use Rattle.edit.proofs.Fit.{tables-fit}
-use Rattle.edit.proofs.Standing.{removed, replaced, inserted}
+use Rattle.edit.proofs.Standing.{removed, replaced, moved}
 
 module _ (t a : List ℕ) (s : State) (h : Stands t a s) (xs : List Row) (r : Row) (ys : List Row) (at base used end : ℕ)
     (at-is : at ≡ headerLength + length (encodeRows xs)) (base-is : base ≡ length (contentsOf xs))
@@ -122,39 +122,27 @@ module _ (t a : List ℕ) (s : State) (h : Stands t a s) (xs : List Row) (r : Ro
         let w = valid .room in
         (omega (arith, was-data), omega (arith, length-contents s), omega (arith, was-data, new-data, length-contents s′))
 
-    pub replaced-stands : (t′ a′ path digest lengths content : List ℕ) (head : Head) (header : Header) → header ≡ headerOf (length a) s′
-        → head ≡ headOf r → digest ≡ r .digest → path ≡ r .path → lengths ≡ r .lengths → content ≡ r .content
-        → t′ ≡ headed (spliced t at n used (rowBytes head digest path lengths)) header → a′ ≡ spliced a base m end content
-        → length t′ ≡ length t → length a′ ≡ length a → Stands t′ a′ s′
-    unfolding encodeRows contentsOf
-    replaced-stands t′ a′ p d ls content head header is head-is d-is p-is ls-is content-is e e′ l l′ =
-        let bytes : rowBytes head d p ls ≡ encodeRow r ++ [] = rw (head-is, d-is, p-is, ls-is) (sym (append-nil (encodeRow r))) in
-        let block : content ≡ r .content ++ [] = content-is ∙ sym (append-nil (r .content)) in
-        replaced t a s h s′ valid (spliced t at n used (rowBytes head d p ls)) t′ a′ header is e l l′ xs old (r ∷ []) ys at n used base m end (rowBytes head d p ls) content
-        split split′ bytes block at-is n-is used-is refl base-is m-is end-is e′
+    -- the row's bytes and the header are written
+    module _ (t′ a′ path digest lengths : List ℕ) (head : Head) (header : Header) (is : header ≡ headerOf (length a) s′)
+        (head-is : head ≡ headOf r) (d-is : digest ≡ r .digest) (p-is : path ≡ r .path) (ls-is : lengths ≡ r .lengths)
+        (e : t′ ≡ headed (spliced t at n used (rowBytes head digest path lengths)) header) (l : length t′ ≡ length t) (l′ : length a′ ≡ length a) where
+      abbrev src : List ℕ
+      src = rowBytes head digest path lengths
 
-  -- the row r put in; its data stand after the last byte held
-  module _ (split : rowsOf s ≡ xs ++ ys) (s′ : State) (valid : Valid (length a) s′) (split′ : rowsOf s′ ≡ xs ++ (r ∷ ys)) (short : length (r .path) ≤ 128) (few : length (r .lengths) ≤ 16)
-      (encodable : Encodable r) (content : take (length (r .content)) (drop (held s) a) ≡ r .content) (room : held s + length (r .content) ≤ length a) where
-    old-data : length (contentsOf (rowsOf s)) ≡ length (contentsOf xs) + length (contentsOf ys)
-    old-data = ap length (ap contentsOf split ∙ contents-append xs ys) ∙ length-append (contentsOf xs) (contentsOf ys)
+      bytes : src ≡ encodeRow r ++ []
+      bytes = rw (head-is, d-is, p-is, ls-is) (sym (append-nil (encodeRow r)))
 
-    pub insert-room : (head : Head) → head ≡ headOf r → Replaceable t at 0 used head (r .path) (r .lengths)
-    unfolding encodeRows contentsOf
-    insert-room = row-room [] split s′ valid split′ short few encodable 0 0 refl refl
+      pub replaced-stands : (content : List ℕ) → content ≡ r .content → a′ ≡ spliced a base m end content → Stands t′ a′ s′
+      unfolding encodeRows contentsOf
+      replaced-stands content content-is e′ =
+          replaced t a s h s′ valid (spliced t at n used src) t′ a′ header is e l l′ xs old (r ∷ []) ys at n used base m end src
+          split split′ bytes at-is n-is used-is refl base-is m-is end-is content (content-is ∙ sym (append-nil (r .content))) e′
 
-    pub base-inside : base ≤ end
-    base-inside = omega (arith, old-data)
-
-    pub rotate-room : base + (end - base) + length (r .content) ≤ length a
-    rotate-room = omega (arith, old-data, room, length-contents s)
-
-    pub inserted-stands : (t′ a′ path digest lengths : List ℕ) (head : Head) (header : Header) (size : ℕ) → header ≡ headerOf (length a) s′
-        → head ≡ headOf r → digest ≡ r .digest → path ≡ r .path → lengths ≡ r .lengths → size ≡ length (r .content)
-        → t′ ≡ headed (spliced t at 0 used (rowBytes head digest path lengths)) header → a′ ≡ rotated a base (end - base) size
-        → length t′ ≡ length t → length a′ ≡ length a → Stands t′ a′ s′
-    inserted-stands t′ a′ p d ls head header size is head-is d-is p-is ls-is size-is e e′ l l′ =
-        let bytes : rowBytes head d p ls ≡ encodeRow r = rw (head-is, d-is, p-is, ls-is) in
-        let left : end - base ≡ length (contentsOf ys) = omega (arith, old-data) in
-        inserted t a s h s′ valid (spliced t at 0 used (rowBytes head d p ls)) t′ a′ header is e l l′ xs r ys at used base (end - base) (rowBytes head d p ls) split split′
-        bytes at-is used-is refl base-is left (e′ ∙ ap (rotated a base (end - base)) size-is) content
+      -- its block stood after the last byte held
+      pub moved-stands : (a₁ : List ℕ) (size : ℕ) → size ≡ length (r .content) → take size (drop end a) ≡ r .content
+          → a₁ ≡ rotated a base (end - base) size → a′ ≡ spliced a₁ (base + size) m (end + size) [] → Stands t′ a′ s′
+      unfolding encodeRows contentsOf
+      moved-stands a₁ size size-is there turned cut =
+          let one : r .content ≡ r .content ++ [] = sym (append-nil (r .content)) in
+          moved t a s h s′ valid (spliced t at n used src) t′ a′ header is e l l′ xs old (r ∷ []) ys at n used base m end src
+          split split′ bytes at-is n-is used-is refl base-is m-is end-is a₁ size (size-is ∙ ap length one) (there ∙ one) turned cut

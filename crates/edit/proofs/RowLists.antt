@@ -1,5 +1,5 @@
 -- Rows and data cut out, put in and replaced, and a header written over another. Each law takes what the callee ensures. Assumes nothing.
-use Prim.Native.Nat.{ℕ, _+_}
+use Prim.Native.Nat.{ℕ, _+_, _-_}
 use mathlib.Core.Path.{_≡_, refl, sym, ap, ap₂, _∙_}
 use mathlib.Core.List.{List, [], _++_, append-assoc, append-nil}
 use native.Mathlib.Omega.{arith}
@@ -46,14 +46,27 @@ module _ (xs ys ys′ zs : List Row) where
       (contents-append₃ xs ys′ zs ∙ ap (λ (r : List ℕ). contentsOf xs ++ (r ++ contentsOf zs)) (sym is))
       refl refl refl e
 
--- data d after the last byte held comes to stand where rows ys are put in
-pub data-rotated : (xs ys zs : List Row) (a a′ d free : List ℕ) → a ≡ contentsOf (xs ++ zs) ++ (d ++ free) → d ≡ contentsOf ys
-    → a′ ≡ rotated a (length (contentsOf xs)) (length (contentsOf zs)) (length d) → a′ ≡ contentsOf (xs ++ (ys ++ zs)) ++ free
-data-rotated xs ys zs a a′ d free told is e =
-    rotated-live a a′ (contentsOf (xs ++ zs) ++ d) (contentsOf (xs ++ (ys ++ zs))) free (told ∙ sym (append-assoc (contentsOf (xs ++ zs)) d free)) (contentsOf xs) (contentsOf zs) d [] _ _ _
-    (ap (λ (l : List ℕ). l ++ d) (contents-append xs zs) ∙ append-assoc (contentsOf xs) (contentsOf zs) d ∙ ap (λ (l : List ℕ). contentsOf xs ++ (contentsOf zs ++ l)) (sym (append-nil d)))
-    (contents-append₃ xs ys zs ∙ ap (λ (l : List ℕ). contentsOf xs ++ (l ++ contentsOf zs)) (sym is) ∙ ap (λ (l : List ℕ). contentsOf xs ++ (d ++ l)) (sym (append-nil (contentsOf zs))))
-    refl refl refl e
+  -- data d after the last byte held is brought before those of ys, and these are then cut out
+  pub data-moved : (a a₁ a′ d free : List ℕ) (base m end size : ℕ) → a ≡ contentsOf (xs ++ (ys ++ zs)) ++ (d ++ free) → d ≡ contentsOf ys′
+      → base ≡ length (contentsOf xs) → m ≡ length (contentsOf ys) → end ≡ length (contentsOf (xs ++ (ys ++ zs))) → size ≡ length d
+      → a₁ ≡ rotated a base (end - base) size → a′ ≡ spliced a₁ (base + size) m (end + size) []
+      → a′ ≡ contentsOf (xs ++ (ys′ ++ zs)) ++ drop (length (contentsOf (xs ++ (ys′ ++ zs)))) a₁
+  data-moved a a₁ a′ d free base m end size told is base-is m-is end-is size-is turned cut =
+      let x = contentsOf xs in
+      let y = contentsOf ys in
+      let z = contentsOf zs in
+      let live = contentsOf (xs ++ (ys ++ zs)) in
+      let all : live ≡ x ++ (y ++ z) = contents-append₃ xs ys zs in
+      let sum : end ≡ length x + (length y + length z) = end-is ∙ ap length all ∙ length-append x (y ++ z) ∙ ap (λ (n : ℕ). length x + n) (length-append y z) in
+      let brought : a₁ ≡ (x ++ (d ++ (y ++ z))) ++ free =
+      rotated-live a a₁ (live ++ d) (x ++ (d ++ (y ++ z))) free (told ∙ sym (append-assoc live d free)) x (y ++ z) d [] base (end - base) size
+      (ap (λ (l : List ℕ). l ++ d) all ∙ append-assoc x (y ++ z) d ∙ ap (λ (l : List ℕ). x ++ ((y ++ z) ++ l)) (sym (append-nil d)))
+      (ap (λ (l : List ℕ). x ++ (d ++ l)) (sym (append-nil (y ++ z))))
+      (sym base-is) (omega (arith, length-append y z)) (sym size-is) turned in
+      spliced-live a₁ a′ (x ++ (d ++ (y ++ z))) (contentsOf (xs ++ (ys′ ++ zs))) free brought (x ++ d) y z [] (base + size) m (end + size)
+      (sym (append-assoc x d (y ++ z)))
+      (contents-append₃ xs ys′ zs ∙ ap (λ (l : List ℕ). x ++ (l ++ z)) (sym is) ∙ sym (append-assoc x d z))
+      (omega (arith, length-append x d)) (sym m-is) (omega (arith, length-append x (d ++ (y ++ z)), length-append d (y ++ z), length-append y z)) cut
 
 -- the header of s′, written over that of s
 pub header-written : (A : ℕ) (s s′ : State) (t t′ rest : List ℕ) (h : Header) → length (encodeHeader A s) ≡ headerLength → t ≡ encodeHeader A s ++ rest

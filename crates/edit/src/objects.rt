@@ -1,4 +1,5 @@
 // An object put among the others, and taken out.
+use crate::rows::OldRow;
 use find::Lookup;
 use find::RowPlace;
 use layout::Header;
@@ -7,12 +8,12 @@ use row::Head;
 ghost use mathlib.Core.Path.{_≡_};
 ghost use mathlib.Core.Bool.{true};
 ghost use Rattle.machine.specs.State.{withoutObject, withObject};
-ghost use Rattle.layout.specs.Memory.{whole, Stands};
+ghost use Rattle.layout.specs.Memory.{Stands};
 ghost use Rattle.find.specs.Known.{WholeLookup, OfPath};
 ghost use Rattle.machine.specs.Pairs.{pairsOk, pairList};
 ghost use Rattle.edit.specs.Blocks.{keptOf};
 ghost use Rattle.edit.specs.Edits.{MayBecome, Becomes};
-ghost use Rattle.edit.specs.Objects.{ObjectPlaced, Addable, objectAfterHeld, plainWith};
+ghost use Rattle.edit.specs.Objects.{ObjectPlaced, RowPuttable, rowPut, Movable, objectAfterHeld, plainWith};
 
 // The object that a lookup found, taken out.
 pub fn remove_object(tables: &mut [u8], arena: &mut [u8], place: Lookup)
@@ -38,11 +39,13 @@ pub fn remove_object(tables: &mut [u8], arena: &mut [u8], place: Lookup)
     buffer::remove(arena, base, m, end.base);
 }
 
-// An object put in at a path that has none. Its block, `size` bytes, stands after the last byte held: pairs of these
-// lengths, then data.
-pub fn add_object(
+// The row of an object whose block has `size` bytes, in the place of the old one, if there is one, where `used` bytes of
+// the tables are used.
+pub fn put_row(
     tables: &mut [u8],
-    arena: &mut [u8],
+    at: usize,
+    old: OldRow,
+    used: usize,
     stamp: u64,
     kind: u8,
     count: u16,
@@ -51,17 +54,11 @@ pub fn add_object(
     lengths: &[u8],
     size: usize,
 )
-    requires { ⌜ Addable (now tables) (now arena) stamp kind count digest (now path) (now lengths) size ⌝ }
-    ensures { λ _. ⌜ Becomes (now (tables .entry)) (now (arena .entry)) (now (tables .exit)) (now (arena .exit))
-        (λ s. withObject s (now (path .entry))
-        (objectAfterHeld (now (tables .entry)) (now (arena .entry)) stamp kind count digest
-        (now (lengths .entry)) size)) ⌝ }
+    requires { ⌜ RowPuttable (now tables) at old used stamp kind count (now path) (now lengths) size ⌝ }
+    ensures { λ _. ⌜ now (tables .exit) ≡ rowPut (now (tables .entry)) at old used stamp kind count digest
+        (now (path .entry)) (now (lengths .entry)) size ⌝ }
 {
-    let place = find::find_object(tables, arena, path);
-    let end = find::rows_end(tables, arena);
     let header = layout::headers::read_header(tables);
-    let base = place.base;
-    let held = end.base;
     let h = Head {
         size: size as u32,
         number: 0,
@@ -74,12 +71,21 @@ pub fn add_object(
     let after = Header {
         arena: header.arena,
         next: header.next,
-        objects: header.objects + 1,
+        objects: header.objects + 1 - old.rows,
         uploads: header.uploads,
         parts: header.parts,
     };
-    crate::rows::replace_rows(tables, place.at, 0, end.at, h, digest, path, lengths, after);
-    buffer::rotate(arena, base, held - base, size);
+    crate::rows::replace_rows(
+        tables,
+        at,
+        old.length,
+        used,
+        h,
+        digest,
+        path,
+        lengths,
+        after,
+    );
 }
 
 // The object at path becomes one with this data and these pairs, and a plain etag: its row and its block stand in the
@@ -103,7 +109,6 @@ pub fn put_object(
         (plainWith stamp digest (now (content .entry)) (keptOf (now (pairs .entry))))) ⌝ }
 {
     let old = crate::rows::old_row(tables, place);
-    let header = layout::headers::read_header(tables);
     let mut lengths = [0u8; 16];
     let block = crate::blocks::replace_block(
         arena,
@@ -115,43 +120,60 @@ pub fn put_object(
         &mut lengths,
     );
     let n = block.lengths;
-    let h = Head {
-        size: block.bytes as u32,
-        number: 0,
-        stamp,
-        kind: layout::PLAIN_KIND,
-        pairs: (n / 2) as u8,
-        pathlen: path.len() as u8,
-        count: 0,
-    };
-    let after = Header {
-        arena: header.arena,
-        next: header.next,
-        objects: header.objects + 1 - old.rows,
-        uploads: header.uploads,
-        parts: header.parts,
-    };
-    crate::rows::replace_rows(
+    put_row(
         tables,
         place.at,
-        old.length,
+        old,
         end.at,
-        h,
+        stamp,
+        layout::PLAIN_KIND,
+        0,
         digest,
         path,
         &lengths[..n],
-        after,
+        block.bytes,
     );
 }
 
-// The object at path taken out, if there is one.
-pub fn free_path(tables: &mut [u8], arena: &mut [u8], path: &[u8])
-    requires { ⌜ whole (now tables) (now arena) ≡ true ⌝ }
+// The object at path becomes one whose block, `size` bytes, stands after the last byte held: pairs of these lengths,
+// then data. Its row and its block come to stand in the place of the old ones, if there are any. `place` is what the
+// lookup of path answers, and `end` the end of the rows.
+pub fn move_object(
+    tables: &mut [u8],
+    arena: &mut [u8],
+    place: Lookup,
+    end: RowPlace,
+    stamp: u64,
+    kind: u8,
+    count: u16,
+    digest: Digest,
+    path: &[u8],
+    lengths: &[u8],
+    size: usize,
+)
+    requires { ⌜ ObjectPlaced (now tables) (now arena) (now path) place end
+        × Movable (now tables) (now arena) stamp kind count digest (now path) (now lengths) size ⌝ }
     ensures { λ _. ⌜ Becomes (now (tables .entry)) (now (arena .entry)) (now (tables .exit)) (now (arena .exit))
-        (λ s. withoutObject s (now (path .entry))) ⌝ }
+        (λ s. withObject s (now (path .entry))
+        (objectAfterHeld (now (tables .entry)) (now (arena .entry)) stamp kind count digest
+        (now (lengths .entry)) size)) ⌝ }
 {
-    let place = find::find_object(tables, arena, path);
-    if place.found {
-        remove_object(tables, arena, place);
-    }
+    let old = crate::rows::old_row(tables, place);
+    let base = place.base;
+    let held = end.base;
+    buffer::rotate(arena, base, held - base, size);
+    buffer::remove(arena, base + size, old.size, held + size);
+    put_row(
+        tables,
+        place.at,
+        old,
+        end.at,
+        stamp,
+        kind,
+        count,
+        digest,
+        path,
+        lengths,
+        size,
+    );
 }

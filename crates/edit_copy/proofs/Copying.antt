@@ -1,94 +1,90 @@
 -- An object copied to another path: what the steps require, and what memory then stands for. Assumes nothing.
-use Prim.Native.Nat.{ℕ, _≤_}
-use mathlib.Core.Path.{_≡_, sym, ap, ap₂, _∙_, subst}
+use Prim.Native.Nat.{ℕ, _+_, _≤_}
+use mathlib.Core.Path.{_≡_, refl, sym, ap, _∙_}
+use mathlib.Core.Logic.{_⊎_, ⊎-map}
 use mathlib.Core.Bool.{false, true≢false}
-use mathlib.Core.List.{List, _++_}
+use mathlib.Core.List.{List}
 use native.Mathlib.Omega.{arith}
-use lib.ListN.{length, take}
-use Rattle.number.specs.Number.{AreBytes, over}
+use lib.ListN.{length, take, drop}
+use lib.Seq.{take-at}
+use Rattle.number.specs.Number.{AreBytes, written}
 use Rattle.md5.specs.declared.words.Digest.{Digest}
-use Rattle.order.specs.Order.{byBytes, same}
-use Rattle.order.proofs.OrderLaws.{bytes, same-self}
-use Rattle.machine.specs.Map.{Map, isSome, lookup}
+use Rattle.buffer.specs.Buffer.{spliced}
+use Rattle.order.specs.Order.{same}
+use Rattle.order.proofs.OrderLaws.{same-self}
+use Rattle.machine.specs.Map.{Map}
 use Rattle.machine.specs.Names.{Bytes}
-use Rattle.machine.specs.State.{State, withObject, withoutObject}
-use Rattle.machine.specs.Valid.{Valid}
-use Rattle.machine.proofs.MapLaws.{lookup-remove-other}
-use Rattle.stored_pairs.specs.Stored.{pairLengths, pairBytes}
+use Rattle.machine.specs.Pairs.{pairsHeld}
+use Rattle.machine.specs.State.{State, objectLength}
+use Rattle.row.specs.declared.Head.{Head}
+use Rattle.row.specs.Row.{headAt, lengthsAt}
 use Rattle.layout.specs.Rules.{plainKind}
-use Rattle.layout.specs.Memory.{rowsOf, stateOf, Stands}
-use Rattle.layout.proofs.WholeLaws.{whole-stands}
-use Rattle.layout.proofs.StandsLaws.{stands-state, stands-whole}
+use Rattle.layout.specs.Memory.{stateOf, Stands}
+use Rattle.find.specs.declared.Lookup.{Lookup}
 use Rattle.find.specs.declared.RowPlace.{RowPlace}
-use Rattle.find.specs.Places.{placeAfter}
-use Rattle.edit.specs.declared.blocks.BlockSizes.{BlockSizes}
-use Rattle.edit.specs.Objects.{objectAfterHeld, Addable}
-use Rattle.edit.proofs.PutLaws.{put-room, put-addable, put-stands}
-use Rattle.edit_copy.specs.Copy.{contentIn, pairsIn, contentAt, keptAt, blockLength, copied, Copiable, BlockCopiable, CopiedBlock}
+use Rattle.edit.specs.declared.rows.OldRow.{OldRow}
+use Rattle.edit.specs.Objects.{rowPut, RowPuttable}
+use Rattle.edit.proofs.OldRows.{sizesOf}
+use Rattle.edit.proofs.Changes.{oldRows}
+use Rattle.edit.proofs.ObjectEdits.{base-is, remove-data}
+use Rattle.edit.proofs.ObjectPuts.{Putting, putting}
+use Rattle.edit_copy.specs.Copy.{contentAt, keptAt, copied, Copiable, CopyPlaced}
+use Rattle.edit_copy.proofs.Apart.{blocks-apart}
+use Rattle.edit_copy.proofs.Source.{ObjectThere, object-there, lengths-there, size-is, block-there}
 
--- memory t₁, a₁ stands for the state without the object at q
+-- bytes written to the front of a list are its front
+pub front-written : (l l′ s : List ℕ) → l′ ≡ written l 0 s → take (length s) l′ ≡ s
+front-written l l′ s e = ap (take (length s)) e ∙ take-at s (drop (0 + length s) l) (length s) refl
+
+-- what a copy to another path asks for, and what memory then stands for; old is what stands there, and head that of the source's row
+pub record Copying (t a p q : List ℕ) (stamp : ℕ) (digest : Digest) (from place : Lookup) (end : RowPlace) (old : OldRow) (head : Head) : Type 0 where
+  pub block-room : (place .base + old .size ≤ end .base) × (end .base ≤ length a) × (end .base + head .size ≤ length a + old .size) × (from .base + head .size ≤ end .base)
+      × ((from .base + head .size ≤ place .base) ⊎ (place .base + old .size ≤ from .base))
+  pub row-room : (lengths : List ℕ) → lengths ≡ lengthsAt (drop (from .at) t) → RowPuttable t (place .at) old (end .at) stamp plainKind 0 q lengths (head .size)
+  pub stands : (lengths : List ℕ) → lengths ≡ lengthsAt (drop (from .at) t) → (t′ a′ : List ℕ)
+      → t′ ≡ rowPut t (place .at) old (end .at) stamp plainKind 0 digest q lengths (head .size)
+      → a′ ≡ spliced a (place .base) (old .size) (end .base) (take (head .size) (drop (from .base) a))
+      → length t′ ≡ length t → length a′ ≡ length a → Stands t′ a′ (copied stamp digest p q (stateOf t a))
+
 module _ (t a p q : List ℕ) (b : AreBytes t) (stamp : ℕ) (digest : Digest) (pre : Copiable t a stamp digest p q) (other : same p q ≡ false)
-    (t₁ a₁ : List ℕ) (h : Stands t₁ a₁ (withoutObject (stateOf t a) q)) (keeps : length a₁ ≡ length a)
-    (end : RowPlace) (end-is : end ≡ placeAfter (rowsOf (stateOf t₁ a₁))) where
+    (from place : Lookup) (end : RowPlace) (placed : CopyPlaced t a p q from place end) (old : OldRow) (old-is : old ≡ sizesOf (oldRows (stateOf t a) q))
+    (head : Head) (head-is : head ≡ headAt (drop (from .at) t)) where
   abbrev s : State
   s = stateOf t a
-
-  abbrev v : Valid (length a) s
-  v = whole-stands t a b (pre .is-whole) .valid
 
   abbrev m : Map Bytes Bytes
   m = keptAt s p
 
-  abbrev content : List ℕ
-  content = contentAt s p
+  there : ObjectThere t a p from
+  there = object-there t a p b (pre .is-whole) (pre .there) from (placed .source-place)
+
+  size : head .size ≡ pairsHeld m + length (contentAt s p)
+  size = size-is t a p from there head head-is
+
+  puts : Putting t a q place end old stamp plainKind 0 digest (contentAt s p) m
+  puts = putting t a b (pre .is-whole) q place end (placed .destination-place) stamp plainKind 0 digest (contentAt s p) m (omega arith) (omega arith) (pre .valid) old old-is
 
   differ : p ≡ q → ⊥
   differ e = true≢false (sym (same-self q) ∙ ap (λ (l : List ℕ). same l q) (sym e) ∙ other)
 
-  -- the source is as it was
-  still-there : lookup byBytes p (stateOf t₁ a₁ .O) ≡ lookup byBytes p (s .O)
-  still-there = ap (λ (z : State). lookup byBytes p (z .O)) (stands-state t₁ a₁ (withoutObject s q) h) ∙ lookup-remove-other bytes p q (s .O) (v .objects) differ
+  -- the source's block and the one that gives way
+  apart : (from .base + head .size ≤ place .base) ⊎ (place .base + old .size ≤ from .base)
+  apart =
+      let held : head .size ≡ objectLength (there .object) = size ∙ rw (there .content, there .pairs) in
+      let here = base-is t a b (pre .is-whole) q place (placed .destination-place .0) end (placed .destination-place .1) in
+      let gone = ap (λ (o : OldRow). o .size) old-is in
+      let source = there .base in
+      ⊎-map (λ z. omega arith) (λ z. omega arith) (blocks-apart s p q (there .object) (there .found) differ)
 
-  content-same : contentAt (stateOf t₁ a₁) p ≡ content
-  unfolding contentAt
-  content-same = ap contentIn still-there
-
-  pairs-same : keptAt (stateOf t₁ a₁) p ≡ m
-  unfolding keptAt
-  pairs-same = ap pairsIn still-there
-
-  length-same : blockLength (stateOf t₁ a₁) p ≡ blockLength s p
-  length-same = rw (content-same, pairs-same)
-
-  pub copy-ready : (lengths : List ℕ) → 16 ≤ length lengths → BlockCopiable t₁ a₁ p (end .base) lengths
-  copy-ready lengths r =
+  pub copying : Copying t a p q stamp digest from place end old head
+  copying =
       record {
-        is-there = (stands-whole t₁ a₁ (withoutObject s q) h, ap isSome still-there ∙ pre .there);
-        room = omega (arith, length-same, put-room s q content m stamp digest (length a) v (pre .valid) t₁ a₁ h keeps end end-is);
-        lengths-room = r;
+        block-room =
+            let r = puts .block-room in
+            let i = remove-data t a b (pre .is-whole) p from (placed .source-place) end (placed .destination-place .1) (pre .there) head head-is in
+            (r .0, r .1, omega (arith, size), i .0, apart);
+        row-room = λ ls ls-are. puts .row-room ls (head .size) (ls-are ∙ lengths-there t a p from there) size;
+        stands =
+            λ ls ls-are t′ a′ e e′. puts .stands ls (head .size) (ls-are ∙ lengths-there t a p from there) size t′ a′ e
+            (e′ ∙ ap (spliced a (place .base) (old .size) (end .base)) (block-there t a p from there head head-is));
       }
-
-  -- the block is copied after the last byte held
-  module _ (r : BlockSizes) (a₂ lengths : List ℕ) (w : CopiedBlock t₁ a₁ p (end .base) r a₂ lengths) (keeps₂ : length a₂ ≡ length a₁) where
-    lengths-are : take (r .lengths) lengths ≡ pairLengths m
-    lengths-are = w .lengths ∙ ap pairLengths pairs-same
-
-    size-is : r .bytes ≡ blockLength s p
-    size-is = w .bytes ∙ length-same
-
-    block-is : a₂ ≡ over a₁ (end .base) (pairBytes m ++ content) (r .bytes)
-    block-is = w .block ∙ ap₂ (λ (k : Map Bytes Bytes) (d : List ℕ). over a₁ (end .base) (pairBytes k ++ d) (r .bytes)) pairs-same content-same
-
-    pub copy-addable : Addable t₁ a₂ stamp plainKind 0 digest q (take (r .lengths) lengths) (r .bytes)
-    copy-addable =
-        subst (λ (ls : List ℕ). Addable t₁ a₂ stamp plainKind 0 digest q ls (r .bytes)) (sym lengths-are)
-        (put-addable s q content m stamp digest (length a) v (pre .valid) t₁ a₁ h keeps end end-is a₂ (r .bytes) size-is block-is keeps₂)
-
-    pub copy-stands : (t′ a′ : List ℕ) → Stands t′ a′ (withObject (stateOf t₁ a₂) q (objectAfterHeld t₁ a₂ stamp plainKind 0 digest (take (r .lengths) lengths) (r .bytes))) → Stands t′ a′ (copied stamp digest p q s)
-    copy-stands t′ a′ g =
-        put-stands s q content m stamp digest (length a) v (pre .valid) t₁ a₁ h keeps end end-is a₂ (r .bytes) size-is block-is keeps₂ t′ a′
-        (subst (λ (ls : List ℕ). Stands t′ a′ (withObject (stateOf t₁ a₂) q (objectAfterHeld t₁ a₂ stamp plainKind 0 digest ls (r .bytes)))) lengths-are g)
-
--- a copy to the same path
-pub same-path : (t a p q : List ℕ) (stamp : ℕ) (digest : Digest) → p ≡ q → Copiable t a stamp digest p q → Copiable t a stamp digest p p
-same-path t a p q stamp digest e pre = record { is-whole = pre .is-whole; there = pre .there; valid = rw e (rw e at (pre .valid)) }

@@ -1,3 +1,4 @@
 pub mod Source
 pub mod Restamping
+pub mod Apart
 pub mod Copying

@@ -1,16 +1,15 @@
 -- The object at a path, as memory has it: its row, its block, and the lengths of its pairs. Assumes nothing.
 use Prim.Native.Nat.{ℕ, _+_, _≤_}
-use mathlib.Core.Path.{_≡_, refl, sym, ap, ap₂, _∙_}
+use mathlib.Core.Path.{_≡_, sym, ap, ap₂, _∙_}
 use mathlib.Core.Bool.{true}
 use mathlib.Core.List.{List, _++_}
 use mathlib.Core.Option.{some}
 use native.Mathlib.Omega.{arith}
 use lib.ListN.{length, take, drop, length-append}
-use lib.Seq.{take-at}
-use Rattle.number.specs.Number.{AreBytes, over, written}
+use Rattle.number.specs.Number.{AreBytes}
 use Rattle.order.specs.Order.{byBytes}
 use Rattle.order.proofs.OrderLaws.{bytes}
-use Rattle.machine.specs.Map.{Map, lookup}
+use Rattle.machine.specs.Map.{Map, isSome, lookup}
 use Rattle.machine.specs.Names.{Bytes}
 use Rattle.machine.specs.Pairs.{keptOk}
 use Rattle.machine.specs.State.{Object, State}
@@ -22,16 +21,15 @@ use Rattle.stored_pairs.proofs.StoredLaws.{length-bytes, length-lengths}
 use Rattle.row.specs.declared.Head.{Head}
 use Rattle.row.specs.Row.{encodeRows, contentsOf, headAt, headLength, lengthsAt, spanAt}
 use Rattle.layout.specs.Header.{headerLength}
-use Rattle.layout.specs.Memory.{objectRow, stateOf, Stands}
+use Rattle.layout.specs.Memory.{objectRow, whole, stateOf, Stands}
 use Rattle.layout.proofs.WholeLaws.{whole-stands}
 use Rattle.find.specs.declared.Lookup.{Lookup}
-use Rattle.find.specs.Known.{WholeObject}
 use Rattle.find.specs.Places.{beforeObject, afterObject, objectPlace}
 use Rattle.find.proofs.Splits.{object-found}
 use Rattle.find.proofs.RowsAt.{At, row-at}
 use Rattle.find.proofs.PairSizes.{row-span, row-lengths}
 use Rattle.find.proofs.Found.{is-some}
-use Rattle.edit_copy.specs.Copy.{contentIn, pairsIn, contentAt, keptAt, blockLength, CopiedBlock}
+use Rattle.edit_copy.specs.Copy.{contentIn, pairsIn, contentAt, keptAt, blockLength}
 
 -- the object at p, where its row and its block stand
 pub record ObjectThere (t a p : List ℕ) (place : Lookup) : Type 0 where
@@ -44,12 +42,12 @@ pub record ObjectThere (t a p : List ℕ) (place : Lookup) : Type 0 where
   pub at : place .at ≡ headerLength + length (encodeRows (beforeObject (stateOf t a) p))
   pub base : place .base ≡ length (contentsOf (beforeObject (stateOf t a) p))
 
-pub object-there : (t a p : List ℕ) → AreBytes t → WholeObject t a p → (place : Lookup) → place ≡ objectPlace (stateOf t a) p → ObjectThere t a p place
+pub object-there : (t a p : List ℕ) → AreBytes t → whole t a ≡ true → isSome (lookup byBytes p (stateOf t a .O)) ≡ true → (place : Lookup) → place ≡ objectPlace (stateOf t a) p → ObjectThere t a p place
 unfolding objectPlace contentAt keptAt
-object-there t a p b w place place-is =
+object-there t a p b w there place place-is =
     let s = stateOf t a in
-    let h = whole-stands t a b (w .0) in
-    let x = is-some (lookup byBytes p (s .O)) (w .1) in
+    let h = whole-stands t a b w in
+    let x = is-some (lookup byBytes p (s .O)) there in
     record {
       stands = h;
       object = x .0;
@@ -102,14 +100,3 @@ module _ (t a p : List ℕ) (place : Lookup) (o : ObjectThere t a p place) where
         ap₂ (λ (n i : ℕ). take n (drop i a)) read (o .base)
         ∙ o .here .content
         ∙ ap₂ (λ (m : Map Bytes Bytes) (d : List ℕ). pairBytes m ++ d) (sym (o .pairs)) (sym (o .content))
-
-    -- the block and the lengths, copied
-    pub block-copied : (to : ℕ) (old lengths lengths′ a′ : List ℕ) → old ≡ lengthsAt (drop (place .at) t) → lengths′ ≡ written lengths 0 old
-        → a′ ≡ over a to (take (head .size) (drop (place .base) a)) (head .size) → CopiedBlock t a p to (record { lengths = length old; bytes = head .size }) a′ lengths′
-    block-copied to old lengths lengths′ a′ old-is l e =
-        record {
-          bytes = size-is;
-          block = e ∙ ap (λ (d : List ℕ). over a to d (head .size)) block-there;
-          lengths = ap (take (length old)) l ∙ take-at old (drop (0 + length old) lengths) (length old) refl ∙ old-is ∙ lengths-there;
-          few = let f = lengths-few in omega (arith, ap length old-is);
-        }

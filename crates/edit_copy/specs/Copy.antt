@@ -1,23 +1,27 @@
 -- What a copy reads, and what it may do. Assumes nothing.
-use Prim.Native.Nat.{ℕ, _+_, _≤_}
+use Prim.Native.Nat.{ℕ, _+_}
 use mathlib.Core.Path.{_≡_}
 use mathlib.Core.Bool.{true}
-use mathlib.Core.List.{List, [], _++_}
+use mathlib.Core.List.{List, []}
 use mathlib.Core.Option.{Option, none, some}
-use lib.ListN.{length, take}
-use Rattle.number.specs.Number.{over}
+use lib.ListN.{length, drop}
+use Rattle.number.specs.Number.{written}
 use Rattle.md5.specs.declared.words.Digest.{Digest}
+use Rattle.md5.specs.Md5.{bytesOf}
 use Rattle.order.specs.Order.{byBytes}
 use Rattle.machine.specs.Map.{Map, isSome, lookup}
 use Rattle.machine.specs.Names.{Bytes}
 use Rattle.machine.specs.Pairs.{pairsHeld}
 use Rattle.machine.specs.State.{Object, State, withObject}
 use Rattle.machine.specs.Valid.{Valid}
-use Rattle.stored_pairs.specs.Stored.{pairLengths, pairBytes}
+use Rattle.row.specs.declared.Head.{Head}
+use Rattle.row.specs.Row.{headAt, rowBytes}
+use Rattle.layout.specs.Rules.{plainKind}
 use Rattle.layout.specs.Memory.{whole, stateOf}
-use Rattle.find.specs.Known.{WholeObject}
-use Rattle.edit.specs.declared.blocks.BlockSizes.{BlockSizes}
-use Rattle.edit.specs.Objects.{plainWith}
+use Rattle.find.specs.declared.Lookup.{Lookup}
+use Rattle.find.specs.declared.RowPlace.{RowPlace}
+use Rattle.find.specs.Places.{objectPlace}
+use Rattle.edit.specs.Objects.{ObjectPlaced, plainWith}
 
 abbrev pub contentIn : Option Object → Bytes
 contentIn none = []
@@ -38,18 +42,13 @@ keptAt s p = pairsIn (lookup byBytes p (s .O))
 abbrev pub blockLength : State → Bytes → ℕ
 blockLength s p = pairsHeld (keptAt s p) + length (contentAt s p)
 
--- there is an object at p, and room for its block from `to` on and for the lengths of its pairs
-pub record BlockCopiable (t a : List ℕ) (p : Bytes) (to : ℕ) (lengths : List ℕ) : Type 0 where
-  pub is-there : WholeObject t a p
-  pub room : to + blockLength (stateOf t a) p ≤ length a
-  pub lengths-room : 16 ≤ length lengths
+-- the head of a row with another stamp and a plain etag, and t with that of the row at `at` written so
+abbrev pub restampedHead : (stamp : ℕ) → Head → Head
+restampedHead stamp h =
+    record { size = h .size; number = 0; stamp = stamp; kind = plainKind; pairs = h .pairs; pathlen = h .pathlen; count = 0 }
 
--- its block is copied, and the lengths of its pairs to the front of lengths′
-pub record CopiedBlock (t a : List ℕ) (p : Bytes) (to : ℕ) (r : BlockSizes) (a′ lengths′ : List ℕ) : Type 0 where
-  pub bytes : r .bytes ≡ blockLength (stateOf t a) p
-  pub block : a′ ≡ over a to (pairBytes (keptAt (stateOf t a) p) ++ contentAt (stateOf t a) p) (r .bytes)
-  pub lengths : take (r .lengths) lengths′ ≡ pairLengths (keptAt (stateOf t a) p)
-  pub few : r .lengths ≤ 16
+abbrev pub restamped : (t : List ℕ) (at stamp : ℕ) → Digest → List ℕ
+restamped t at stamp digest = written t at (rowBytes (restampedHead stamp (headAt (drop at t))) (bytesOf digest) [] [])
 
 -- the object at the source, copied to the destination; E6: with its pairs
 abbrev pub copied : (stamp : ℕ) → Digest → (source destination : Bytes) → State → State
@@ -60,3 +59,8 @@ pub record Copiable (t a : List ℕ) (stamp : ℕ) (digest : Digest) (source des
   pub is-whole : whole t a ≡ true
   pub there : isSome (lookup byBytes source (stateOf t a .O)) ≡ true
   pub valid : Valid (length a) (copied stamp digest source destination (stateOf t a))
+
+-- `from` and `place` are what the lookups of source and destination answer, and `end` is the end of the rows
+pub record CopyPlaced (t a : List ℕ) (source destination : Bytes) (from place : Lookup) (end : RowPlace) : Type 0 where
+  pub source-place : from ≡ objectPlace (stateOf t a) source
+  pub destination-place : ObjectPlaced t a destination place end

@@ -1,11 +1,11 @@
 -- A part put in the place of what is there: what the steps require, and what memory then stands for. Assumes nothing.
 use Prim.Native.Nat.{ℕ, _+_, _-_, _≤_, _<_, _^_}
 use mathlib.Core.Path.{_≡_, refl, sym, ap, _∙_, subst}
-use mathlib.Core.Bool.{Bool, true, false}
+use mathlib.Core.Bool.{true}
 use mathlib.Core.List.{List, [], _∷_, _++_}
-use mathlib.Core.Option.{Option, some}
+use mathlib.Core.Option.{some}
 use native.Mathlib.Omega.{arith}
-use lib.ListN.{length, drop, length-append}
+use lib.ListN.{length, drop}
 use Rattle.number.specs.Number.{AreBytes}
 use Rattle.md5.specs.declared.words.Digest.{Digest}
 use Rattle.md5.specs.Md5.{bytesOf}
@@ -13,8 +13,8 @@ use Rattle.buffer.specs.Buffer.{spliced}
 use Rattle.machine.specs.Map.{isSome, byNumber, lookup, total}
 use Rattle.machine.specs.State.{Part, Upload, State, partsIn, withUpload, withPart}
 use Rattle.row.specs.declared.Head.{Head}
-use Rattle.row.specs.Row.{encodeRow, encodeRows, contentsOf, headAt, headOf, rowBytes, numbersLength, span, Encodable, EncodableAll}
-use Rattle.row.proofs.RowLaws.{length-row, encodable-right}
+use Rattle.row.specs.Row.{encodeRows, contentsOf, headAt, rowBytes, numbersLength, Encodable, EncodableAll}
+use Rattle.row.proofs.RowLaws.{encodable-right}
 use Rattle.layout.specs.declared.Header.{Header}
 use Rattle.layout.specs.Header.{headerOf, headed, headerAt, headerLength}
 use Rattle.layout.specs.Rules.{partKind, partsMost}
@@ -26,12 +26,13 @@ use Rattle.find.specs.declared.Lookup.{Lookup}
 use Rattle.find.specs.Places.{beforePart, afterPart, partPlace}
 use Rattle.find.proofs.RowsAt.{At, row-at}
 use Rattle.find.proofs.Splits.{part-found}
-use Rattle.find.proofs.Found.{is-some, is-none}
+use Rattle.find.proofs.Found.{is-some}
 use Rattle.edit.specs.declared.rows.OldRow.{OldRow}
 use Rattle.edit.specs.Rows.{oldRowAt, Replaceable}
+use Rattle.edit.proofs.OldRows.{sizesOf, read-sizes, one-sizes}
 use Rattle.edit.proofs.OneRow as row
 use Rattle.edit_uploads.specs.Parts.{partWith, PartPlaced, PartPuttable}
-use Rattle.edit_uploads.proofs.PartStates.{open-once, partIf, oldParts, oldPart, restParts, was-rows, put-rows, same-uploads, put-count}
+use Rattle.edit_uploads.proofs.PartStates.{open-once, oldParts, restParts, was-rows, put-rows, same-uploads, put-count}
 
 -- the part n of the open upload x, looked up
 module _ (t a : List ℕ) (b : AreBytes t) (w : whole t a ≡ true) (u n : ℕ) (x : Upload) (is-open : lookup byNumber u (stateOf t a .U) ≡ some x)
@@ -54,37 +55,20 @@ module _ (t a : List ℕ) (b : AreBytes t) (w : whole t a ≡ true) (u n : ℕ) 
   unfolding partPlace
   found-is = ap (λ (k : Lookup). k .found) place-is
 
+  here : (y : Part) → lookup byNumber n (x .parts) ≡ some y → At t a s stands (beforePart s u x n) (partRow n y) (afterPart s u x n)
+  here y f = row-at t a s stands (beforePart s u x n) (partRow n y) (afterPart s u x n) (part-found s u x is-open n y f)
+
   -- what the code reads of the row there
-  module _ (e : place .found ≡ true) where
-    there : (y : Part) × (lookup byNumber n (x .parts) ≡ some y)
-    there = is-some _ (sym found-is ∙ e)
+  pub old-inside : place .found ≡ true → place .at + numbersLength ≤ length t
+  old-inside e =
+      let there = is-some _ (sym found-is ∙ e) in
+      let i = here (there .0) (there .1) .inside in
+      omega (arith, at-is)
 
-    here : At t a s stands (beforePart s u x n) (partRow n (there .0)) (afterPart s u x n)
-    here = row-at t a s stands (beforePart s u x n) (partRow n (there .0)) (afterPart s u x n) (part-found s u x is-open n (there .0) (there .1))
-
-    pub old-inside : place .at + numbersLength ≤ length t
-    old-inside = let i = here .inside in omega (arith, at-is)
-
-    old-one : oldRowAt true (headAt (drop (place .at) t)) ≡ oldPart x n
-    unfolding partIf encodeRows contentsOf
-    old-one =
-        let r = partRow n (there .0) in
-        let head : headAt (drop (place .at) t) ≡ headOf r = ap (λ (i : ℕ). headAt (drop i t)) at-is ∙ here .head in
-        let l : span (headOf r) ≡ length (encodeRow r ++ []) = omega (arith, length-row r (here .encodable), length-append (encodeRow r) []) in
-        let z : length (r .content) ≡ length (r .content ++ []) = omega (arith, length-append (r .content) []) in
-        ap (oldRowAt true) head
-        ∙ (λ i. record { rows = 1; length = l i; size = z i })
-        ∙ ap (λ (o : Option Part). record { rows = length (partIf n o); length = length (encodeRows (partIf n o)); size = length (contentsOf (partIf n o)) }) (sym (there .1))
-
-  pub old-row : oldRowAt (place .found) (headAt (drop (place .at) t)) ≡ oldPart x n
-  unfolding partIf encodeRows contentsOf
-  old-row = go (place .found) refl
-    where
-      go : (f : Bool) → place .found ≡ f → oldRowAt f (headAt (drop (place .at) t)) ≡ oldPart x n
-      go true e = old-one e
-      go false e =
-          ap (λ (o : Option Part). record { rows = length (partIf n o); length = length (encodeRows (partIf n o)); size = length (contentsOf (partIf n o)) })
-          (sym (is-none (lookup byNumber n (x .parts)) (sym found-is ∙ e)))
+  pub old-row : oldRowAt (place .found) (headAt (drop (place .at) t)) ≡ sizesOf (oldParts x n)
+  old-row =
+      read-sizes (partRow n) (lookup byNumber n (x .parts)) (place .found) (headAt (drop (place .at) t)) found-is
+      (λ y f. one-sizes t a s stands (beforePart s u x n) (partRow n y) (afterPart s u x n) (here y f) (place .at) at-is)
 
 -- the head of the row of a part that is put
 abbrev pub partHead : (n size : ℕ) → Head
@@ -128,7 +112,7 @@ module _ (t a : List ℕ) (b : AreBytes t) (u n : ℕ) (digest : Digest) (conten
   held-is : end .base ≡ length (contentsOf (rowsOf was))
   held-is = ap (λ (k : RowPlace). k .base) (placed .1)
 
-  gives-way : old ≡ oldPart x n
+  gives-way : old ≡ sizesOf (oldParts x n)
   gives-way = old-is ∙ old-row t a b (pre .is-whole) u n x (pre .is-open) place there-is
 
   length-is : old .length ≡ length (encodeRows (oldParts x n))
@@ -190,5 +174,5 @@ module _ (t a : List ℕ) (b : AreBytes t) (u n : ℕ) (digest : Digest) (conten
             subst (λ (k : Upload). Stands t′ a′ (withUpload was u (withPart k n y))) (open-once _ x z (pre .is-open) open-z)
             (row.replaced-stands t a was is (beforePart was u x n) (partRow n y) (restParts was u x n) (place .at) (place .base) (end .at) (end .base) place-at place-base used-is held-is
             (oldParts x n) split s′ (pre .valid) split′ (omega arith) (omega arith) encodable (old .length) (old .size) length-is size-is
-            t′ a′ [] (bytesOf digest) [] content _ _ after-is refl refl refl refl refl e e′ l l′);
+            t′ a′ [] (bytesOf digest) [] _ _ after-is refl refl refl refl e l l′ content refl e′);
       }

@@ -1,6 +1,6 @@
 -- An upload opened, or taken out with its parts: what the steps require, and what memory then stands for. Assumes nothing.
 use Prim.Native.Nat.{ℕ, _+_, _-_, _*_, _/_, _≤_, _<_, _^_}
-use mathlib.Core.Path.{_≡_, refl, sym, ap, ap₂, _∙_, subst}
+use mathlib.Core.Path.{_≡_, refl, sym, ap, _∙_, subst}
 use mathlib.Core.Bool.{true}
 use mathlib.Core.List.{List, [], _∷_, _++_, append-assoc, append-nil}
 use mathlib.Core.Option.{none, some}
@@ -11,7 +11,6 @@ use Rattle.md5.specs.declared.words.Digest.{Digest}
 use Rattle.md5.specs.Md5.{bytesOf}
 use Rattle.order.proofs.OrderLaws.{numbers}
 use Rattle.buffer.specs.Buffer.{spliced}
-use Rattle.buffer.proofs.Rotating.{none-left}
 use Rattle.machine.specs.Map.{isSome, Map, byNumber, lookup, total}
 use Rattle.machine.specs.Names.{Bytes}
 use Rattle.machine.specs.Pairs.{pairsHeld}
@@ -46,7 +45,6 @@ use Rattle.find.proofs.Found.{is-some}
 use Rattle.edit.proofs.Changes.{new-upload-rows, without-upload-rows}
 use Rattle.edit.proofs.Fit.{tables-fit}
 use Rattle.edit.proofs.Standing.{removed}
-use Rattle.edit.proofs.Tail.{tail-stands, tail-read}
 use Rattle.edit.specs.Rows.{Replaceable}
 use Rattle.edit.proofs.OneRow as row
 
@@ -57,6 +55,13 @@ zeroDigest = record { a = 0; b = 0; c = 0; d = 0 }
 zero-bytes : bytesOf zeroDigest ≡ noDigest
 unfolding bytesOf le
 zero-bytes = refl
+
+-- bytes written after the last that are used are put in there
+put-last : (a d : List ℕ) (end n : ℕ) → n ≡ length d → over a end d n ≡ spliced a end 0 end d
+put-last a d end n e =
+    let z : end - (end + 0) ≡ 0 = omega arith in
+    let k : end + n ≡ end - 0 + length d = omega arith in
+    append-assoc (take end a) d (drop (end + n) a) ∙ rw (z, k)
 
 module _ (t a : List ℕ) (b : AreBytes t) (w : whole t a ≡ true) (end : RowPlace) (end-is : end ≡ placeAfter (rowsOf (stateOf t a)))
     (header : Header) (read : header ≡ headerAt t) where
@@ -146,20 +151,8 @@ module _ (t a : List ℕ) (b : AreBytes t) (w : whole t a ≡ true) (end : RowPl
       block-length : length (pairBytes m) ≡ size
       block-length = omega (arith, length-bytes m, size-is)
 
-      written : a′ ≡ over a (held s) (pairBytes m) size
-      written = e ∙ ap₂ (λ (i : ℕ) (d : List ℕ). over a i d size) held-there (append-nil (pairBytes m))
-
-      there : Stands t a′ s
-      there = tail-stands t a s stands a′ (pairBytes m) size written keeps
-
-      block-is : take (length (pairBytes m)) (drop (held s) a′) ≡ pairBytes m
-      block-is = tail-read t a s stands a′ (pairBytes m) size written keeps
-
-      room′ : held s + length (pairBytes m) ≤ length a′
-      room′ = let r = valid .room in omega (arith, held-open s stamp p m (stands .valid .upload), length-bytes m, keeps)
-
-      valid′ : Valid (length a′) s′
-      valid′ = subst (λ (A : ℕ). Valid A s′) (sym keeps) valid
+      put : a′ ≡ spliced a (end .base) 0 (end .base) (pairBytes m)
+      put = e ∙ ap (λ (d : List ℕ). over a (end .base) d size) (append-nil (pairBytes m)) ∙ put-last a (pairBytes m) (end .base) size (sym block-length)
 
       twice : n ≡ 2 * length m
       twice = omega (arith, n-is, ap length lengths-are, length-lengths m)
@@ -180,20 +173,20 @@ module _ (t a : List ℕ) (b : AreBytes t) (w : whole t a ≡ true) (end : RowPl
         pub stands : (t′ : List ℕ) → t′ ≡ headed (spliced t (end .at) 0 (end .at) (rowBytes head (bytesOf zeroDigest) p lengths)) opened → length t′ ≡ length t → Stands t′ a′ s′
 
       pub after-block : Opened
+      unfolding encodeRows contentsOf
       after-block =
           record {
             small = omega (arith, size-is, kept-held m (upload-ok .pairs));
             few = omega (arith, twice, length-lengths m, few);
             room =
                 subst (λ (ls : List ℕ). Replaceable t (end .at) 0 (end .at) head p ls) (sym lengths-are)
-                (row.insert-room t a′ s there (rowsOf s) (uploadRow (s .N) x) [] (end .at) (end .base) (end .at) (end .base) used-is held-is used-is held-is
-                split s′ valid′ split′ path-most few row-encodable block-is room′ head head-is);
+                (row.row-room t a s stands (rowsOf s) (uploadRow (s .N) x) [] (end .at) (end .base) (end .at) (end .base) used-is held-is used-is held-is
+                [] split s′ valid split′ path-most few row-encodable 0 0 refl refl head head-is);
             stands =
                 λ t′ e′ l.
-                row.inserted-stands t a′ s there (rowsOf s) (uploadRow (s .N) x) [] (end .at) (end .base) (end .at) (end .base) used-is held-is used-is held-is
-                split s′ valid′ split′ path-most few row-encodable block-is room′
-                t′ a′ p (bytesOf zeroDigest) lengths _ _ size (opened-is ∙ ap (λ (A : ℕ). headerOf A s′) (sym keeps)) head-is zero-bytes refl lengths-are (sym block-length) e′
-                (none-left a′ (end .base) (end .base - end .base) size (let r = room′ in omega (arith, held-there, block-length)) (omega arith)) l refl;
+                row.replaced-stands t a s stands (rowsOf s) (uploadRow (s .N) x) [] (end .at) (end .base) (end .at) (end .base) used-is held-is used-is held-is
+                [] split s′ valid split′ path-most few row-encodable 0 0 refl refl
+                t′ a′ p (bytesOf zeroDigest) lengths _ _ opened-is head-is zero-bytes refl lengths-are e′ l keeps (pairBytes m) refl put;
           }
 
   -- taken out

@@ -9,7 +9,7 @@ use Rattle.number.specs.Number.{AreBytes}
 use Rattle.number.proofs.NumberLaws.{bytes-drop}
 use Rattle.machine.specs.Names.{Bytes}
 use Rattle.machine.specs.Pairs.{pairsHeld}
-use Rattle.machine.specs.State.{Object, Upload, State}
+use Rattle.machine.specs.State.{Object, State}
 use Rattle.stored_pairs.specs.Stored.{sumOf}
 use Rattle.stored_pairs.proofs.StoredLaws.{sum-lengths}
 use Rattle.row.specs.declared.Head.{Head}
@@ -17,7 +17,7 @@ use Rattle.row.specs.Fields.{numbersAt}
 use Rattle.row.specs.Row.{Row, widths, encodeRows, headAt, headLength, lengthsAt, span, spanAt, headOf}
 use Rattle.row.proofs.FieldLaws.{numbers-fit}
 use Rattle.layout.specs.Header.{headerLength}
-use Rattle.layout.specs.Memory.{objectRow, uploadRow, Stands}
+use Rattle.layout.specs.Memory.{objectRow, Stands}
 use Rattle.find.proofs.RowsAt.{At}
 
 -- what `lengths` answers, by the head that it read

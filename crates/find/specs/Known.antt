@@ -4,7 +4,6 @@ use mathlib.Core.Path.{_≡_}
 use mathlib.Core.Bool.{true}
 use mathlib.Core.List.{List}
 use mathlib.Core.Option.{some}
-use Rattle.order.specs.Order.{byBytes}
 use Rattle.machine.specs.Map.{isSome, byNumber, lookup}
 use Rattle.machine.specs.Names.{Bytes}
 use Rattle.machine.specs.State.{Upload, State}
@@ -19,10 +18,6 @@ module _ (t a : List ℕ) where
   -- the rows of the state that t and a stand for
   abbrev pub rowsIn : List Row
   rowsIn = rowsOf (stateOf t a)
-
-  -- t and a are whole, and there is an object at p
-  abbrev pub WholeObject : Bytes → Type 0
-  WholeObject p = (whole t a ≡ true) × (isSome (lookup byBytes p (stateOf t a .O)) ≡ true)
 
   -- t and a are whole, and upload u is open
   abbrev pub WholeOpen : ℕ → Type 0

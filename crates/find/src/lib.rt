@@ -16,7 +16,6 @@ pub use uploads::find_part_after;
 pub use uploads::find_part_from;
 pub use uploads::find_upload;
 pub use uploads::first_due;
-pub use uploads::parts_end;
 pub use uploads::pass_parts;
 pub use uploads::rows_end;
 pub use uploads::rows_end_after;

@@ -15,7 +15,7 @@ ghost use mathlib.Core.Path.{_≡_};
 ghost use mathlib.Core.Bool.{true};
 ghost use Rattle.layout.specs.Memory.{whole, stateOf};
 ghost use Rattle.find.specs.Places.{placeOf, placeAfter, uploadPlace, partPlace, uploadRowOf, passedParts, firstDue};
-ghost use Rattle.find.specs.Known.{rowsIn, WholeOpen, WholeRow, WholePlace, OfOpen, OfOpenAt, OfOpenBefore};
+ghost use Rattle.find.specs.Known.{rowsIn, WholeRow, WholePlace, OfOpenAt, OfOpenBefore};
 
 // The row of the upload with this number, or where it would stand.
 pub fn upload_row(tables: &[u8], arena: &[u8], upload: u32) -> RowPlace
@@ -93,15 +93,6 @@ pub fn pass_parts(tables: &[u8], arena: &[u8], here: RowPlace) -> PassedParts
         count: next.row - first.row,
         next,
     }
-}
-
-// How many parts an open upload has, and the row after them.
-pub fn parts_end(tables: &[u8], arena: &[u8], upload: u32) -> PassedParts
-    requires { ⌜ WholeOpen (now tables) (now arena) upload ⌝ }
-    ensures { λ r. ⌜ OfOpen (now (tables .entry)) (now (arena .entry)) upload (λ s x. r ≡ passedParts s upload x) ⌝ }
-{
-    let here = upload_row(tables, arena, upload);
-    pass_parts(tables, arena, here)
 }
 
 // The number of the first upload that started before a stamp.

@@ -31,9 +31,10 @@ use Rattle.layout.specs.Rules.{partsMost}
 use Rattle.layout.specs.Memory.{uploadRow, partRows, rowsOf, Stands}
 use Rattle.layout.proofs.RowCounts.{length-contents, length-part-contents}
 use Rattle.layout.proofs.StandsLaws.{length-header}
+use Rattle.layout.proofs.UploadLaws.{length-part-rows}
 use Rattle.layout.specs.Header.{headerOf, headed, encodeHeader, headerLength}
-use Rattle.find.specs.Places.{beforeUpload, beforeParts, throughParts, afterUpload}
-use Rattle.find.proofs.Splits.{parts-place, parts-after}
+use Rattle.find.specs.Places.{placeAfter, beforeUpload, beforeParts, throughParts, afterUpload}
+use Rattle.find.proofs.Splits.{upload-found, parts-place, parts-after}
 use Rattle.edit.proofs.Changes.{without-upload-rows}
 use Rattle.edit.proofs.Fit.{tables-fit}
 use Rattle.edit.proofs.RowLists.{rows-spliced, header-written}
@@ -41,8 +42,8 @@ use Rattle.contract.specs.Answers.{partList}
 use Rattle.join_order.specs.Region.{listedRows, ListedAt, orderedTables, orderedArena, Arranged}
 use Rattle.join_order.proofs.Listed.{fit-count}
 use Rattle.join.specs.declared.Bounds.{Bounds}
-use Rattle.join.specs.Bounds.{Inside, boundsOf}
-use Rattle.join.proofs.UploadBounds.{parts-data, parts-encodable, few-parts, rows-through, data-through}
+use Rattle.join.specs.Bounds.{Inside, boundsOf, endAfter}
+use Rattle.join.proofs.UploadBounds.{bounds-at, parts-data, parts-encodable, few-parts, rows-through, data-through}
 
 -- no part has the number that an odd byte makes
 pub fit-even : (list : Bytes) (m : Map ℕ Part) (ys : List Part) → Every PartOk m → fit (partList list) m ≡ some ys → length list ≡ 2 * length (partList list)
@@ -88,8 +89,7 @@ module _ (t a : List ℕ) (s : State) (h : Stands t a s) (u : ℕ) (x : Upload) 
   few = omega (arith, even, fit-count (partList list) (x .parts) ys fits, fit-length (partList list) (x .parts) ys fits, few-parts t a s h u x f)
 
   at-is : b .at ≡ headerLength + length (encodeRows (beforeUpload s u))
-  unfolding boundsOf
-  at-is = ap (λ (k : Bounds). k .at) b-is
+  at-is = bounds-at s u x b b-is
 
   pub first-is : b .first ≡ headerLength + length (encodeRows ahead)
   unfolding boundsOf
@@ -122,6 +122,10 @@ module _ (t a : List ℕ) (s : State) (h : Stands t a s) (u : ℕ) (x : Upload) 
   count-is : b .count ≡ length (x .parts)
   unfolding boundsOf
   count-is = ap (λ (k : Bounds). k .count) b-is
+
+  rows-is : b .rows ≡ length (rowsOf s)
+  unfolding boundsOf
+  rows-is = ap (λ (k : Bounds). k .rows) b-is
 
   -- the parts as `arrange` asks for them
   abbrev pub listed-at : ListedAt t a (b .first) (b .parts) list
@@ -158,6 +162,30 @@ module _ (t a : List ℕ) (s : State) (h : Stands t a s) (u : ℕ) (x : Upload) 
           ∙ ap (λ (l : List ℕ). l ++ h .arena-free) (contents-append ahead (parts ++ after) ∙ ap (λ (l : List ℕ). contentsOf ahead ++ l) (contents-append parts after))
           ∙ simp append-assoc
 
+  -- what rows and data take, through the upload's parts and after them
+  rows-used : length (encodeRows (rowsOf s)) ≡ length (encodeRows (throughParts s u x)) + length (encodeRows after)
+  rows-used =
+      omega (arith, ap length (ap encodeRows (parts-after s u x f) ∙ encode-append (throughParts s u x) after), length-append (encodeRows (throughParts s u x)) (encodeRows after))
+
+  data-used : length (contentsOf (rowsOf s)) ≡ length (contentsOf (beforeUpload s u)) + (length (pairBytes (x .pairs)) + length (contentsOf parts)) + length (contentsOf after)
+  data-used =
+      omega (
+        arith,
+        ap length (ap contentsOf (parts-after s u x f) ∙ contents-append (throughParts s u x) after),
+        length-append (contentsOf (throughParts s u x)) (contentsOf after),
+        data-through t a s h u x f,
+      )
+
+  rows-counted : length (rowsOf s) ≡ length (beforeUpload s u) + (1 + length (x .parts)) + length after
+  rows-counted =
+      omega (
+        arith,
+        ap length (upload-found s u x f),
+        length-append (beforeUpload s u) (uploadRow u x ∷ (parts ++ after)),
+        length-append parts after,
+        length-part-rows (x .parts),
+      )
+
   -- what `cut` asks, in memory of the same lengths
   pub cut-inside : (t₁ a₁ : List ℕ) → length t₁ ≡ length t → length a₁ ≡ length a
       → Inside t₁ a₁ b
@@ -165,28 +193,41 @@ module _ (t a : List ℕ) (s : State) (h : Stands t a s) (u : ℕ) (x : Upload) 
       let z = h .size in
       let r = h .valid .room in (
         omega (arith, at-is),
-        omega (arith, at-is, after-is, rows-through t a s h u x f, rows-ahead),
+        omega (arith, at-is, after-is, rows-through t a s h u x f, ahead-more s u x),
         omega (arith, after-is, used-is, rows-used),
         omega (arith, used-is, tables-fit (length a) s (h .small) (h .valid)),
         omega (arith, base-is, size-is, held-is, data-used),
         omega (arith, held-is, length-contents s),
+        omega (arith, rows-is, count-is, rows-counted),
       )
-    where
-      rows-ahead : length (encodeRows (beforeUpload s u)) ≤ length (encodeRows ahead)
-      rows-ahead = ahead-more s u x
 
-      rows-used : length (encodeRows (rowsOf s)) ≡ length (encodeRows (throughParts s u x)) + length (encodeRows after)
-      rows-used =
-          omega (arith, ap length (ap encodeRows (parts-after s u x f) ∙ encode-append (throughParts s u x) after), length-append (encodeRows (throughParts s u x)) (encodeRows after))
-
-      data-used : length (contentsOf (rowsOf s)) ≡ length (contentsOf (beforeUpload s u)) + (length (pairBytes (x .pairs)) + length (contentsOf parts)) + length (contentsOf after)
-      data-used =
-          omega (
-            arith,
-            ap length (ap contentsOf (parts-after s u x f) ∙ contents-append (throughParts s u x) after),
-            length-append (contentsOf (throughParts s u x)) (contentsOf after),
-            data-through t a s h u x f,
-          )
+  -- where the rows end then
+  pub end-left : endAfter b ≡ placeAfter (rowsOf s′)
+  end-left =
+      let rs = without-upload-rows s u x f in
+      let row : b .rows - (1 + b .count) ≡ length (rowsOf s′) = omega (arith, rows-is, count-is, rows-counted, ap length rs, length-append (beforeUpload s u) after) in
+      let at : b .used - (b .after - b .at) ≡ headerLength + length (encodeRows (rowsOf s′)) =
+      omega (
+        arith,
+        at-is,
+        after-is,
+        used-is,
+        rows-used,
+        rows-through t a s h u x f,
+        ahead-more s u x,
+        ap length (ap encodeRows rs ∙ encode-append (beforeUpload s u) after),
+        length-append (encodeRows (beforeUpload s u)) (encodeRows after),
+      ) in
+      let base : b .held - b .size ≡ length (contentsOf (rowsOf s′)) =
+      omega (
+        arith,
+        size-is,
+        held-is,
+        data-used,
+        ap length (ap contentsOf rs ∙ contents-append (beforeUpload s u) after),
+        length-append (contentsOf (beforeUpload s u)) (contentsOf after),
+      ) in
+      λ i. record { row = row i; at = at i; base = base i }
 
   -- the header of the state without the upload
   pub closed-is : (head : Header) → head ≡ headerOf (length a) s
@@ -250,8 +291,7 @@ module _ (t a : List ℕ) (s : State) (h : Stands t a s) (u : ℕ) (x : Upload) 
           same-used,
           at-is,
           after-is,
-          ap length (ap encodeRows (parts-after s u x f) ∙ encode-append (throughParts s u x) after),
-          length-append (encodeRows (throughParts s u x)) (encodeRows after),
+          rows-used,
           ap length (encode-append (beforeUpload s u) (gone ++ after)),
           length-append (encodeRows (beforeUpload s u)) (encodeRows (gone ++ after)),
           ap length (encode-append gone after),
@@ -278,16 +318,7 @@ module _ (t a : List ℕ) (s : State) (h : Stands t a s) (u : ℕ) (x : Upload) 
         )
 
     right : b .held - (b .base + b .size) ≡ length (contentsOf after)
-    right =
-        omega (
-          arith,
-          base-is,
-          size-is,
-          held-is,
-          ap length (ap contentsOf (parts-after s u x f) ∙ contents-append (throughParts s u x) after),
-          length-append (contentsOf (throughParts s u x)) (contentsOf after),
-          data-through t a s h u x f,
-        )
+    right = omega (arith, base-is, size-is, held-is, data-used)
 
     arena-told : a₁ ≡ contentsOf (beforeUpload s u) ++ (block ++ (contentsOf after ++ h .arena-free))
     unfolding orderedArena

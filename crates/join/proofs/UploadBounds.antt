@@ -18,12 +18,13 @@ use Rattle.layout.specs.Memory.{uploadRow, partRow, partRows, rowsOf, Stands}
 use Rattle.layout.proofs.StandsLaws.{rows-encodable}
 use Rattle.find.specs.declared.RowPlace.{RowPlace}
 use Rattle.layout.specs.Header.{headerLength}
-use Rattle.find.specs.declared.Lookup.{Lookup}
 use Rattle.find.specs.declared.PassedParts.{PassedParts}
-use Rattle.find.specs.Places.{placeAfter, beforeUpload, beforeParts, throughParts, afterUpload, uploadPlace, passedParts}
-use Rattle.find.proofs.Splits.{parts-place}
+use Rattle.find.specs.Places.{placeAfter, beforeUpload, beforeParts, throughParts, fromUpload, afterUpload, uploadRowOf, passedParts}
+use Rattle.find.proofs.Splits.{upload-place, parts-place}
+use Rattle.find.proofs.Answers.{place-after}
+use Rattle.join.specs.declared.Bounds.{Bounds}
 use Rattle.join.specs.Bounds.{boundsOf}
-use Rattle.join.proofs.PathRead.{size-there}
+use Rattle.join.proofs.PathRead.{head-inside, block-inside, size-there}
 
 length-part-bytes : (m : Map ℕ Part) → EncodableAll (partRows m) → length (encodeRows (partRows m)) ≡ headLength * length m
 unfolding partRows encodeRows
@@ -37,6 +38,21 @@ parts-data s u x = contents-append (beforeUpload s u) (uploadRow u x ∷ []) ∙
 
 pub length-parts-data : (s : State) (u : ℕ) (x : Upload) → length (contentsOf (beforeParts s u x)) ≡ length (contentsOf (beforeUpload s u)) + length (pairBytes (x .pairs))
 length-parts-data s u x = ap length (parts-data s u x) ∙ length-append (contentsOf (beforeUpload s u)) (pairBytes (x .pairs))
+
+-- where its row begins, by its place and by its bounds
+module _ (s : State) (u : ℕ) (here : RowPlace) (here-is : here ≡ uploadRowOf s u) where
+  row-after : here ≡ placeAfter (beforeUpload s u)
+  row-after = here-is ∙ place-after (rowsOf s) (beforeUpload s u) (fromUpload s u) (upload-place s u)
+
+  pub row-at : here .at ≡ headerLength + length (encodeRows (beforeUpload s u))
+  row-at = ap (λ (k : RowPlace). k .at) row-after
+
+  row-base : here .base ≡ length (contentsOf (beforeUpload s u))
+  row-base = ap (λ (k : RowPlace). k .base) row-after
+
+pub bounds-at : (s : State) (u : ℕ) (x : Upload) (b : Bounds) → b ≡ boundsOf s u x → b .at ≡ headerLength + length (encodeRows (beforeUpload s u))
+unfolding boundsOf
+bounds-at s u x b e = ap (λ (k : Bounds). k .at) e
 
 module _ (t a : List ℕ) (s : State) (h : Stands t a s) (u : ℕ) (x : Upload) (f : lookup byNumber u (s .U) ≡ some x) where
   pub parts-encodable : EncodableAll (partRows (x .parts))
@@ -67,58 +83,60 @@ module _ (t a : List ℕ) (s : State) (h : Stands t a s) (u : ℕ) (x : Upload) 
         length-parts-data s u x,
       )
 
-  module _ (place : Lookup) (place-is : place ≡ uploadPlace s u) (parts : PassedParts) (parts-are : parts ≡ passedParts s u x) (end : RowPlace) (end-is : end ≡ placeAfter (rowsOf s))
-      (head : Head) (head-is : head ≡ headAt (drop (place .at) t)) where
-    at-is : place .at ≡ headerLength + length (encodeRows (beforeUpload s u))
-    unfolding uploadPlace
-    at-is = ap (λ (k : Lookup). k .at) place-is
+  module _ (here : RowPlace) (here-is : here ≡ uploadRowOf s u) where
+    at-is : here .at ≡ headerLength + length (encodeRows (beforeUpload s u))
+    at-is = row-at s u here here-is
 
-    base-is : place .base ≡ length (contentsOf (beforeUpload s u))
-    unfolding uploadPlace
-    base-is = ap (λ (k : Lookup). k .base) place-is
+    base-is : here .base ≡ length (contentsOf (beforeUpload s u))
+    base-is = row-base s u here here-is
 
-    count-is : parts .count ≡ length (x .parts)
-    unfolding passedParts
-    count-is = ap (λ (k : PassedParts). k .count) parts-are
+    pub row-begins : here .at + headLength ≤ length t
+    row-begins = head-inside t a s h u x f (here .at) at-is
 
-    after-is : parts .next .at ≡ headerLength + length (encodeRows (throughParts s u x))
-    unfolding passedParts
-    after-is = ap (λ (k : PassedParts). k .next .at) parts-are
+    module _ (parts : PassedParts) (parts-are : parts ≡ passedParts s u x) (head : Head) (head-is : head ≡ headAt (drop (here .at) t)) where
+      count-is : parts .count ≡ length (x .parts)
+      unfolding passedParts
+      count-is = ap (λ (k : PassedParts). k .count) parts-are
 
-    data-after : parts .next .base ≡ length (contentsOf (throughParts s u x))
-    unfolding passedParts
-    data-after = ap (λ (k : PassedParts). k .next .base) parts-are
+      after-is : parts .next .at ≡ headerLength + length (encodeRows (throughParts s u x))
+      unfolding passedParts
+      after-is = ap (λ (k : PassedParts). k .next .at) parts-are
 
-    pub count-small : parts .count ≤ partsMost
-    count-small = omega (arith, count-is, few-parts)
+      data-after : parts .next .base ≡ length (contentsOf (throughParts s u x))
+      unfolding passedParts
+      data-after = ap (λ (k : PassedParts). k .next .base) parts-are
 
-    pub rows-within : headLength * parts .count ≤ parts .next .at
-    rows-within = omega (arith, count-is, after-is, rows-through)
+      pub count-small : parts .count ≤ partsMost
+      count-small = omega (arith, count-is, few-parts)
 
-    size-read : head .size ≡ length (pairBytes (x .pairs))
-    size-read = size-there t a s h u x f place place-is head head-is
+      pub rows-within : headLength * parts .count ≤ parts .next .at
+      rows-within = omega (arith, count-is, after-is, rows-through)
 
-    parts-is : place .base + head .size ≡ length (contentsOf (beforeParts s u x))
-    parts-is = omega (arith, base-is, size-read, length-parts-data s u x)
+      pub block-within : here .base + head .size ≤ length a
+      block-within = omega (arith, base-is, block-inside t a s h u x f (here .at) at-is head head-is)
 
-    pub base-within : place .base ≤ parts .next .base
-    base-within = omega (arith, base-is, data-after, data-through)
+      pub base-within : here .base ≤ parts .next .base
+      base-within = omega (arith, base-is, data-after, data-through)
 
-    pub bounds-are : record {
-      at = place .at;
-      first = parts .next .at - headLength * parts .count;
-      after = parts .next .at;
-      used = end .at;
-      base = place .base;
-      parts = place .base + head .size;
-      size = parts .next .base - place .base;
-      held = end .base;
-      count = parts .count;
-    } ≡ boundsOf s u x
-    unfolding boundsOf
-    bounds-are =
-        let first : parts .next .at - headLength * parts .count ≡ headerLength + length (encodeRows (beforeParts s u x)) = omega (arith, count-is, after-is, rows-through) in
-        let size : parts .next .base - place .base ≡ length (pairBytes (x .pairs)) + length (contentsOf (partRows (x .parts))) = omega (arith, base-is, data-after, data-through) in
-        let used : end .at ≡ headerLength + length (encodeRows (rowsOf s)) = ap (λ (k : RowPlace). k .at) end-is in
-        let held : end .base ≡ length (contentsOf (rowsOf s)) = ap (λ (k : RowPlace). k .base) end-is in
-        λ i. record { at = at-is i; first = first i; after = after-is i; used = used i; base = base-is i; parts = parts-is i; size = size i; held = held i; count = count-is i }
+      pub bounds-are : (end : RowPlace) → end ≡ placeAfter (rowsOf s)
+          → record {
+            at = here .at;
+            first = parts .next .at - headLength * parts .count;
+            after = parts .next .at;
+            used = end .at;
+            base = here .base;
+            parts = here .base + head .size;
+            size = parts .next .base - here .base;
+            held = end .base;
+            count = parts .count;
+            rows = end .row;
+          } ≡ boundsOf s u x
+      unfolding boundsOf
+      bounds-are end end-is =
+          let first : parts .next .at - headLength * parts .count ≡ headerLength + length (encodeRows (beforeParts s u x)) = omega (arith, count-is, after-is, rows-through) in
+          let pairs : here .base + head .size ≡ length (contentsOf (beforeParts s u x)) = omega (arith, base-is, size-there t a s h u x f (here .at) at-is head head-is, length-parts-data s u x) in
+          let size : parts .next .base - here .base ≡ length (pairBytes (x .pairs)) + length (contentsOf (partRows (x .parts))) = omega (arith, base-is, data-after, data-through) in
+          let used : end .at ≡ headerLength + length (encodeRows (rowsOf s)) = ap (λ (k : RowPlace). k .at) end-is in
+          let held : end .base ≡ length (contentsOf (rowsOf s)) = ap (λ (k : RowPlace). k .base) end-is in
+          let rows : end .row ≡ length (rowsOf s) = ap (λ (k : RowPlace). k .row) end-is in
+          λ i. record { at = at-is i; first = first i; after = after-is i; used = used i; base = base-is i; parts = pairs i; size = size i; held = held i; count = count-is i; rows = rows i }

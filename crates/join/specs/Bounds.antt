@@ -1,5 +1,5 @@
--- Where an upload's rows, its block and its parts' data begin and end. Assumes nothing.
-use Prim.Native.Nat.{ℕ, _+_, _≤_}
+-- Where an upload's rows, its block and its parts' data begin and end, and how many rows there are. Assumes nothing.
+use Prim.Native.Nat.{ℕ, _+_, _-_, _≤_}
 use mathlib.Core.List.{List}
 use lib.ListN.{length}
 use Rattle.machine.specs.State.{Upload, State}
@@ -7,6 +7,7 @@ use Rattle.stored_pairs.specs.Stored.{pairBytes}
 use Rattle.row.specs.Row.{encodeRows, contentsOf}
 use Rattle.layout.specs.Header.{headerLength}
 use Rattle.layout.specs.Memory.{partRows, rowsOf}
+use Rattle.find.specs.declared.RowPlace.{RowPlace}
 use Rattle.find.specs.Places.{beforeUpload, beforeParts, throughParts}
 use Rattle.join.specs.declared.Bounds.{Bounds}
 
@@ -14,7 +15,7 @@ use Rattle.join.specs.declared.Bounds.{Bounds}
 abbrev pub Inside : (t a : List ℕ) → Bounds → Type 0
 Inside t a b =
     (headerLength ≤ b .at) × (b .at ≤ b .after) × (b .after ≤ b .used) × (b .used ≤ length t)
-    × (b .base + b .size ≤ b .held) × (b .held ≤ length a)
+    × (b .base + b .size ≤ b .held) × (b .held ≤ length a) × (1 + b .count ≤ b .rows)
 
 unfoldable pub boundsOf : State → ℕ → Upload → Bounds
 boundsOf s u x =
@@ -28,4 +29,9 @@ boundsOf s u x =
       size = length (pairBytes (x .pairs)) + length (contentsOf (partRows (x .parts)));
       held = length (contentsOf (rowsOf s));
       count = length (x .parts);
+      rows = length (rowsOf s);
     }
+
+-- where the rows end once the upload's are cut out
+abbrev pub endAfter : Bounds → RowPlace
+endAfter b = record { row = b .rows - (1 + b .count); at = b .used - (b .after - b .at); base = b .held - b .size }

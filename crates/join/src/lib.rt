@@ -1,4 +1,7 @@
 // An upload's parts joined in listed order into an object.
+use find::Lookup;
+use find::PassedParts;
+use find::RowPlace;
 use layout::Header;
 use md5::words::Digest;
 ghost use mathlib.Core.Path.{_≡_};
@@ -8,13 +11,15 @@ ghost use Prim.Native.Nat.{_+_, _-_};
 ghost use Rattle.buffer.specs.Buffer.{spliced, rotated};
 ghost use Rattle.layout.specs.Memory.{whole, stateOf};
 ghost use Rattle.layout.specs.Header.{headed};
-ghost use Rattle.find.specs.Known.{WholeOpen, OfOpen};
+ghost use Rattle.find.specs.Places.{placeAfter, passedParts};
+ghost use Rattle.find.specs.Known.{rowsIn, WholeOpenAt, OfOpen, OfOpenAt};
 ghost use Rattle.contract.specs.Answers.{partList};
-ghost use Rattle.join.specs.Bounds.{Inside, boundsOf};
+ghost use Rattle.join.specs.Bounds.{Inside, boundsOf, endAfter};
 ghost use Rattle.join.specs.Joined.{Listed, Joins, TakenOut, Joinable, JoinableAt, JoinableWith};
 
 // Where an upload's row, its first part's row, the rows after its parts and the free bytes begin in the tables; where
-// its block and its parts' data begin in the arena, the size of both together, and what is held; how many parts it has.
+// its block and its parts' data begin in the arena, the size of both together, and what is held; how many parts it has,
+// and how many rows there are in all.
 pub struct Bounds {
     pub at: usize,
     pub first: usize,
@@ -25,27 +30,34 @@ pub struct Bounds {
     pub size: usize,
     pub held: usize,
     pub count: usize,
+    pub rows: usize,
 }
 
 // What is known of an upload that was taken out: the digest of its parts' digests, the size of its pairs and their data,
-// how many parts it had.
+// how many parts it had; and where the rows end that are left.
 pub struct Taken {
     pub digest: Digest,
     pub size: usize,
     pub count: u16,
+    pub end: RowPlace,
 }
 
-// The bounds of an open upload.
-fn upload_bounds(tables: &[u8], arena: &[u8], upload: u32) -> Bounds
-    requires { ⌜ WholeOpen (now tables) (now arena) upload ⌝ }
-    ensures { λ r. ⌜ OfOpen (now (tables .entry)) (now (arena .entry)) upload (λ s x. r ≡ boundsOf s upload x) ⌝ }
+// The bounds of the open upload whose row is `here`, with what the pass over its parts answers, and the end of the rows.
+pub fn upload_bounds(
+    tables: &[u8],
+    arena: &[u8],
+    here: RowPlace,
+    parts: PassedParts,
+    end: RowPlace,
+) -> Bounds
+    requires { ⌜ WholeOpenAt (now tables) (now arena) here
+        × OfOpenAt (now tables) (now arena) here (λ s u x. parts ≡ passedParts s u x)
+        × (end ≡ placeAfter (rowsIn (now tables) (now arena))) ⌝ }
+    ensures { λ r. ⌜ OfOpenAt (now (tables .entry)) (now (arena .entry)) here (λ s u x. r ≡ boundsOf s u x) ⌝ }
 {
-    let place = find::find_upload(tables, arena, upload);
-    let parts = find::parts_end(tables, arena, upload);
-    let end = find::rows_end(tables, arena);
     let next = parts.next;
-    let at = place.at;
-    let base = place.base;
+    let at = here.at;
+    let base = here.base;
     let h = row::read_head(tables, at);
     let data = base + h.size as usize;
     Bounds {
@@ -58,31 +70,41 @@ fn upload_bounds(tables: &[u8], arena: &[u8], upload: u32) -> Bounds
         size: next.base - base,
         held: end.base,
         count: parts.count,
+        rows: end.row,
     }
 }
 
-// The upload's rows cut out, and its pairs and its parts' data moved to after the last byte that is still held.
-fn cut(tables: &mut [u8], arena: &mut [u8], b: Bounds, header: Header)
+// The upload's rows cut out, and its pairs and its parts' data moved to after the last byte that is still held. The
+// answer is where the rows end then.
+fn cut(tables: &mut [u8], arena: &mut [u8], b: Bounds, header: Header) -> RowPlace
     requires { ⌜ Inside (now tables) (now arena) b ⌝ }
-    ensures { λ _. ⌜ (now (tables .exit)
+    ensures { λ r. ⌜ (now (tables .exit)
         ≡ headed (spliced (now (tables .entry)) (b .at) (b .after - b .at) (b .used) []) header)
-        × (now (arena .exit) ≡ rotated (now (arena .entry)) (b .base) (b .size) (b .held - (b .base + b .size))) ⌝ }
+        × (now (arena .exit) ≡ rotated (now (arena .entry)) (b .base) (b .size) (b .held - (b .base + b .size)))
+        × (r ≡ endAfter b) ⌝ }
 {
+    let width = b.after - b.at;
+    let left = RowPlace {
+        row: b.rows - (1 + b.count),
+        at: b.used - width,
+        base: b.held - b.size,
+    };
     let end = b.base + b.size;
     buffer::rotate(arena, b.base, b.size, b.held - end);
-    edit::rows::remove_rows(tables, b.at, b.after - b.at, b.used, header);
+    edit::rows::remove_rows(tables, b.at, width, b.used, header);
+    left
 }
 
 // An open upload taken out, its pairs and its parts' data, in listed order, left after the last byte held.
-fn take_upload(tables: &mut [u8], arena: &mut [u8], upload: u32, list: &[u8]) -> Taken
+fn take_upload(tables: &mut [u8], arena: &mut [u8], upload: u32, b: Bounds, list: &[u8]) -> Taken
     requires { ⌜ (whole (now tables) (now arena) ≡ true)
-        × Listed (stateOf (now tables) (now arena)) upload (partList (now list)) ⌝ }
+        × Listed (stateOf (now tables) (now arena)) upload (partList (now list))
+        × OfOpen (now tables) (now arena) upload (λ s x. b ≡ boundsOf s upload x) ⌝ }
     ensures { λ r. ⌜ ((k : Listed (stateOf (now (tables .entry)) (now (arena .entry)))
         upload (partList (now (list .entry))))
         → TakenOut (now (tables .entry)) (now (arena .entry)) upload (now (list .entry)) k
         (now (tables .exit)) (now (arena .exit)) r) ⌝ }
 {
-    let b = upload_bounds(tables, arena, upload);
     let count = b.count as u16;
     let h = layout::headers::read_header(tables);
     let header = Header {
@@ -93,35 +115,40 @@ fn take_upload(tables: &mut [u8], arena: &mut [u8], upload: u32, list: &[u8]) ->
         parts: h.parts - count,
     };
     let digest = join_order::arrange(tables, arena, b.first, b.parts, list);
-    cut(tables, arena, b, header);
+    let end = cut(tables, arena, b, header);
     Taken {
         digest,
         size: b.size,
         count,
+        end,
     }
 }
 
-// An upload's parts joined into an object at the upload's path, with its start stamp and pairs of these lengths.
+// An upload's parts joined into an object at the upload's path, with its start stamp and pairs of these lengths. Row and
+// block stand in the place of the old object's, if there is one: taking the upload out moves no object.
 fn join_with(
     tables: &mut [u8],
     arena: &mut [u8],
     upload: u32,
+    b: Bounds,
+    place: Lookup,
     list: &[u8],
     path: &[u8],
     lengths: &[u8],
     stamp: u64,
 )
-    requires { ⌜ JoinableWith (now tables) (now arena) upload (now list) (now path) (now lengths) stamp ⌝ }
-    ensures { λ _. ⌜ ((k : JoinableWith (now (tables .entry)) (now (arena .entry)) upload
+    requires { ⌜ JoinableWith (now tables) (now arena) upload b place (now list) (now path) (now lengths) stamp ⌝ }
+    ensures { λ _. ⌜ ((k : JoinableWith (now (tables .entry)) (now (arena .entry)) upload b place
         (now (list .entry)) (now (path .entry)) (now (lengths .entry)) stamp)
         → Joins (now (tables .entry)) (now (arena .entry)) (now (tables .exit)) (now (arena .exit)) upload
         (now (list .entry)) (k .at-path .joinable .listed)) ⌝ }
 {
-    edit::objects::free_path(tables, arena, path);
-    let taken = take_upload(tables, arena, upload, list);
-    edit::objects::add_object(
+    let taken = take_upload(tables, arena, upload, b, list);
+    edit::objects::move_object(
         tables,
         arena,
+        place,
+        taken.end,
         stamp,
         layout::JOINED_KIND,
         taken.count,
@@ -133,35 +160,53 @@ fn join_with(
 }
 
 // The same, with the lengths that stand in the upload's row: they wait in a local array.
-fn join_at(tables: &mut [u8], arena: &mut [u8], upload: u32, list: &[u8], path: &[u8], stamp: u64)
-    requires { ⌜ JoinableAt (now tables) (now arena) upload (now list) (now path) stamp ⌝ }
-    ensures { λ _. ⌜ ((k : JoinableAt (now (tables .entry)) (now (arena .entry)) upload
+fn join_at(
+    tables: &mut [u8],
+    arena: &mut [u8],
+    upload: u32,
+    b: Bounds,
+    place: Lookup,
+    list: &[u8],
+    path: &[u8],
+    stamp: u64,
+)
+    requires { ⌜ JoinableAt (now tables) (now arena) upload b place (now list) (now path) stamp ⌝ }
+    ensures { λ _. ⌜ ((k : JoinableAt (now (tables .entry)) (now (arena .entry)) upload b place
         (now (list .entry)) (now (path .entry)) stamp)
         → Joins (now (tables .entry)) (now (arena .entry)) (now (tables .exit)) (now (arena .exit)) upload
         (now (list .entry)) (k .joinable .listed)) ⌝ }
 {
-    let place = find::find_upload(tables, arena, upload);
-    let stored = find::pairs::lengths(tables, place.at);
+    let stored = find::pairs::lengths(tables, b.at);
     let n = stored.len();
     let mut lengths = [0u8; 16];
     buffer::copy_at(&mut lengths, 0, stored);
-    join_with(tables, arena, upload, list, path, &lengths[..n], stamp);
+    join_with(
+        tables,
+        arena,
+        upload,
+        b,
+        place,
+        list,
+        path,
+        &lengths[..n],
+        stamp,
+    );
 }
 
-// An open upload's parts, joined in listed order into an object at its path; the upload is gone.
-pub fn join(tables: &mut [u8], arena: &mut [u8], upload: u32, list: &[u8])
-    requires { ⌜ Joinable (now tables) (now arena) upload (now list) ⌝ }
-    ensures { λ _. ⌜ ((k : Joinable (now (tables .entry)) (now (arena .entry)) upload (now (list .entry)))
+// An open upload's parts, joined in listed order into an object at its path; the upload is gone. `b` are its bounds, and
+// `place` is what the lookup of its path answers.
+pub fn join(tables: &mut [u8], arena: &mut [u8], upload: u32, b: Bounds, place: Lookup, list: &[u8])
+    requires { ⌜ Joinable (now tables) (now arena) upload b place (now list) ⌝ }
+    ensures { λ _. ⌜ ((k : Joinable (now (tables .entry)) (now (arena .entry)) upload b place (now (list .entry)))
         → Joins (now (tables .entry)) (now (arena .entry)) (now (tables .exit)) (now (arena .exit)) upload
         (now (list .entry)) (k .listed)) ⌝ }
 {
-    let place = find::find_upload(tables, arena, upload);
-    let at = place.at;
+    let at = b.at;
     let h = row::read_head(tables, at);
     let n = h.pathlen as usize;
     let from = at + row::HEAD_LENGTH;
     let to = from + n;
     let mut path = [0u8; 128];
     buffer::copy_at(&mut path, 0, &tables[from..to]);
-    join_at(tables, arena, upload, list, &path[..n], h.stamp);
+    join_at(tables, arena, upload, b, place, list, &path[..n], h.stamp);
 }

@@ -60,10 +60,6 @@ module _ (s : State) where
   unfolding held
   held-delete p = omega (arith, total-remove bytes objectLength p (s .O))
 
-  pub held-upload : (u : ℕ) (y : Upload) → held (withUpload s u y) + owed uploadLength (lookup byNumber u (s .U)) ≡ held s + uploadLength y
-  unfolding held
-  held-upload u y = omega (arith, total-insert numbers uploadLength u y (s .U))
-
   -- an upload opened adds the bytes of its pairs
   pub held-open : (stamp : ℕ) (p : Bytes) (m : Map Bytes Bytes) → Every (UploadOk (s .N)) (s .U) → held s + pairsHeld m ≡ held (withNext (withUpload s (s .N) (newUpload stamp p m)))
   unfolding held

@@ -5,7 +5,7 @@ use Prim.Native.Nat.{ℕ, _+_, _*_, _≤_, Ordering·lt}
 use mathlib.Core.Path.{_≡_, refl, sym, ap, _∙_}
 use mathlib.Core.Bool.{Bool, true, false, not, _&&_, _||_, false≢true}
 use mathlib.Core.List.{List, [], _∷_}
-use mathlib.Core.Option.{none, some}
+use mathlib.Core.Option.{none}
 use native.Mathlib.Omega.{arith}
 use borrow.Author.Tests.{le-leb, leb-true, not-true}
 use lib.Dec.{leb}
@@ -163,14 +163,7 @@ module _ (last : Bytes) (e : Pair) (k : keptAfter last e ≡ true) where
   pub after-below : byBytes last (e .0) ≡ Ordering·lt
   after-below = below-is last (e .0) (both (not (systemKey (e .0))) (isBelow last (e .0)) (after-tests .1) .1)
 
--- they ascend, and each keeps its rule
-from-ascending : (last : Bytes) (m : Map Bytes Bytes) → keptFrom last m ≡ true → Ascending byBytes m × Above byBytes last m
-from-ascending last [] e = (tt, tt)
-from-ascending last (p ∷ m) e =
-    let w = both (keptAfter last p) (keptFrom (p .0) m) e in
-    let r = from-ascending (p .0) m (w .1) in
-    ((r .1, r .0), after-below last p (w .0))
-
+-- each keeps its rule
 from-passes : (last : Bytes) (m : Map Bytes Bytes) → keptFrom last m ≡ true → Passes pairOk m
 from-passes last [] e = tt
 from-passes last (p ∷ m) e = let w = both (keptAfter last p) (keptFrom (p .0) m) e in (after-ok last p (w .0), from-passes (p .0) m (w .1))
@@ -189,9 +182,6 @@ module _ (m : Map Bytes Bytes) (ok : keptOk m ≡ true) where
 
   pub kept-from : keptFrom [] m ≡ true
   kept-from = kept-tests .1
-
-  pub kept-ascending : Ascending byBytes m
-  kept-ascending = from-ascending [] m kept-from .0
 
   pub kept-each : Passes pairOk m
   kept-each = from-passes [] m kept-from

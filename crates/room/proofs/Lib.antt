@@ -1,2 +1,2 @@
 pub mod PutAt
-pub mod Room
+pub mod ObjectRoom

@@ -1,4 +1,4 @@
-// The room for an object, the pairs of an upload or a part: refusals of PUT, COPY, INITIATE, PART and COMMIT, by number; 0 for none.
+// The room for an object, the pairs of an upload or a part: refusals of PUT, COPY, INITIATE and PART, by number; 0 for none.
 use find::Lookup;
 use find::RowPlace;
 ghost use mathlib.Core.Path.{_≡_};
@@ -21,8 +21,8 @@ pub fn arena_judge(held: usize, n: usize, arena: usize) -> u8
     0
 }
 
-// A judgement: the refusal's number, or 0; the place of the path, and the end of the rows.
-pub struct ObjectRoom {
+// A judgement: the refusal's number, or 0; the place of what was looked up, and the end of the rows.
+pub struct Room {
     pub refusal: u8,
     pub place: Lookup,
     pub end: RowPlace,
@@ -30,7 +30,7 @@ pub struct ObjectRoom {
 
 // An object of n bytes at path, as PUT and COPY put it: table full, arena full or 0, and where it goes. The bytes of the
 // old object are free.
-pub fn object_judge(tables: &[u8], arena: &[u8], path: &[u8], n: usize) -> ObjectRoom
+pub fn object_judge(tables: &[u8], arena: &[u8], path: &[u8], n: usize) -> Room
     requires { ⌜ whole (now tables) (now arena) ≡ true ⌝ }
     ensures { λ r. ⌜ PutResult (now (tables .entry)) (now (arena .entry)) (now (path .entry)) n (r .refusal)
         × ObjectPlaced (now (tables .entry)) (now (arena .entry)) (now (path .entry)) (r .place) (r .end) ⌝ }
@@ -40,7 +40,7 @@ pub fn object_judge(tables: &[u8], arena: &[u8], path: &[u8], n: usize) -> Objec
     let held = end.base;
     if place.found {
         let h = row::read_head(tables, place.at);
-        return ObjectRoom {
+        return Room {
             refusal: arena_judge(held - h.size as usize, n, arena.len()),
             place,
             end,
@@ -49,13 +49,13 @@ pub fn object_judge(tables: &[u8], arena: &[u8], path: &[u8], n: usize) -> Objec
     let counts = find::read_counts(tables, arena);
     let objects = counts.objects;
     if layout::OBJECTS_MOST <= objects {
-        return ObjectRoom {
+        return Room {
             refusal: types::TABLE_FULL,
             place,
             end,
         };
     }
-    ObjectRoom {
+    Room {
         refusal: arena_judge(held, n, arena.len()),
         place,
         end,
@@ -63,10 +63,10 @@ pub fn object_judge(tables: &[u8], arena: &[u8], path: &[u8], n: usize) -> Objec
 }
 
 // A refusal before the place is looked for.
-pub fn refused(n: u8) -> ObjectRoom
+pub fn refused(n: u8) -> Room
     ensures { λ r. ⌜ r .refusal ≡ n ⌝ }
 {
-    ObjectRoom {
+    Room {
         refusal: n,
         place: Lookup {
             found: false,

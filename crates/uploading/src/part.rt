@@ -1,6 +1,6 @@
 // PART: a part of an open upload is set.
 use find::Lookup;
-use find::RowPlace;
+use room::Room;
 use types::Etag;
 use types::PartAnswer;
 use types::PartNumber;
@@ -17,13 +17,6 @@ ghost use Rattle.edit_uploads.specs.Parts.{PartPlaced};
 ghost use Rattle.contract.specs.Answers.{partReply};
 ghost use Rattle.contract.specs.Made.{memory, outcome, resultOf, Made, MadeWhole};
 
-// A judgement: the refusal's number, or 0; the place of the part, and the end of the rows.
-struct PartRoom {
-    refusal: u8,
-    place: Lookup,
-    end: RowPlace,
-}
-
 // The refusal of a part of an open upload: table full, arena full or 0, and where the part goes. The bytes of the old part
 // are free. `opened` is what the lookup of the upload answers.
 fn part_room(
@@ -33,7 +26,7 @@ fn part_room(
     opened: Lookup,
     number: PartNumber,
     content: &[u8],
-) -> PartRoom
+) -> Room
     requires { ⌜ WholeOpen (now tables) (now arena) (upload .0)
         × (opened ≡ uploadPlace (stateOf (now tables) (now arena)) (upload .0)) ⌝ }
     ensures { λ r. ⌜ (r .refusal ≡ resultOf (partAt (length (now (arena .entry)))
@@ -45,7 +38,7 @@ fn part_room(
     let held = end.base;
     if place.found {
         let h = row::read_head(tables, place.at);
-        return PartRoom {
+        return Room {
             refusal: room::arena_judge(held - h.size as usize, content.len(), arena.len()),
             place,
             end,
@@ -54,36 +47,16 @@ fn part_room(
     let counts = find::read_counts(tables, arena);
     let parts = counts.parts;
     if layout::PARTS_MOST <= parts {
-        return PartRoom {
+        return Room {
             refusal: types::TABLE_FULL,
             place,
             end,
         };
     }
-    PartRoom {
+    Room {
         refusal: room::arena_judge(held, content.len(), arena.len()),
         place,
         end,
-    }
-}
-
-// A refusal before the place of the part is looked for.
-fn refused(n: u8) -> PartRoom
-    ensures { λ r. ⌜ r .refusal ≡ n ⌝ }
-{
-    PartRoom {
-        refusal: n,
-        place: Lookup {
-            found: false,
-            row: 0,
-            at: 0,
-            base: 0,
-        },
-        end: RowPlace {
-            row: 0,
-            at: 0,
-            base: 0,
-        },
     }
 }
 
@@ -94,7 +67,7 @@ fn part_judge(
     upload: UploadNumber,
     number: PartNumber,
     content: &[u8],
-) -> PartRoom
+) -> Room
     requires { ⌜ whole (now tables) (now arena) ≡ true ⌝ }
     ensures { λ r. ⌜ (r .refusal ≡ resultOf (outcome (PART (upload .0) (number .0) (now (content .entry)))
         (memory (now (tables .entry)) (now (arena .entry)))))
@@ -102,11 +75,11 @@ fn part_judge(
         → PartPlaced (now (tables .entry)) (now (arena .entry)) (upload .0) (number .0) (r .place) (r .end)) ⌝ }
 {
     if !names::request_part_ok(number.0) {
-        return refused(types::BAD_REQUEST);
+        return room::refused(types::BAD_REQUEST);
     }
     let place = find::find_upload(tables, arena, upload.0);
     if !place.found {
-        return refused(types::BAD_REQUEST);
+        return room::refused(types::BAD_REQUEST);
     }
     part_room(tables, arena, upload, place, number, content)
 }

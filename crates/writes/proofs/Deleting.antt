@@ -11,7 +11,7 @@ use Rattle.machine.specs.Steps.{deleteAt, act}
 use Rattle.find.specs.declared.Lookup.{Lookup}
 use Rattle.find.specs.Places.{objectPlace}
 use Rattle.find.proofs.Found.{is-some, is-none}
-use Rattle.edit.proofs.PutLaws.{place-found}
+use Rattle.edit.proofs.ObjectEdits.{place-found}
 use Rattle.contract.specs.Made.{Memory, stateIn, outcome, resultOf}
 use Rattle.contract.proofs.Judging.{result-pass, result-stop, result-found, result-missing, passed, was-found}
 

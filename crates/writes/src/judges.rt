@@ -1,6 +1,6 @@
 // The refusal of a call over whole memory, in checking order, or 0, and the places that were found on the way.
 use find::Lookup;
-use room::ObjectRoom;
+use room::Room;
 use types::Stamp;
 ghost use mathlib.Core.Path.{_≡_};
 ghost use mathlib.Core.Bool.{true};
@@ -19,7 +19,7 @@ pub(crate) fn put_judge(
     path: &[u8],
     content: &[u8],
     pairs: &[u8],
-) -> ObjectRoom
+) -> Room
     requires { ⌜ whole (now tables) (now arena) ≡ true ⌝ }
     ensures { λ r. ⌜ (r .refusal
         ≡ resultOf (outcome (Call.PUT (stamp .0) (now (path .entry)) (now (content .entry))

@@ -1,9 +1,9 @@
--- `commits::commit_room` meets its contract: PUT of no bytes at the path in the upload's row. Assumes nothing.
+-- `commits::commit_room` meets its contract: the path in the upload's row has an object, or there is room for one more, or not. Assumes nothing.
 use Prim.Native.Nat.{_+_, _≤_}
 use lib.ListN.{length}
 use Rattle.number.specs.Number.{AreBytes}
 use Rattle.row.specs.Row.{span}
-use Rattle.commits.proofs.PathRoom.{row-inside, path-ends, path-room}
+use Rattle.commits.proofs.PathRoom.{row-inside, path-ends, path-place, room-old, room-new, room-full}
 use native.Mathlib.Omega.{arith}
 use borrow.Author.Needs.{needs}
 use Rattle.commits.proofs.commit_room.Statement.{statement}
@@ -36,23 +36,52 @@ cast-to c = search needs
 add-to : tie.Need-add-to
 add-to c = omega (arith, ends (c .before))
 
-sub-object-judge : tie.Need-sub-object-judge
-sub-object-judge c = search needs
+sub-find-object : tie.Need-sub-find-object
+sub-find-object c = search needs
 
-part-object-judge-start : tie.Need-part-object-judge-start
-part-object-judge-start c = search needs
+part-find-object-start : tie.Need-part-find-object-start
+part-find-object-start c = search needs
 
-part-object-judge-end : tie.Need-part-object-judge-end
-part-object-judge-end c = omega (arith, ends (c .before))
+part-find-object-end : tie.Need-part-find-object-end
+part-find-object-end c = omega (arith, ends (c .before))
 
-object-judge-requires : tie.Need-object-judge-requires
-object-judge-requires c κs = search needs
+find-object-requires : tie.Need-find-object-requires
+find-object-requires c κs = search needs
 
 returns : tie.Need-returns
 returns c =
-    let d = c .before .before .before in
+    let f = c .before in
+    let d = f .before .before .before in
     let a = start d .args in
-    λ u x q is. path-room (a .tables .now) (a .arena .now) (bytes d) (start d .pre .0) u (a .here) q (d .read-head .result) (d .read-head .ensures) x is (c .object-judge .result .refusal) (c .object-judge .ensures .0)
+    λ u x q is. (
+      room-old (a .tables .now) (a .arena .now) (bytes d) (start d .pre .0) u (a .here) q _ (d .read-head .ensures) _ (f .find-object .ensures) x is (c .if1 .taken),
+      path-place (a .tables .now) (a .arena .now) (bytes d) (start d .pre .0) u (a .here) q _ (d .read-head .ensures) _ (f .find-object .ensures) x is,
+    )
+
+read-counts-requires : tie.Need-read-counts-requires
+read-counts-requires c κs = search needs
+
+returns-2 : tie.Need-returns-2
+returns-2 c =
+    let r = c .before in
+    let f = r .before .before in
+    let d = f .before .before .before in
+    let a = start d .args in
+    λ u x q is. (
+      room-full (a .tables .now) (a .arena .now) (bytes d) (start d .pre .0) u (a .here) q _ (d .read-head .ensures) _ (f .find-object .ensures) x is (r .before .if1 .left) _ (r .read-counts .ensures .objects) (c .if2 .taken),
+      path-place (a .tables .now) (a .arena .now) (bytes d) (start d .pre .0) u (a .here) q _ (d .read-head .ensures) _ (f .find-object .ensures) x is,
+    )
+
+returns-3 : tie.Need-returns-3
+returns-3 c =
+    let r = c .before in
+    let f = r .before .before in
+    let d = f .before .before .before in
+    let a = start d .args in
+    λ u x q is. (
+      room-new (a .tables .now) (a .arena .now) (bytes d) (start d .pre .0) u (a .here) q _ (d .read-head .ensures) _ (f .find-object .ensures) x is (r .before .if1 .left) _ (r .read-counts .ensures .objects) (omega (arith, c .if2 .left)),
+      path-place (a .tables .now) (a .arena .now) (bytes d) (start d .pre .0) u (a .here) q _ (d .read-head .ensures) _ (f .find-object .ensures) x is,
+    )
 
 pub commit-room-spec : {M : Type 1} → statement M
 commit-room-spec =
@@ -62,8 +91,11 @@ commit-room-spec =
     add-from
     cast-to
     add-to
-    sub-object-judge
-    part-object-judge-start
-    part-object-judge-end
-    object-judge-requires
-    returns)
+    sub-find-object
+    part-find-object-start
+    part-find-object-end
+    find-object-requires
+    returns
+    read-counts-requires
+    returns-2
+    returns-3)

@@ -1,10 +1,13 @@
 -- `commits::commit_whole` meets its contract: refused, or the parts joined. Assumes nothing.
-use mathlib.Core.Path.{refl, sym, _∙_}
-use mathlib.Core.List.{[]}
+use mathlib.Core.Path.{_≡_, refl, sym, _∙_}
 use borrow.Author.Needs.{needs}
 use Rattle.number.specs.Number.{AreBytes}
-use Rattle.machine.specs.Calls.{nothing, noBuffers}
+use Rattle.machine.specs.Calls.{COMMIT, nothing, noBuffers}
+use Rattle.contract.specs.Answers.{partList}
+use Rattle.contract.specs.Made.{memory, outcome, resultOf}
 use Rattle.contract.proofs.MadeLaws.{judged, done}
+use Rattle.join.specs.Joined.{Joinable}
+use Rattle.commits.specs.declared.CommitRoom.{CommitRoom}
 use Rattle.commits.proofs.Committing.{commit-ready, commit-done}
 use Rattle.commits.proofs.commit_whole.Statement.{statement}
 use Rattle.commits.proofs.commit_whole.Tie as tie
@@ -19,14 +22,27 @@ same-length-2 : tie.Need-same-length-2
 same-length-2 c = search needs
 
 returns : tie.Need-returns
-returns c = (judged _ (c .before .commit-judge .ensures) (c .if1 .taken), c .if1 .taken)
+returns c = (judged _ (c .before .before .commit-judge .ensures .0) (c .if1 .taken), c .if1 .taken)
+
+-- nothing refuses it
+module _ (c : tie.Else1) where
+  abbrev start : tie.Start
+  start = c .before .before .before .before .before .before .before .before
+
+  abbrev room : CommitRoom
+  room = c .before .before .commit-judge .result
+
+  bytes : AreBytes (start .args .tables .now)
+  bytes = λ i. c .before .before .before .before .before .before .before .slice-known .given i .fits
+
+  zero : resultOf (outcome (COMMIT (start .args .upload .0) (partList (start .args .list .now))) (memory (start .args .tables .now) (start .args .arena .now))) ≡ 0
+  zero = sym (c .before .before .commit-judge .ensures .0) ∙ c .if1 .left
+
+  abbrev ready : Joinable (start .args .tables .now) (start .args .arena .now) (start .args .upload .0) (room .bounds) (room .place) (start .args .list .now)
+  ready = commit-ready _ _ _ _ (start .pre) zero bytes (room .bounds) (room .place) (c .before .before .commit-judge .ensures .1 (c .if1 .left))
 
 join-requires : tie.Need-join-requires
-join-requires c κs =
-    let k = c .before .before in
-    let s = k .before .before .before .before .before .before .before in
-    let b : AreBytes (s .args .tables .now) = λ i. k .before .before .before .before .before .before .slice-known .given i .fits in
-    commit-ready (s .args .tables .now) (s .args .arena .now) (s .args .upload .0) (s .args .list .now) (s .pre) (sym (k .before .commit-judge .ensures) ∙ k .if1 .left) b
+join-requires c κs = ready (c .before .before)
 
 same-length-3 : tie.Need-same-length-3
 same-length-3 c = search needs
@@ -37,12 +53,9 @@ same-length-4 c = search needs
 returns-2 : tie.Need-returns-2
 returns-2 c =
     let k = c .before .before .before .before .before .before .before in
-    let s = k .before .before .before .before .before .before .before in
-    let b : AreBytes (s .args .tables .now) = λ i. k .before .before .before .before .before .before .slice-known .given i .fits in
-    let z = sym (k .before .commit-judge .ensures) ∙ k .if1 .left in
-    let ready = commit-ready (s .args .tables .now) (s .args .arena .now) (s .args .upload .0) (s .args .list .now) (s .pre) z b in
     let o = c .before .before .before .before .join in
-    (done nothing noBuffers _ (commit-done (s .args .tables .now) (s .args .arena .now) (s .args .upload .0) (s .args .list .now) (s .pre) z b) refl (o .ensures ready) (o .kept .0) (o .kept .1 .0), tt)
+    let accepted = commit-done _ _ _ _ (start k .pre) (zero k) (bytes k) (room k .bounds) (room k .place) (k .before .before .commit-judge .ensures .1 (k .if1 .left)) in
+    (done nothing noBuffers _ accepted refl (o .ensures (ready k)) (o .kept .0) (o .kept .1 .0), tt)
 
 pub commit-whole-spec : {M : Type 1} → statement M
 commit-whole-spec =

@@ -13,87 +13,81 @@ use Rattle.find.specs.Known.{WholePlace, OfOpenBefore}
 use Rattle.find.specs.Places.{uploadRowOf, partsRowOf}
 use Rattle.find.proofs.Found.{is-some}
 use Rattle.find.proofs.Answers.{open-row-place, first-part-row, parts-row-place}
-use Rattle.commits.proofs.Fitting.{unfit-number, Passed, passed-none, passed-next, count-is, unfit-list, ordered-list, fit-list, count-few}
+use Rattle.commits.proofs.Fitting.{unfit-number, Passed, passed-none, passed-next, unfit-list, ordered-list, fit-list, count-few}
 use Rattle.commits.proofs.Ordered.{rows-there}
 use Rattle.commits.proofs.list_fits.Statement.{statement}
 use Rattle.commits.proofs.list_fits.Tie as tie
 
 abbrev Inv-loop : tie.InvT-loop
-Inv-loop tables arena list count first i₀ i =
+Inv-loop tables arena count list first i₀ i =
     (i ≤ count)
     × OfOpenBefore tables arena first (λ s u x. Passed (x .parts) list i)
 
 abbrev μ-loop : tie.MeasureT-loop
-μ-loop tables arena list count first i₀ i = count - i
+μ-loop tables arena count list first i₀ i = count - i
 
--- once the upload's parts are passed: the state, the upload's number, and that its row is a row
-module _ (c : tie.After-pass-parts Inv-loop μ-loop) where
+-- the state, the upload's number, and that its row is a row
+module _ (c : tie.After-shared-slice-known3 Inv-loop μ-loop) where
   abbrev start : tie.Start Inv-loop μ-loop
-  start = c .before .before .before .before
+  start = c .before .before .before
 
   abbrev s : State
   s = stateOf (start .args .tables .now) (start .args .arena .now)
 
   abbrev u : ℕ
-  u = start .pre .1 .0
+  u = start .pre .0 .1 .0
 
   bytes : AreBytes (start .args .tables .now)
-  bytes = λ j. c .before .before .before .shared-slice-known .given j .fits
+  bytes = λ j. c .before .before .shared-slice-known .given j .fits
 
   upload : (x : Upload) × (lookup byNumber u (s .U) ≡ some x)
-  upload = is-some (lookup byNumber u (s .U)) (start .pre .1 .2)
-
-pass-parts-requires : tie.Need-pass-parts-requires Inv-loop μ-loop
-pass-parts-requires c κs =
-    let k = c .before .before .before in
-    (k .pre .0, open-row-place (stateOf (k .args .tables .now) (k .args .arena .now)) (k .pre .1 .0) (k .args .here) (k .pre .1 .1) (k .pre .1 .2))
+  upload = is-some (lookup byNumber u (s .U)) (start .pre .0 .1 .2)
 
 mul-if1 : tie.Need-mul-if1 Inv-loop μ-loop
 mul-if1 c =
     let k = start c in
-    let f = c .pass-parts in
-    omega (arith, count-few (k .args .tables .now) (k .args .arena .now) (bytes c) (k .pre .0) (u c) (f .result) (k .pre .1 .2) (λ x e. f .ensures (u c) x (k .pre .1 .1) e))
+    let o = k .pre .0 .1 in
+    omega (arith, count-few (k .args .tables .now) (k .args .arena .now) (bytes c) (k .pre .0 .0) (u c) (k .args .count) (o .2) (λ x e. k .pre .1 (u c) x (o .1) e))
 
 returns : tie.Need-returns Inv-loop μ-loop
 returns c =
     let p = c .before in
     let k = start p in
-    let f = p .pass-parts in
-    λ v x q e. unfit-list (k .args .tables .now) (k .args .arena .now) (bytes p) (k .pre .0) v (f .result) x e (f .ensures v x q e) (k .args .list .now) (omega (arith, c .if1 .taken))
+    λ v x q e. unfit-list (k .args .tables .now) (k .args .arena .now) (bytes p) (k .pre .0 .0) v (k .args .count) x e (k .pre .1 v x q e) (k .args .list .now) (omega (arith, c .if1 .taken))
 
 next-row-requires : tie.Need-next-row-requires Inv-loop μ-loop
 next-row-requires c κs =
     let k = start (c .before) in
-    (k .pre .0, open-row-place (s (c .before)) (u (c .before)) (k .args .here) (k .pre .1 .1) (k .pre .1 .2))
+    let o = k .pre .0 .1 in
+    (k .pre .0 .0, open-row-place (s (c .before)) (u (c .before)) (k .args .here) (o .1) (o .2))
 
 -- once the row after the upload's is known: the first part's
 module _ (c : tie.After-next-row Inv-loop μ-loop) where
-  abbrev passed : tie.After-pass-parts Inv-loop μ-loop
-  passed = c .before .before
+  abbrev known : tie.After-shared-slice-known3 Inv-loop μ-loop
+  known = c .before .before
 
-  first-is : (v : ℕ) → start passed .args .here ≡ uploadRowOf (s passed) v → c .next-row .result ≡ partsRowOf (s passed) v
-  first-is v e = first-part-row (s passed) v (start passed .args .here) (c .next-row .result) e (c .next-row .ensures)
+  first-is : (v : ℕ) → start known .args .here ≡ uploadRowOf (s known) v → c .next-row .result ≡ partsRowOf (s known) v
+  first-is v e = first-part-row (s known) v (start known .args .here) (c .next-row .result) e (c .next-row .ensures)
 
-  first-place : WholePlace (start passed .args .tables .now) (start passed .args .arena .now) (c .next-row .result)
+  first-place : WholePlace (start known .args .tables .now) (start known .args .arena .now) (c .next-row .result)
   first-place =
-      let p = start passed .pre in
-      (p .0, parts-row-place (s passed) (u passed) (c .next-row .result) (first-is (u passed) (p .1 .1)) (p .1 .2))
+      let p = start known .pre .0 in
+      (p .0, parts-row-place (s known) (u known) (c .next-row .result) (first-is (u known) (p .1 .1)) (p .1 .2))
 
 in-order-requires : tie.Need-in-order-requires Inv-loop μ-loop
 in-order-requires c κs =
-    let p = passed c in
+    let p = known c in
     let x = upload p in
-    let q = start p .pre .1 .1 in
-    let n = count-is (s p) (u p) (x .0) _ (p .pass-parts .ensures (u p) (x .0) q (x .1)) in
+    let q = start p .pre .0 .1 .1 in
+    let n = start p .pre .1 (u p) (x .0) q (x .1) in
     (first-place c, omega (arith, n, rows-there (s p) (u p) (x .0) (x .1) (c .next-row .result) (first-is c (u p) q)), omega (arith, c .before .if1 .left))
 
 returns-2 : tie.Need-returns-2 Inv-loop μ-loop
 returns-2 c =
     let r = c .before .before in
-    let p = passed r in
+    let p = known r in
     let a = start p .args in
-    let f = p .pass-parts in
-    λ v x q e. ordered-list (a .tables .now) (a .arena .now) (bytes p) (start p .pre .0) v (f .result) x e (f .ensures v x q e) (r .next-row .result) (first-is r v q) (a .list .now) (omega (arith, r .before .if1 .left)) (sym (c .before .in-order .ensures) ∙ c .if2 .taken)
+    λ v x q e. ordered-list (a .tables .now) (a .arena .now) (bytes p) (start p .pre .0 .0) v (a .count) x e (start p .pre .1 v x q e) (r .next-row .result) (first-is r v q) (a .list .now) (omega (arith, r .before .if1 .left)) (sym (c .before .in-order .ensures) ∙ c .if2 .taken)
 
 loop-holds : tie.Need-loop-holds Inv-loop μ-loop
 loop-holds c = (omega arith, λ u x p e. passed-none (x .parts) (start (c .before .before .before .before) .args .list .now))
@@ -105,7 +99,7 @@ returns-3 : tie.Need-returns-3 Inv-loop μ-loop
 returns-3 c =
     let l = c .before .before .before in
     let r = l .before .before .before in
-    let a = start (passed r) .args in
+    let a = start (known r) .args in
     let inside : 2 * l .loop .i + 2 ≤ length (a .list .now) = omega arith in
     λ v x q e. unfit-number (x .parts) (a .list .now) (l .loop .i) inside (sym (c .before .number-fits .ensures v x (first-is r v q) e) ∙ not-true _ (c .if3 .taken))
 
@@ -118,7 +112,7 @@ loop-less c = omega arith
 loop-again : tie.Need-loop-again Inv-loop μ-loop
 loop-again c =
     let l = c .before .before .before in
-    let a = start (passed (l .before .before .before)) .args in
+    let a = start (known (l .before .before .before)) .args in
     let inside : 2 * l .loop .i + 2 ≤ length (a .list .now) = omega arith in
     (omega arith, λ v x q e. passed-next (x .parts) (a .list .now) (l .loop .i) inside (l .loop .inv .1 v x q e) (sym (c .before .number-fits .ensures v x q e) ∙ not-false _ (c .if3 .left)))
 
@@ -126,11 +120,10 @@ returns-4 : tie.Need-returns-4 Inv-loop μ-loop
 returns-4 c =
     let l = c .before in
     let r = l .before .before .before in
-    let p = passed r in
+    let p = known r in
     let a = start p .args in
-    let f = p .pass-parts in
-    let end : l .loop .i ≡ f .result .count = omega arith in
-    λ v x q e. fit-list (a .tables .now) (a .arena .now) (bytes p) (start p .pre .0) v (f .result) x e (f .ensures v x q e) (a .list .now) (omega (arith, r .before .if1 .left)) (subst (Passed (x .parts) (a .list .now)) end (l .loop .inv .1 v x (first-is r v q) e))
+    let end : l .loop .i ≡ a .count = omega arith in
+    λ v x q e. fit-list (a .tables .now) (a .arena .now) (bytes p) (start p .pre .0 .0) v (a .count) x e (start p .pre .1 v x q e) (a .list .now) (omega (arith, r .before .if1 .left)) (subst (Passed (x .parts) (a .list .now)) end (l .loop .inv .1 v x (first-is r v q) e))
 
 pub list-fits-spec : {M : Type 1} → statement M
 list-fits-spec =
@@ -138,7 +131,6 @@ list-fits-spec =
     (tie.spec
     Inv-loop
     μ-loop
-    pass-parts-requires
     mul-if1
     returns
     next-row-requires

@@ -1,6 +1,6 @@
 -- `copies::source_judge` meets its contract: the source is missing, or its block is put at the destination. Assumes nothing.
 use Prim.Native.Nat.{ℕ}
-use mathlib.Core.Path.{_≡_}
+use mathlib.Core.Path.{_≡_, _∙_}
 use mathlib.Core.Bool.{true, false}
 use mathlib.Core.List.{List}
 use native.Mathlib.Omega.{arith}
@@ -9,7 +9,7 @@ use lib.ListN.{length}
 use borrow.Author.Needs.{needs}
 use Rattle.layout.specs.Memory.{stateOf}
 use Rattle.find.specs.declared.Lookup.{Lookup}
-use Rattle.edit.proofs.PutLaws.{place-found}
+use Rattle.edit.proofs.ObjectEdits.{place-found}
 use Rattle.edit_copy.proofs.Source.{ObjectThere, object-there, front-inside}
 use Rattle.copies.proofs.Sources.{judged-source, judged-missing}
 use Rattle.copies.proofs.source_judge.Statement.{statement}
@@ -37,12 +37,17 @@ module _ (f : tie.After-find-object) where
 
   there : place .found ≡ true → ObjectThere t a p place
   there e =
-      object-there t a p (λ j. f .before .before .before .before .shared-slice-known .given j .fits) (start .pre, place-found (stateOf t a) p place true (f .find-object .ensures) e) place (f .find-object .ensures)
+      object-there t a p (λ j. f .before .before .before .before .shared-slice-known .given j .fits) (start .pre) (place-found (stateOf t a) p place true (f .find-object .ensures) e) place (f .find-object .ensures)
+
+refused-requires : tie.Need-refused-requires
+refused-requires c κs = search needs
 
 returns : tie.Need-returns
 returns c =
-    let f = c .before .before in
-    judged-missing (length (a f)) (stateOf (t f) (a f)) (start f .args .stamp .0) (p f) (start f .args .destination .now) (place-found (stateOf (t f) (a f)) (p f) (place f) false (f .find-object .ensures) (not-true _ (c .if1 .taken)))
+    let f = c .before .before .before in
+    let r = c .refused .ensures in
+    let none = place-found (stateOf (t f) (a f)) (p f) (place f) false (f .find-object .ensures) (not-true _ (c .before .if1 .taken)) in
+    (r ∙ judged-missing (length (a f)) (stateOf (t f) (a f)) (start f .args .stamp .0) (p f) (start f .args .destination .now) none, λ z. absurd (omega arith))
 
 read-head-requires : tie.Need-read-head-requires
 read-head-requires c κs =
@@ -58,16 +63,19 @@ object-judge-requires c κs = search needs
 
 returns-2 : tie.Need-returns-2
 returns-2 c =
-    let f = c .before .before .before .before .before in
-    let h = c .before .before .read-head in
-    judged-source (t f) (a f) (p f) (place f) (there f (not-false _ (c .before .before .before .if1 .left))) (h .result) (h .ensures) (c .object-judge .result .refusal) (start f .args .stamp .0) (start f .args .destination .now)
-    (c .object-judge .ensures .0)
+    let f = c .before .before .before .before .before .before .before in
+    let h = c .before .before .before .before .read-head in
+    let r = c .before .before .object-judge in (
+      judged-source (t f) (a f) (p f) (place f) (there f (not-false _ (c .before .before .before .before .before .if1 .left))) (h .result) (h .ensures) (r .result .refusal) (start f .args .stamp .0) (start f .args .destination .now) (r .ensures .0),
+      λ _. record { source-place = f .find-object .ensures; destination-place = r .ensures .1 },
+    )
 
 pub source-judge-spec : {M : Type 1} → statement M
 source-judge-spec =
     tie.close
     (tie.spec
     find-object-requires
+    refused-requires
     returns
     read-head-requires
     cast-object-judge

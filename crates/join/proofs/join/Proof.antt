@@ -2,26 +2,28 @@
 use Prim.Native.Nat.{ℕ, _+_, _-_, _≤_}
 use mathlib.Core.Path.{_≡_, sym}
 use mathlib.Core.List.{List}
-use native.Mathlib.Nat.{add-sub-cancel-left}
 use native.Mathlib.Omega.{arith}
 use borrow.Author.Needs.{needs}
 use lib.ListN.{length, take, drop, length-take}
 use lib.Seq.{length-take-le}
 use Rattle.machine.specs.State.{State}
-use Rattle.row.specs.Row.{headLength, span}
+use Rattle.row.specs.Row.{encodeRows, headLength, span}
+use Rattle.layout.specs.Header.{headerLength}
 use Rattle.layout.specs.Memory.{stateOf, Stands}
 use Rattle.layout.proofs.WholeLaws.{whole-stands}
-use Rattle.join.specs.Joined.{Joinable, JoinableAt}
-use Rattle.join.proofs.PathRead.{head-inside, path-inside, path-small, stamp-read, path-copied}
+use Rattle.find.specs.Places.{beforeUpload}
+use Rattle.contract.specs.Answers.{partList}
+use Rattle.join.specs.declared.Bounds.{Bounds}
+use Rattle.join.specs.Joined.{Listed, Joinable, JoinableAt}
+use Rattle.join.proofs.PathRead.{head-inside, path-inside, path-small, stamp-read, path-there, path-copied}
+use Rattle.join.proofs.UploadBounds.{bounds-at}
 use Rattle.join.proofs.join.Statement.{statement}
 use Rattle.join.proofs.join.Tie as tie
 
-find-upload-requires : tie.Need-find-upload-requires
-find-upload-requires c κs = search needs
-
-module _ (c : tie.After-find-upload) where
+-- before the upload's row is read
+module _ (c : tie.After-read-head-arg) where
   abbrev start : tie.Start
-  start = c .before .before .before .before .before .before
+  start = c .before .before .before .before
 
   abbrev t : List ℕ
   t = start .args .tables .now
@@ -32,28 +34,34 @@ module _ (c : tie.After-find-upload) where
   abbrev s : State
   s = stateOf t a
 
-  stands : Stands t a s
-  stands = whole-stands t a (λ j. c .before .before .before .before .before .slice-known .given j .fits) (start .pre .is-whole)
+  abbrev u : ℕ
+  u = start .args .upload
 
-  begins : c .find-upload .result .at + headLength ≤ length t
-  begins = let k = start .pre .listed in head-inside t a s stands (start .args .upload) (k .upload) (k .found) (c .find-upload .result) (c .find-upload .ensures)
+  abbrev b : Bounds
+  b = start .args .b
+
+  abbrev k : Listed s u (partList (start .args .list .now))
+  k = start .pre .listed
+
+  stands : Stands t a s
+  stands = whole-stands t a (λ j. c .before .before .before .slice-known .given j .fits) (start .pre .is-whole)
+
+  at-is : b .at ≡ headerLength + length (encodeRows (beforeUpload s u))
+  at-is = bounds-at s u (k .upload) b (start .pre .placed (k .upload) (k .found) .0)
 
 read-head-requires : tie.Need-read-head-requires
-read-head-requires c κs = omega (arith, begins (c .before))
+read-head-requires c κs = omega (arith, head-inside (t c) (a c) (s c) (stands c) (u c) (k c .upload) (k c .found) (b c .at) (at-is c))
 
 -- once the head of its row is read
 module _ (c : tie.After-read-head) where
-  abbrev place : tie.After-find-upload
-  place = c .before .before
+  abbrev row : tie.After-read-head-arg
+  row = c .before
 
-  abbrev k : Joinable (t place) (a place) (start place .args .upload) (start place .args .list .now)
-  k = start place .pre
-
-  inside : place .find-upload .result .at + span (c .read-head .result) ≤ length (t place)
-  inside = path-inside (t place) (a place) (s place) (stands place) (start place .args .upload) (k .listed .upload) (k .listed .found) (place .find-upload .result) (place .find-upload .ensures) (c .read-head .result) (c .read-head .ensures)
+  inside : b row .at + span (c .read-head .result) ≤ length (t row)
+  inside = path-inside (t row) (a row) (s row) (stands row) (u row) (k row .upload) (k row .found) (b row .at) (at-is row) (c .read-head .result) (c .read-head .ensures)
 
   small : c .read-head .result .pathlen ≤ 128
-  small = path-small (t place) (a place) (s place) (stands place) (start place .args .upload) (k .listed .upload) (k .listed .found) (place .find-upload .result) (place .find-upload .ensures) (c .read-head .result) (c .read-head .ensures)
+  small = path-small (t row) (a row) (s row) (stands row) (u row) (k row .upload) (k row .found) (b row .at) (at-is row) (c .read-head .result) (c .read-head .ensures)
 
 cast-n : tie.Need-cast-n
 cast-n c = search needs
@@ -79,30 +87,29 @@ part-copy-at-end c = omega (arith, inside (c .before .before .before))
 copy-at-requires : tie.Need-copy-at-requires
 copy-at-requires c κs =
     let r = c .before .before .before .before in
-    let p = place r in
-    let from = p .find-upload .result .at + headLength in
-    omega (arith, small r, length-take (from + r .read-head .result .pathlen - from) (drop from (t p)))
+    let from = b (row r) .at + headLength in
+    omega (arith, small r, length-take (from + r .read-head .result .pathlen - from) (drop from (t (row r))))
 
 -- once the path is copied
 module _ (c : tie.After-copy-at) where
   abbrev read : tie.After-read-head
   read = c .before .before .before .before .before
 
-  abbrev here : tie.After-find-upload
-  here = place read
+  abbrev here : tie.After-read-head-arg
+  here = row read
 
   abbrev n : ℕ
   n = read .read-head .result .pathlen
 
-  at-path : (j : Joinable (t here) (a here) (start here .args .upload) (start here .args .list .now))
-      → JoinableAt (t here) (a here) (start here .args .upload) (start here .args .list .now) (take n (c .copy-at .last .0)) (read .read-head .result .stamp)
+  at-path : (j : Joinable (t here) (a here) (u here) (b here) (start here .args .place) (start here .args .list .now))
+      → JoinableAt (t here) (a here) (u here) (b here) (start here .args .place) (start here .args .list .now) (take n (c .copy-at .last .0)) (read .read-head .result .stamp)
   at-path j =
-      let from = here .find-upload .result .at + headLength in
-      let part : take (from + n - from) (drop from (t here)) ≡ take n (drop from (t here)) = rw add-sub-cancel-left in
+      let l = j .listed in
+      let there = path-there (t here) (a here) (s here) (stands here) (u here) (l .upload) (l .found) (b here .at) (at-is here) (read .read-head .result) (read .read-head .ensures) in
       record {
         joinable = j;
-        path-is = path-copied (t here) (a here) (s here) (stands here) (start here .args .upload) (j .listed .upload) (j .listed .found) (here .find-upload .result) (here .find-upload .ensures) (read .read-head .result) (read .read-head .ensures) _ _ _ part (c .copy-at .ensures);
-        stamp-is = stamp-read (t here) (a here) (s here) (stands here) (start here .args .upload) (j .listed .upload) (j .listed .found) (here .find-upload .result) (here .find-upload .ensures) (read .read-head .result) (read .read-head .ensures);
+        path-is = path-copied (t here) (a here) (s here) (stands here) (u here) (l .upload) (l .found) (b here .at) (at-is here) (read .read-head .result) (read .read-head .ensures) _ _ _ there (c .copy-at .ensures);
+        stamp-is = stamp-read (t here) (a here) (s here) (stands here) (u here) (l .upload) (l .found) (b here .at) (at-is here) (read .read-head .result) (read .read-head .ensures);
       }
 
   short : n ≤ length (c .copy-at .last .0)
@@ -115,7 +122,7 @@ slice-aggregate-join-at : tie.Need-slice-aggregate-join-at
 slice-aggregate-join-at c = let d = c .before .before .before .before in sym (length-take-le (n d) (d .copy-at .last .0) (short d))
 
 join-at-requires : tie.Need-join-at-requires
-join-at-requires c κs = let d = c .before .before .before .before in at-path d (k (read d))
+join-at-requires c κs = let d = c .before .before .before .before in at-path d (start (here d) .pre)
 
 same-length : tie.Need-same-length
 same-length c = search needs
@@ -133,7 +140,6 @@ pub join-spec : {M : Type 1} → statement M
 join-spec =
     tie.close
     (tie.spec
-    find-upload-requires
     read-head-requires
     cast-n
     add-from

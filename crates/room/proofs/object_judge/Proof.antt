@@ -10,7 +10,7 @@ use Rattle.layout.specs.Memory.{stateOf}
 use Rattle.layout.proofs.RowCounts.{length-contents}
 use Rattle.find.specs.declared.RowPlace.{RowPlace}
 use Rattle.find.proofs.Answers.{object-row-place}
-use Rattle.room.proofs.Room.{held-inside, head-inside, old-inside, judged-old, judged-full, judged-new}
+use Rattle.room.proofs.ObjectRoom.{held-inside, head-inside, old-inside, judged-old, judged-full, judged-new}
 use Rattle.room.proofs.object_judge.Statement.{statement}
 use Rattle.room.proofs.object_judge.Tie as tie
 

@@ -3,7 +3,6 @@ use Prim.Native.Nat.{ℕ}
 use mathlib.Core.List.{List}
 use native.Mathlib.Omega.{arith}
 use borrow.Author.Needs.{needs}
-use Rattle.edit.specs.Blocks.{Writable}
 use Rattle.edit.proofs.BlockLaws as laws
 use Rattle.edit.proofs.blocks.write_block.Statement.{statement}
 use Rattle.edit.proofs.blocks.write_block.Tie as tie

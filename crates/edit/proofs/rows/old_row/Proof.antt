@@ -1,11 +1,9 @@
 -- `edit::rows::old_row` meets its contract: the head of the row tells. Assumes nothing.
-use Prim.Native.Nat.{ℕ}
-use mathlib.Core.Path.{_≡_, sym, ap, _∙_}
-use mathlib.Core.Bool.{Bool, true, false}
+use mathlib.Core.Path.{sym, ap, _∙_}
+use mathlib.Core.Bool.{Bool, true}
 use lib.ListN.{drop}
 use borrow.Author.Needs.{needs}
 use borrow.Author.Tests.{not-true, not-false}
-use Rattle.row.specs.declared.Head.{Head}
 use Rattle.row.specs.Row.{headAt}
 use Rattle.edit.specs.Rows.{oldRowAt}
 use Rattle.edit.proofs.rows.old_row.Statement.{statement}

@@ -25,7 +25,7 @@ use Rattle.find.specs.Places.{beforeObject, afterObject, objectPlace}
 use Rattle.find.proofs.Splits.{object-found}
 use Rattle.find.proofs.RowsAt.{row-at}
 use Rattle.find.proofs.Found.{is-some, is-none}
-use Rattle.edit.proofs.PutLaws.{place-found}
+use Rattle.edit.proofs.ObjectEdits.{place-found}
 use Rattle.contract.specs.Made.{resultOf}
 use Rattle.room.proofs.PutAt.{object-share, room-old, room-new, room-none}
 

@@ -11,6 +11,8 @@ pub trait Contestant {
     /// The stamp.
     fn head(&mut self, path: &[u8]) -> u64;
     fn delete(&mut self, path: &[u8]);
+    /// The source has a plain etag.
+    fn copy(&mut self, stamp: u64, source: &[u8], destination: &[u8]);
     fn list(&mut self, prefix: &[u8], answer: &mut [u8]) -> usize;
     fn initiate(&mut self, stamp: u64, path: &[u8]) -> u32;
     fn part(&mut self, upload: u32, part: u16, data: &[u8]);
@@ -97,6 +99,10 @@ impl Contestant for Proved {
         done(slices::delete(&mut self.tables, &mut self.arena, path));
     }
 
+    fn copy(&mut self, stamp: u64, source: &[u8], destination: &[u8]) {
+        done(slices::copy(&mut self.tables, &mut self.arena, stamp, source, destination));
+    }
+
     fn list(&mut self, prefix: &[u8], answer: &mut [u8]) -> usize {
         let mut reply = [0; REPLY_LEN];
         done(slices::list(&self.tables, &self.arena, prefix, b"", answer, &mut reply));
@@ -145,6 +151,11 @@ impl Contestant for Model {
 
     fn delete(&mut self, path: &[u8]) {
         done(self.call(&Call::Delete { path: path.into() }).number);
+    }
+
+    fn copy(&mut self, stamp: u64, source: &[u8], destination: &[u8]) {
+        let (source, destination) = (source.into(), destination.into());
+        done(self.call(&Call::Copy { stamp, source, destination }).number);
     }
 
     fn list(&mut self, prefix: &[u8], answer: &mut [u8]) -> usize {

@@ -47,5 +47,17 @@ impl Floor {
             store.whole();
             arena.copy_within(at + SIZE..held + SIZE, at);
         });
+        let copied = data(state.size, i);
+        samples.time("COPY, new", 1, || {
+            store.whole();
+            black_box(md5(&copied));
+            arena.copy_within(at..held, at + state.size);
+            arena[at..at + state.size].copy_from_slice(&copied);
+        });
+        samples.time("COPY, again", 1, || {
+            store.whole();
+            black_box(md5(&copied));
+            arena[at..at + state.size].copy_from_slice(&copied);
+        });
     }
 }

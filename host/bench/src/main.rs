@@ -38,7 +38,7 @@ struct State {
 
 const NAMES: [&str; 3] = ["proved", "model", "SQLite"];
 
-const CALLS: [&str; 11] = [
+const CALLS: [&str; 13] = [
     "PUT, new",
     "PUT, again",
     "HEAD",
@@ -46,6 +46,8 @@ const CALLS: [&str; 11] = [
     "LIST, one",
     "LIST, all",
     "DELETE",
+    "COPY, new",
+    "COPY, again",
     "INITIATE",
     "PART",
     "COMMIT, ascending",
@@ -96,6 +98,11 @@ fn place(state: &State, i: usize) -> usize {
     i * 37 % (state.objects + 1)
 }
 
+/// The object that COPY reads: a resident one, or on an empty store one that is there for COPY alone.
+fn source(state: &State, i: usize) -> Vec<u8> {
+    name(2 * ((place(state, i) + state.objects / 2) % state.objects.max(1)))
+}
+
 fn round(store: &mut dyn Contestant, state: &State, i: usize, samples: &mut Samples) {
     let mut answer = vec![0; 65_536.max(PARTS as usize * 4096)];
     let path = name(2 * place(state, i) + 1);
@@ -108,6 +115,17 @@ fn round(store: &mut dyn Contestant, state: &State, i: usize, samples: &mut Samp
     samples.time("LIST, one", 8, || assert!(store.list(&path, &mut answer) > 0));
     samples.time("LIST, all", 2, || assert!(store.list(b"", &mut answer) > 0));
     samples.time("DELETE", 1, || store.delete(&path));
+    let source = source(state, i);
+    if state.objects == 0 {
+        store.put(4, &source, &data(state.size, i));
+    }
+    samples.time("COPY, new", 1, || store.copy(8, &source, &path));
+    samples.time("COPY, again", 1, || store.copy(9, &source, &path));
+    assert_eq!(store.get(&path, &mut answer), state.size);
+    store.delete(&path);
+    if state.objects == 0 {
+        store.delete(&source);
+    }
     let ascending: Vec<u8> = (1..=state.parts).flat_map(u16::to_le_bytes).collect();
     let reversed: Vec<u8> = (1..=state.parts).rev().flat_map(u16::to_le_bytes).collect();
     for (call, list) in [("COMMIT, ascending", &ascending), ("COMMIT, reversed", &reversed)] {

@@ -168,6 +168,7 @@ pub struct Sqlite {
     get: Statement,
     head: Statement,
     delete: Statement,
+    copy: Statement,
     list: Statement,
     list_all: Statement,
     initiate: Statement,
@@ -206,6 +207,9 @@ impl Sqlite {
             head: base
                 .prepare("SELECT created, parts, md5, length(data) FROM objects WHERE path = ?1"),
             delete: base.prepare("DELETE FROM objects WHERE path = ?1"),
+            copy: base.prepare(
+                "INSERT OR REPLACE INTO objects SELECT ?1, ?2, parts, md5, data FROM objects WHERE path = ?3",
+            ),
             list: base.prepare(&format!("{listed} WHERE path >= ?1 AND path < ?2 ORDER BY path")),
             list_all: base.prepare(&format!("{listed} ORDER BY path")),
             initiate: base.prepare("INSERT INTO uploads VALUES (?1, ?2, ?3)"),
@@ -260,6 +264,12 @@ impl Contestant for Sqlite {
 
     fn delete(&mut self, path: &[u8]) {
         self.delete.run(&[Bytes(path)]);
+        assert_eq!(unsafe { sqlite3_changes(self.base.0) }, 1);
+    }
+
+    /// The digest is that of the source, which is not computed anew.
+    fn copy(&mut self, stamp: u64, source: &[u8], destination: &[u8]) {
+        self.copy.run(&[Bytes(destination), Number(stamp as i64), Bytes(source)]);
         assert_eq!(unsafe { sqlite3_changes(self.base.0) }, 1);
     }
 

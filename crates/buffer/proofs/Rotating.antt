@@ -10,15 +10,6 @@ use Rattle.buffer.specs.Buffer.{rotated}
 use Rattle.buffer.proofs.Parts.{rotated-parts}
 use Rattle.buffer.proofs.Swapping.{swapped, swap-parts}
 
--- a part of b that is held at the front of a longer list
-pub held : (h′ h b : List ℕ) (from to n : ℕ) → to ≡ from + n → to ≤ length b
-    → h′ ≡ take 0 h ++ take (to - from) (drop from b) ++ drop (0 + length (take (to - from) (drop from b))) h → take n h′ ≡ take n (drop from b)
-held h′ h b from to n q room e =
-    let w : to - from ≡ n = omega arith in
-    let s : List ℕ = take (to - from) (drop from b) in
-    let l : length s ≡ n = length-take-le (to - from) (drop from b) (rw (length-drop from b) (omega arith)) ∙ w in
-    ap (take n) e ∙ take-at s (drop (0 + length s) h) n l ∙ ap (λ (m : ℕ). take m (drop from b)) w
-
 drop-part : (b : List ℕ) (i n : ℕ) → drop i b ≡ take n (drop i b) ++ drop (i + n) b
 drop-part b i n = sym (take-append-drop n (drop i b)) ∙ ap (λ (l : List ℕ). take n (drop i b) ++ l) (drop-drop n i b)
 

@@ -7,7 +7,20 @@ use native.Mathlib.Omega.{arith}
 use lib.ListN.{length, take, drop, getD, set, length-append, length-drop, List·getD-append}
 use lib.Seq.{paste, paste-zero, paste-suc, length-paste, length-paste-head, getD-append-add, getD-drop, getD-take, length-take-le, set-append-left, take-set-lt, drop-set-lt}
 use Rattle.number.proofs.Fields.{field-read, field-written}
-use Rattle.buffer.proofs.Moving.{left-read}
+
+-- a byte after those that were pasted in from before it
+pasted-before : (b₀ : List ℕ) (from to i : ℕ) → to ≤ from → from + i < length b₀ → getD (paste b₀ to (drop from b₀) i) (from + i) 0 ≡ getD (drop from b₀) i 0
+pasted-before b₀ from to i le room =
+    let s : List ℕ = drop from b₀ in
+    let head : List ℕ = take to b₀ ++ take i s in
+    let i≤ : i ≤ length s = rw (length-drop from b₀) (omega arith) in
+    let n : length head ≡ to + i = length-paste-head b₀ to s i (omega arith) i≤ in
+    let q : from + i ≡ length head + (from - to) = omega arith in
+    ap (λ (k : ℕ). getD (head ++ drop (to + i) b₀) k 0) q
+    ∙ getD-append-add head (drop (to + i) b₀) (from - to) 0
+    ∙ getD-drop (to + i) b₀ (from - to) 0
+    ∙ ap (λ (k : ℕ). getD b₀ k 0) (omega arith)
+    ∙ sym (getD-drop from b₀ i 0)
 
 module _ (p s : List ℕ) (j k : ℕ) (hj : j ≤ length p) (hk : k ≤ length s) where
   -- what stands after what was pasted is as it was
@@ -62,7 +75,7 @@ module _ (b₀ b : List ℕ) (i j n k : ℕ) (is : b ≡ swapped b₀ i j k) whe
       let lp : length p ≡ length b₀ = length-paste b₀ i sj k (omega arith) (omega arith) in
       let lp′ : length p′ ≡ length b₀ = length-paste b₀ i sj (suc k) (omega arith) (omega arith) in
       let y : getD b (j + k) 0 ≡ getD sj k 0 =
-      ap (λ (l : List ℕ). getD l (j + k) 0) is ∙ paste-read p si j k (omega arith) (omega arith) ∙ left-read b₀ j i k (omega arith) (omega arith) in
+      ap (λ (l : List ℕ). getD l (j + k) 0) is ∙ paste-read p si j k (omega arith) (omega arith) ∙ pasted-before b₀ j i k (omega arith) (omega arith) in
       let x : getD b (i + k) 0 ≡ getD si k 0 =
       ap (λ (l : List ℕ). getD l (i + k) 0) is
       ∙ paste-read-before p si j k (omega arith) (omega arith) (i + k) (omega arith)

@@ -1,45 +1,48 @@
 -- `buffer::move_right` meets its contract. The invariant: `b` is what it was with the bytes from the i-th on moved. Assumes nothing.
-use mathlib.Core.Path.{_≡_, refl}
-use Prim.Native.Nat.{_-_, _≤_}
-use lib.ListN.{length, length-set}
-use Rattle.buffer.proofs.Moving.{shifted, right-start, right-step, right-all}
+use mathlib.Core.Path.{_≡_, refl, _∙_}
+use Prim.Native.Nat.{_≤_}
+use lib.ListN.{length}
+use borrow.Author.Needs.{needs}
+use Rattle.buffer.proofs.Moving.{moved-from, right-none, right-block, right-all}
 use native.Mathlib.Omega.{arith}
 use Rattle.buffer.proofs.move_right.Statement.{statement}
 use Rattle.buffer.proofs.move_right.Tie as tie
 
 abbrev Inv-loop : tie.InvT-loop
-Inv-loop b₀ from to n i₀ b i = (i ≤ n) × (length b ≡ length b₀) × (b ≡ shifted b₀ from to n i)
+Inv-loop b₀ from to n i₀ b i = (i ≤ n) × (length b ≡ length b₀) × (b ≡ moved-from b₀ from to n i)
 
 abbrev μ-loop : tie.MeasureT-loop
 μ-loop b₀ from to n i₀ b i = i
 
 loop-holds : tie.Need-loop-holds Inv-loop μ-loop
-loop-holds c = (omega arith, refl, right-start (c .args .b .now) (c .args .from) (c .args .to) (c .args .n) (c .pre .0) (c .pre .1))
+loop-holds c = let a = c .before .args in (omega arith, refl, right-none (a .b .now) (a .from) (a .to) (a .n))
+
+next-block-requires : tie.Need-next-block-requires Inv-loop μ-loop
+next-block-requires c κs = search needs
 
 sub-i : tie.Need-sub-i Inv-loop μ-loop
 sub-i c = omega arith
 
-add-b : tie.Need-add-b Inv-loop μ-loop
-add-b c = omega arith
+add-move-block : tie.Need-add-move-block Inv-loop μ-loop
+add-move-block c = omega arith
 
-slice-read-b : tie.Need-slice-read-b Inv-loop μ-loop
-slice-read-b c = omega arith
+add-move-block-2 : tie.Need-add-move-block-2 Inv-loop μ-loop
+add-move-block-2 c = omega arith
 
-add-b-2 : tie.Need-add-b-2 Inv-loop μ-loop
-add-b-2 c = omega arith
-
-slice-write-b : tie.Need-slice-write-b Inv-loop μ-loop
-slice-write-b c = omega arith
+move-block-requires : tie.Need-move-block-requires Inv-loop μ-loop
+move-block-requires c κs = let k = c .before .next-block .ensures in (k .1, omega (arith, k .0), omega (arith, k .0))
 
 loop-less : tie.Need-loop-less Inv-loop μ-loop
-loop-less c = omega arith
+loop-less c = let k = c .before .before .before .before .next-block .ensures in omega (arith, k .0, k .2 (omega arith))
 
 loop-again : tie.Need-loop-again Inv-loop μ-loop
 loop-again c =
-    let l = c .before .before .loop in
-    let st = c .before .before .before in
+    let l = c .before .before .before .before .before .before .loop in
+    let st = c .before .before .before .before .before .before .before .before in
     let a = st .args in
-    (omega arith, rw length-set (l .inv .1), right-step (a .b .now) (l .b) (a .from) (a .to) (a .n) (l .i) (l .inv .2) (l .i - 1) (st .pre .0) (st .pre .1) (l .inv .0) (omega arith))
+    let k = c .before .before .before .before .next-block in
+    let two = c .before .before .move-block in
+    (omega arith, two .kept .0 ∙ l .inv .1, right-block (a .b .now) (l .b) (two .last .0) (a .from) (a .to) (a .n) (l .i) (k .result) (st .pre .0) (st .pre .1) (l .inv .0) (k .ensures .0) (l .inv .2) (two .ensures))
 
 same-length : tie.Need-same-length Inv-loop μ-loop
 same-length c = c .before .loop .inv .1
@@ -47,8 +50,8 @@ same-length c = c .before .loop .inv .1
 returns : tie.Need-returns Inv-loop μ-loop
 returns c =
     let l = c .before .loop in
-    let a = c .before .before .args in
-    right-all (a .b .now) (l .b) (a .from) (a .to) (a .n) (l .i) (l .inv .2) (c .loop-test .left)
+    let a = c .before .before .before .args in
+    right-all (a .b .now) (l .b) (a .from) (a .to) (a .n) (l .i) (c .loop-test .left) (l .inv .2)
 
 pub move-right-spec : {M : Type 1} → statement M
 move-right-spec =
@@ -57,11 +60,11 @@ move-right-spec =
     Inv-loop
     μ-loop
     loop-holds
+    next-block-requires
     sub-i
-    add-b
-    slice-read-b
-    add-b-2
-    slice-write-b
+    add-move-block
+    add-move-block-2
+    move-block-requires
     loop-less
     loop-again
     same-length

@@ -2,7 +2,8 @@
 use mathlib.Core.Path.{refl}
 use Prim.Native.Nat.{_+_}
 use lib.ListN.{take, replicate, length-take}
-use Rattle.buffer.proofs.Rotating.{small-right, held}
+use Rattle.buffer.proofs.Moving.{held}
+use Rattle.buffer.proofs.Rotating.{small-right}
 use native.Mathlib.Omega.{arith}
 use borrow.Author.Needs.{needs}
 use Rattle.buffer.proofs.blocks.rotate_small_right.Statement.{statement}

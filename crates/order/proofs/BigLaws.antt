@@ -1,22 +1,18 @@
 -- Numbers read high byte first compare as the bytes do; a number's bytes are turned by halves. Assumes nothing.
-use Prim.Native.Nat.{ℕ, zero, suc, _+_, _-_, _*_, _/_, _%_, _^_, _≤_, _<_, compare, min, Ordering, Ordering·lt, Ordering·eq, Ordering·gt}
-use mathlib.Core.Path.{_≡_, refl, sym, ap, ap₂, _∙_}
-use mathlib.Core.Bool.{Bool, true, false}
+use Prim.Native.Nat.{ℕ, suc, _+_, _-_, _*_, _/_, _%_, _^_, _≤_, _<_, compare, Ordering, Ordering·lt, Ordering·gt}
+use mathlib.Core.Path.{_≡_, sym, ap, ap₂, _∙_}
 use mathlib.Core.List.{List, [], _∷_, _++_}
 use native.Mathlib.Nat.{mod-eq-of-lt, pow-zero, pow-succ', mul-assoc, mul-comm, mul-add, mul-le-mul-left, one-mul}
 use native.Mathlib.Omega.{arith}
-use borrow.Author.Tests.{leb-true, leb-false}
-use lib.Dec.{leb, lit<}
+use lib.Dec.{lit<}
 use lib.Pow.{pow-add}
 use lib.ListN.{length, take, drop, length-append, length-drop, take-append-drop}
-use lib.Seq.{take-add, take-take, length-take-le}
+use lib.Seq.{length-take-le}
 use Rattle.number.specs.Number.{le, fromLe, AreBytes}
 use Rattle.number.proofs.NumberLaws.{bytes-take, bytes-drop, length-le, le-fromLe, le-append, le-mod}
 use Rattle.order.specs.Order.{byBytes}
 use Rattle.order.specs.Big.{fromBe}
-use Rattle.order.specs.Compared.{orderOf}
-use Rattle.order.specs.declared.Order.the-variants.{Less, Equal, Greater}
-use Rattle.order.proofs.OrderLaws.{cases, alike, below, bytes-alike, bytes-over, bytes-under, bytes-skip}
+use Rattle.order.proofs.OrderLaws.{cases, alike, below, bytes-alike, bytes-over, bytes-skip}
 
 be-append : (xs ys : List ℕ) → fromBe (xs ++ ys) ≡ 256 ^ length ys * fromBe xs + fromBe ys
 unfolding fromBe
@@ -82,11 +78,11 @@ turned-halves k x lo hi l h =
     ∙ ap (λ (n : ℕ). 256 ^ n * fromBe (le k x) + fromBe (le k (x / 256 ^ k))) (length-le k (x / 256 ^ k))
     ∙ ap₂ (λ (m n : ℕ). 256 ^ k * m + n) (sym (l ∙ ap fromBe (le-mod k x))) (sym h))
 
--- the bytes that were read low byte first
-pub turned-word : (b : List ℕ) (at x r : ℕ) → AreBytes b → at + 8 ≤ length b → x ≡ fromLe (take 8 (drop at b)) → r ≡ fromBe (le 8 x) → r ≡ fromBe (take 8 (drop at b))
-turned-word b at x r hb room e f =
-    let n : length (take 8 (drop at b)) ≡ 8 = length-take-le 8 (drop at b) (rw (length-drop at b) (omega arith)) in
-    f ∙ ap (λ (y : ℕ). fromBe (le 8 y)) e ∙ ap fromBe (le-fromLe 8 (take 8 (drop at b)) (bytes-take 8 (drop at b) (bytes-drop at b hb)) n)
+-- the w bytes that were read low byte first
+pub turned-word : (w : ℕ) (b : List ℕ) (at x r : ℕ) → AreBytes b → at + w ≤ length b → x ≡ fromLe (take w (drop at b)) → r ≡ fromBe (le w x) → r ≡ fromBe (take w (drop at b))
+turned-word w b at x r hb room e f =
+    let n : length (take w (drop at b)) ≡ w = length-take-le w (drop at b) (rw (length-drop at b) (omega arith)) in
+    f ∙ ap (λ (y : ℕ). fromBe (le w y)) e ∙ ap fromBe (le-fromLe w (take w (drop at b)) (bytes-take w (drop at b) (bytes-drop at b hb)) n)
 
 -- words of one length tell, whatever follows
 decided : (xs ys r s : List ℕ) → length xs ≡ length ys → byBytes xs ys ≡ Ordering·lt → byBytes (xs ++ r) (ys ++ s) ≡ Ordering·lt
@@ -99,54 +95,41 @@ decided (x ∷ xs) (y ∷ ys) r s l e =
     (λ q. simp q (decided xs ys r s (omega arith) (simp q at e)))
     (λ q. let z : _≡_ {A = Ordering} Ordering·gt Ordering·lt = simp q at e in absurd (let w : _≡_ {A = ℕ} 0 1 = cc in omega arith))
 
--- strings that agree on their first k bytes, by a word of eight that follows
-module _ (a b : List ℕ) (k : ℕ) (ha : AreBytes a) (hb : AreBytes b) (same : take k a ≡ take k b) (in-a : k + 8 ≤ length a) (in-b : k + 8 ≤ length b) where
-  word-a : length (take 8 (drop k a)) ≡ 8
-  word-a = length-take-le 8 (drop k a) (rw (length-drop k a) (omega arith))
+-- the number in the w bytes at k
+abbrev pub word : (a : List ℕ) (k w : ℕ) → ℕ
+word a k w = fromBe (take w (drop k a))
 
-  word-b : length (take 8 (drop k b)) ≡ 8
-  word-b = length-take-le 8 (drop k b) (rw (length-drop k b) (omega arith))
+-- a word that lies in a string
+module _ (a : List ℕ) (k w : ℕ) (ha : AreBytes a) (in-a : k + w ≤ length a) where
+  -- it has w bytes
+  word-length : length (take w (drop k a)) ≡ w
+  word-length = length-take-le w (drop k a) (rw (length-drop k a) (omega arith))
 
-  bytes-a : AreBytes (take 8 (drop k a))
-  bytes-a = bytes-take 8 (drop k a) (bytes-drop k a ha)
+  -- which are bytes
+  word-bytes : AreBytes (take w (drop k a))
+  word-bytes = bytes-take w (drop k a) (bytes-drop k a ha)
 
-  bytes-b : AreBytes (take 8 (drop k b))
-  bytes-b = bytes-take 8 (drop k b) (bytes-drop k b hb)
+  -- and is below the power of its width
+  pub word-below : word a k w < 256 ^ w
+  word-below = rw word-length at (be-below (take w (drop k a)) word-bytes)
 
-  words-lt : fromBe (take 8 (drop k a)) < fromBe (take 8 (drop k b)) → byBytes a b ≡ Ordering·lt
-  words-lt h =
+-- strings that agree on their first k bytes, by the word of w that follows
+module _ (a b : List ℕ) (k w : ℕ) (ha : AreBytes a) (hb : AreBytes b) (same : take k a ≡ take k b) (in-a : k + w ≤ length a) (in-b : k + w ≤ length b) where
+  -- the words have one length
+  lengths : length (take w (drop k a)) ≡ length (take w (drop k b))
+  lengths = word-length a k w ha in-a ∙ sym (word-length b k w hb in-b)
+
+  -- the string with the smaller word is first
+  pub word-lt : word a k w < word b k w → byBytes a b ≡ Ordering·lt
+  word-lt h =
       let one : byBytes a b ≡ byBytes (take k b ++ drop k a) (take k b ++ drop k b) =
       ap₂ byBytes (sym (take-append-drop k a) ∙ ap (λ (l : List ℕ). l ++ drop k a) same) (sym (take-append-drop k b)) in
       let two : byBytes (drop k a) (drop k b) ≡ Ordering·lt =
-      ap₂ byBytes (sym (take-append-drop 8 (drop k a))) (sym (take-append-drop 8 (drop k b)))
-      ∙ decided (take 8 (drop k a)) (take 8 (drop k b)) (drop 8 (drop k a)) (drop 8 (drop k b)) (word-a ∙ sym word-b)
-      (be-lt (take 8 (drop k a)) (take 8 (drop k b)) bytes-a bytes-b (word-a ∙ sym word-b) h) in
+      ap₂ byBytes (sym (take-append-drop w (drop k a))) (sym (take-append-drop w (drop k b)))
+      ∙ decided (take w (drop k a)) (take w (drop k b)) (drop w (drop k a)) (drop w (drop k b)) lengths
+      (be-lt (take w (drop k a)) (take w (drop k b)) (word-bytes a k w ha in-a) (word-bytes b k w hb in-b) lengths h) in
       one ∙ bytes-skip (take k b) (drop k a) (drop k b) ∙ two
 
-  pub word-less : fromBe (take 8 (drop k a)) < fromBe (take 8 (drop k b)) → Less ≡ orderOf (byBytes a b)
-  word-less h = sym (ap orderOf (words-lt h))
-
-  pub word-same : fromBe (take 8 (drop k a)) ≡ fromBe (take 8 (drop k b)) → take 8 (drop k a) ≡ take 8 (drop k b)
-  word-same = be-same (take 8 (drop k a)) (take 8 (drop k b)) bytes-a bytes-b (word-a ∙ sym word-b)
-
-pub word-greater : (a b : List ℕ) (k : ℕ) → AreBytes a → AreBytes b → take k a ≡ take k b → k + 8 ≤ length a → k + 8 ≤ length b
-    → fromBe (take 8 (drop k b)) < fromBe (take 8 (drop k a)) → Greater ≡ orderOf (byBytes a b)
-word-greater a b k ha hb same in-a in-b h = sym (ap orderOf (bytes-under b a (words-lt b a k hb ha (sym same) in-b in-a h)))
-
--- all n bytes are the same where the last word is, unless an earlier one was not
-pub last-word : (a b : List ℕ) (n i k : ℕ) → 8 ≤ n → k ≡ min i (n - 8) → take i a ≡ take i b
-    → (i + 8 ≤ n → take 8 (drop i a) ≡ take 8 (drop i b) → ⊥) → take 8 (drop k a) ≡ take 8 (drop k b) → take n a ≡ take n b
-last-word a b n i k long k-is same differ word =
-    let front : take k a ≡ take k b = sym (take-take k i a (omega arith)) ∙ ap (take k) same ∙ take-take k i b (omega arith) in
-    let at-end : k + 8 ≡ n = end in
-    ap (λ (m : ℕ). take m a) (sym at-end) ∙ take-add k 8 a ∙ ap₂ _++_ front word ∙ sym (take-add k 8 b) ∙ ap (λ (m : ℕ). take m b) at-end
-  where
-    never : i ≡ k → i + 8 ≤ n → ⊥
-    never e room = differ room (rw e word)
-
-    go : (t : Bool) → leb (i + 8) n ≡ t → k + 8 ≡ n
-    go true q = let room : i + 8 ≤ n = leb-true (i + 8) n q in absurd (never (omega arith) room)
-    go false q = omega (arith, leb-false (i + 8) n q)
-
-    end : k + 8 ≡ n
-    end = go (leb (i + 8) n) refl
+  -- equal words have equal bytes
+  pub word-same : word a k w ≡ word b k w → take w (drop k a) ≡ take w (drop k b)
+  word-same = be-same (take w (drop k a)) (take w (drop k b)) (word-bytes a k w ha in-a) (word-bytes b k w hb in-b) lengths

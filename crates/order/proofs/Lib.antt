@@ -4,3 +4,4 @@ pub mod OrderLaws
 pub mod Answers
 pub mod Strings
 pub mod BigLaws
+pub mod Tells

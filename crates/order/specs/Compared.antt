@@ -18,11 +18,11 @@ pub record Common (a b : List ℕ) (n r : ℕ) : Type 0 where
   pub alike : take r a ≡ take r b
   pub differ : r < n → getD a r 0 ≡ getD b r 0 → ⊥
 
--- a and b agree on the first r bytes, and not on eight more of the first n
-pub record CommonWords (a b : List ℕ) (n r : ℕ) : Type 0 where
-  pub inside : r ≤ n
+-- a and b agree on the first r bytes, and not on the eight that follow, unless those are the last of the first n
+pub record DecidingWord (a b : List ℕ) (n r : ℕ) : Type 0 where
+  pub inside : r + 8 ≤ n
   pub alike : take r a ≡ take r b
-  pub differ : r + 8 ≤ n → take 8 (drop r a) ≡ take 8 (drop r b) → ⊥
+  pub differ : r + 8 < n → take 8 (drop r a) ≡ take 8 (drop r b) → ⊥
 
 -- a and b agree on the first n bytes, and one has no more
 pub record SameStart (a b : List ℕ) (n : ℕ) : Type 0 where

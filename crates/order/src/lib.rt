@@ -3,7 +3,7 @@ ghost use mathlib.Core.Path.{_≡_};
 ghost use Prim.Native.Nat.{_+_, _≤_, min};
 ghost use lib.ListN.{length, take, drop};
 ghost use Rattle.order.specs.Order.{byBytes, same, begins, ends};
-ghost use Rattle.order.specs.Compared.{Common, CommonWords, SameStart, orderOf};
+ghost use Rattle.order.specs.Compared.{Common, DecidingWord, SameStart, orderOf};
 ghost use Rattle.order.specs.Big.{fromBe};
 ghost use Rattle.number.specs.Number.{le};
 
@@ -34,7 +34,14 @@ fn swap_u64(x: u64) -> u64
         + swap_u32((x / 4294967296) as u32) as u64
 }
 
-// The number in the eight bytes of b from `at` on, high byte first.
+// The number in the bytes of b from `at` on, high byte first, at each width.
+fn big_u32(b: &[u8], at: usize) -> u32
+    requires { ⌜ at + 4 ≤ length (now b) ⌝ }
+    ensures { λ r. ⌜ r ≡ fromBe (take 4 (drop at (now (b .entry)))) ⌝ }
+{
+    swap_u32(number::get_u32(b, at))
+}
+
 fn big_u64(b: &[u8], at: usize) -> u64
     requires { ⌜ at + 8 ≤ length (now b) ⌝ }
     ensures { λ r. ⌜ r ≡ fromBe (take 8 (drop at (now (b .entry)))) ⌝ }
@@ -63,19 +70,21 @@ fn common_bytes(a: &[u8], b: &[u8], n: usize) -> usize
     i
 }
 
-// The same, in steps of eight.
-fn common_words(a: &[u8], b: &[u8], n: usize) -> usize
-    requires { ⌜ (n ≤ length (now a)) × (n ≤ length (now b)) ⌝ }
-    ensures { λ r. ⌜ CommonWords (now (a .entry)) (now (b .entry)) n r ⌝ }
+// The place of the first word of eight bytes that differs; where none before the last does, that of the last, which may overlap the one
+// before it.
+fn deciding_word(a: &[u8], b: &[u8], n: usize) -> usize
+    requires { ⌜ (8 ≤ n) × (n ≤ length (now a)) × (n ≤ length (now b)) ⌝ }
+    ensures { λ r. ⌜ DecidingWord (now (a .entry)) (now (b .entry)) n r ⌝ }
 {
+    let last = n - 8;
     let mut i = 0;
-    while 8 <= n - i {
+    while i < last {
         if number::get_u64(a, i) != number::get_u64(b, i) {
             return i;
         }
         i += 8;
     }
-    i
+    last
 }
 
 // How a stands to b, where their first n bytes are the same and one has no more.
@@ -92,25 +101,28 @@ fn by_length(a: &[u8], b: &[u8], n: usize) -> Order
     Order::Equal
 }
 
-// Which of a and b is first, byte by byte; a string is before those that it begins. From eight bytes on, the first words that differ tell,
-// read high byte first; the last word overlaps the one before it.
+// Which of a and b is first, byte by byte; a string is before those that it begins. The bytes that decide are read as two numbers,
+// high byte first.
 pub fn compare(a: &[u8], b: &[u8]) -> Order
     ensures { λ r. ⌜ r ≡ orderOf (byBytes (now (a .entry)) (now (b .entry))) ⌝ }
 {
     let n = least(a.len(), b.len());
-    if n < 8 {
+    let mut x: u64 = 0;
+    let mut y: u64 = 0;
+    if 8 <= n {
+        let k = deciding_word(a, b, n);
+        x = big_u64(a, k);
+        y = big_u64(b, k);
+    } else if 4 <= n {
+        x = 4294967296 * (big_u32(a, 0) as u64) + big_u32(a, n - 4) as u64;
+        y = 4294967296 * (big_u32(b, 0) as u64) + big_u32(b, n - 4) as u64;
+    } else {
         let i = common_bytes(a, b, n);
-        if n <= i {
-            return by_length(a, b, n);
+        if i < n {
+            x = a[i] as u64;
+            y = b[i] as u64;
         }
-        if a[i] < b[i] {
-            return Order::Less;
-        }
-        return Order::Greater;
     }
-    let k = least(common_words(a, b, n), n - 8);
-    let x = big_u64(a, k);
-    let y = big_u64(b, k);
     if x < y {
         return Order::Less;
     }

@@ -13,7 +13,7 @@ swap-u64-requires c κs = search needs
 returns : tie.Need-returns
 returns c =
     let s = c .before .before .before in
-    turned-word (s .args .b .now) (s .args .at) (c .before .get-u64 .result) (c .swap-u64 .result) (λ i. c .before .before .shared-slice-known .given i .fits) (s .pre) (c .before .get-u64 .ensures) (c .swap-u64 .ensures)
+    turned-word 8 (s .args .b .now) (s .args .at) (c .before .get-u64 .result) (c .swap-u64 .result) (λ i. c .before .before .shared-slice-known .given i .fits) (s .pre) (c .before .get-u64 .ensures) (c .swap-u64 .ensures)
 
 pub big-u64-spec : {M : Type 1} → statement M
 big-u64-spec = tie.close (tie.spec get-u64-requires swap-u64-requires returns)

@@ -1,5 +1,4 @@
 -- `order::by_length` meets its contract: one string ends where both are the same. Assumes nothing.
-use native.Mathlib.Omega.{arith}
 use Rattle.order.proofs.Strings.{both-end, first-ends, second-ends}
 use Rattle.order.proofs.by_length.Statement.{statement}
 use Rattle.order.proofs.by_length.Tie as tie

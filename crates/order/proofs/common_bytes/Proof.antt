@@ -1,7 +1,7 @@
 -- `order::common_bytes` meets its contract. The invariant: the first i bytes are the same. Assumes nothing.
 use mathlib.Core.Path.{_≡_, refl}
 use Prim.Native.Nat.{_-_, _≤_}
-use lib.ListN.{length, take}
+use lib.ListN.{take}
 use Rattle.order.proofs.Strings.{same-byte}
 use native.Mathlib.Omega.{arith}
 use Rattle.order.proofs.common_bytes.Statement.{statement}

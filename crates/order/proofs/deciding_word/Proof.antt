@@ -1,24 +1,24 @@
--- `order::common_words` meets its contract. The invariant: the first i bytes are the same. Assumes nothing.
+-- `order::deciding_word` meets its contract. The invariant: the first i bytes are the same. Assumes nothing.
 use mathlib.Core.Path.{_≡_, refl, sym, ap, _∙_}
-use Prim.Native.Nat.{_-_, _≤_}
-use lib.ListN.{length, take, drop}
-use Rattle.order.proofs.Strings.{same-word}
+use Prim.Native.Nat.{_-_, _<_}
+use lib.ListN.{take}
+use Rattle.order.proofs.Strings.{same-word, same-fewer}
 use Rattle.number.specs.Number.{fromLe}
 use native.Mathlib.Omega.{arith}
-use Rattle.order.proofs.common_words.Statement.{statement}
-use Rattle.order.proofs.common_words.Tie as tie
+use Rattle.order.proofs.deciding_word.Statement.{statement}
+use Rattle.order.proofs.deciding_word.Tie as tie
 
 abbrev Inv-loop : tie.InvT-loop
-Inv-loop a b n i₀ i = (i ≤ n) × (take i a ≡ take i b)
+Inv-loop a b n last i₀ i = (i < n) × (take i a ≡ take i b)
 
 abbrev μ-loop : tie.MeasureT-loop
-μ-loop a b n i₀ i = n - i
+μ-loop a b n last i₀ i = n - i
+
+sub-last : tie.Need-sub-last Inv-loop μ-loop
+sub-last c = omega arith
 
 loop-holds : tie.Need-loop-holds Inv-loop μ-loop
 loop-holds c = (omega arith, refl)
-
-sub-loop : tie.Need-sub-loop Inv-loop μ-loop
-sub-loop c = omega arith
 
 get-u64-requires : tie.Need-get-u64-requires Inv-loop μ-loop
 get-u64-requires c κs = omega arith
@@ -53,16 +53,21 @@ loop-again c =
 returns-2 : tie.Need-returns-2 Inv-loop μ-loop
 returns-2 c =
     let k = c .before in
-    record { inside = omega arith; alike = k .loop .inv .1; differ = λ h. absurd (omega arith) }
+    let a = k .before .before .before .args in
+    record {
+      inside = omega arith;
+      alike = same-fewer (a .a .now) (a .b .now) (a .n - 8) (k .loop .i) (omega arith) (k .loop .inv .1);
+      differ = λ h. absurd (omega arith);
+    }
 
-pub common-words-spec : {M : Type 1} → statement M
-common-words-spec =
+pub deciding-word-spec : {M : Type 1} → statement M
+deciding-word-spec =
     tie.close
     (tie.spec
     Inv-loop
     μ-loop
+    sub-last
     loop-holds
-    sub-loop
     get-u64-requires
     get-u64-requires-2
     returns

@@ -10,7 +10,6 @@ use Rattle.md5.specs.Md5.{bytesOf}
 use Rattle.buffer.specs.Buffer.{spliced}
 use Rattle.machine.specs.Map.{Map}
 use Rattle.machine.specs.Names.{Bytes}
-use Rattle.machine.specs.Etags.{plain}
 use Rattle.machine.specs.State.{Object, held, withObject}
 use Rattle.machine.specs.Valid.{Valid}
 use Rattle.stored_pairs.specs.Stored.{sumOf, pairsAt, blockOk}
@@ -58,7 +57,7 @@ objectWith stamp kind count digest content m =
 
 -- an object with a plain etag
 abbrev pub plainWith : (stamp : ℕ) (digest : Digest) (content : List ℕ) → Map Bytes Bytes → Object
-plainWith stamp digest content m = record { content = content; created = stamp; etag = plain (bytesOf digest); pairs = m }
+plainWith stamp digest content m = objectWith stamp plainKind 0 digest content m
 
 -- the `size` bytes after the last byte held
 abbrev pub blockAfterHeld : (t a : List ℕ) (size : ℕ) → List ℕ

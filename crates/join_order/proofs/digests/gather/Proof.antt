@@ -1,6 +1,6 @@
 -- `join_order::digests::gather` meets its contract. The invariant: the digests of the rows passed stand at the front. Assumes nothing.
 use Prim.Native.Nat.{_+_, _-_, _*_, _≤_}
-use mathlib.Core.Path.{_≡_, refl}
+use mathlib.Core.Path.{_≡_, refl, _∙_}
 use native.Mathlib.Nat.{add-sub-cancel-left}
 use lib.ListN.{length, take, drop}
 use Rattle.join_order.specs.Digests.{OrderedAt}
@@ -11,7 +11,7 @@ use Rattle.row.specs.Row.{numbersLength, headLength}
 use Rattle.join_order.proofs.digests.gather.Tie as tie
 
 abbrev Inv-loop : tie.InvT-loop
-Inv-loop tables at count all₀ i₀ all i = (length all ≡ 4096) × ((k : OrderedAt tables at count) → Gathered tables at count k all i)
+Inv-loop tables at count all₀ i₀ all i = (length all ≡ length all₀) × ((k : OrderedAt tables at count) → Gathered tables at count k all i)
 
 abbrev μ-loop : tie.MeasureT-loop
 μ-loop tables at count all₀ i₀ all i = count - i
@@ -20,8 +20,8 @@ loop-holds : tie.Need-loop-holds Inv-loop μ-loop
 loop-holds c = (refl, λ k. gathered-none _ _ _ k _)
 
 -- in the loop
-inside : (c : tie.In-loop Inv-loop μ-loop) → let k = c .before .before .before in k .args .at + headLength * c .before .loop .i + headLength ≤ length (k .args .tables .now)
-inside c = let p = c .before .before .before .pre .0 in row-inside _ _ _ p _ _ (c .before .loop .inv .1 p) (c .loop-test .taken)
+inside : (c : tie.In-loop Inv-loop μ-loop) → let k = c .before .before .before .before in k .args .at + headLength * c .before .loop .i + headLength ≤ length (k .args .tables .now)
+inside c = let p = c .before .before .before .before .pre .0 in row-inside _ _ _ p _ _ (c .before .loop .inv .1 p) (c .loop-test .taken)
 
 mul-from : tie.Need-mul-from Inv-loop μ-loop
 mul-from c = omega (arith, inside c)
@@ -34,9 +34,6 @@ add-from-2 c = omega (arith, inside c)
 
 add-to : tie.Need-add-to Inv-loop μ-loop
 add-to c = omega (arith, inside c)
-
-slice-aggregate-copy-at : tie.Need-slice-aggregate-copy-at Inv-loop μ-loop
-slice-aggregate-copy-at c = omega arith
 
 mul-copy-at : tie.Need-mul-copy-at Inv-loop μ-loop
 mul-copy-at c = omega arith
@@ -61,15 +58,18 @@ loop-less c = omega arith
 
 loop-again : tie.Need-loop-again Inv-loop μ-loop
 loop-again c =
-    let d = c .before in
-    let l = d .before .before .before .before in
-    let a = l .before .before .args in
+    let d = c .before .before in
+    let l = c .before .before .before .before .before .before in
+    let a = l .before .before .before .args in
     let n = l .loop .inv .0 in
     let from = a .at + headLength * l .loop .i + numbersLength in
     let part : take (from + 16 - from) (drop from (a .tables .now)) ≡ take 16 (drop from (a .tables .now)) = rw add-sub-cancel-left in (
-      omega arith,
-      λ k. gathered-next _ _ _ k _ _ (l .loop .inv .1 k) (d .before .before .before .loop-test .taken) _ _ (omega arith) part (d .copy-at .ensures),
+      d .copy-at .kept .0 ∙ n,
+      λ k. gathered-next _ _ _ k _ _ (l .loop .inv .1 k) (c .before .before .before .before .before .loop-test .taken) _ _ (omega arith) part (d .copy-at .ensures),
     )
+
+same-length : tie.Need-same-length Inv-loop μ-loop
+same-length c = c .before .loop .inv .0
 
 returns : tie.Need-returns Inv-loop μ-loop
 returns c = let l = c .before in λ k. gathered-all _ _ _ k _ _ (l .loop .inv .1 k) (c .loop-test .left)
@@ -85,7 +85,6 @@ gather-spec =
     add-from
     add-from-2
     add-to
-    slice-aggregate-copy-at
     mul-copy-at
     sub-copy-at
     part-copy-at-start
@@ -94,4 +93,5 @@ gather-spec =
     add-i
     loop-less
     loop-again
+    same-length
     returns)

@@ -71,7 +71,7 @@ fn common_bytes(a: &[u8], b: &[u8], n: usize) -> usize
 }
 
 // The place of the first word of eight bytes that differs; where none before the last does, that of the last, which may overlap the one
-// before it.
+// before it. Two words a turn: turns of one are so short that their time depends on where the linker puts them.
 fn deciding_word(a: &[u8], b: &[u8], n: usize) -> usize
     requires { ⌜ (8 ≤ n) × (n ≤ length (now a)) × (n ≤ length (now b)) ⌝ }
     ensures { λ r. ⌜ DecidingWord (now (a .entry)) (now (b .entry)) n r ⌝ }
@@ -82,7 +82,14 @@ fn deciding_word(a: &[u8], b: &[u8], n: usize) -> usize
         if number::get_u64(a, i) != number::get_u64(b, i) {
             return i;
         }
-        i += 8;
+        let j = i + 8;
+        if last <= j {
+            return last;
+        }
+        if number::get_u64(a, j) != number::get_u64(b, j) {
+            return j;
+        }
+        i = j + 8;
     }
     last
 }

@@ -25,7 +25,7 @@ fn sweep_whole(tables: &mut [u8], arena: &mut [u8], stamp: u64, most: u32) -> Sw
         if !due.found {
             return Sweep { count, more: false };
         }
-        uploading::abort::abort_whole(tables, arena, UploadNumber(due.number));
+        aborts::abort_whole(tables, arena, UploadNumber(due.number));
         count += 1;
     }
     let due = find::first_due(tables, arena, stamp);

@@ -1,3 +1,0 @@
-pub mod Aborting
-pub mod Initiating
-pub mod Parting

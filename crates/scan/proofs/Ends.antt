@@ -13,11 +13,12 @@ use Rattle.row.proofs.RowLaws.{here-inside, rest-good}
 use Rattle.layout.specs.declared.Header.{Header}
 use Rattle.layout.specs.Rules.{all, objectOk, objectNext, start}
 use Rattle.layout.specs.Memory.{headerOk, uploadTables, uploadArena, uploadRowsAt, objectsGood, uploadsGood, wholeOf}
-use Rattle.scan.specs.declared.Offset.{Offset}
+use Rattle.scan_objects.specs.declared.Offset.{Offset}
 use Rattle.layout.specs.Header.{headerAt, headerLength}
-use Rattle.scan.specs.declared.Scan.{Scan}
-use Rattle.scan.specs.declared.Scan.the-variants.{Bad, Good}
-use Rattle.scan.specs.Scan.{past, pastAll, objectScan, entriesOk, first, rowsOk}
+use Rattle.scan_objects.specs.declared.Scan.{Scan}
+use Rattle.scan_objects.specs.declared.Scan.the-variants.{Bad, Good}
+use Rattle.scan_objects.specs.Scan.{past, pastAll, objectScan}
+use Rattle.scan.specs.Scan.{entriesOk, first, rowsOk}
 
 rest-tables : (t : List ℕ) (o : Offset) → drop (past o (headAt (drop (o .at) t)) .at) t ≡ drop (spanAt (drop (o .at) t)) (drop (o .at) t)
 unfolding spanAt

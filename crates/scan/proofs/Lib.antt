@@ -1,5 +1,3 @@
 pub mod Readings
-pub mod Turns
-pub mod ObjectTurns
 pub mod EntryTurns
 pub mod Ends

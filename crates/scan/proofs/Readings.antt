@@ -1,51 +1,29 @@
--- What is read at a place of the tables, on plain lists. Assumes nothing.
-use Prim.Native.Nat.{ℕ, zero, suc, _+_, _-_, _*_, _^_, _≤_, Ordering, Ordering·lt, Ordering·eq, Ordering·gt}
+-- What is read of an upload and of a part, on plain lists. Assumes nothing.
+use Prim.Native.Nat.{ℕ, zero, suc, _+_, _-_, _*_, _^_, _≤_}
 use mathlib.Core.Path.{_≡_, refl, sym, ap, _∙_}
-use mathlib.Core.Bool.{Bool, true, false, _&&_, cond}
+use mathlib.Core.Bool.{Bool, true, false}
 use mathlib.Core.List.{List}
 use native.Mathlib.Omega.{arith}
 use borrow.Author.Tests.{eqb-true, eqb-false, le-leb}
 use lib.Dec.{leb, eqb, lit<}
-use lib.ListN.{length, take, drop, replicate, length-take, length-drop}
+use lib.ListN.{length, take, drop, replicate}
 use lib.Seq.{take-all}
 use Rattle.number.specs.Number.{fromLe, AreBytes}
 use Rattle.number.proofs.NumberLaws.{fromLe-same}
 use Rattle.number.proofs.Halves.{get-halves}
-use Rattle.order.specs.Order.{byBytes, same}
+use Rattle.order.specs.Order.{same}
 use Rattle.order.proofs.OrderLaws.{same-self, same-false}
-use Rattle.order.specs.Compared.{orderOf}
-use Rattle.order.specs.declared.Order.{Order}
-use Rattle.order.specs.declared.Order.the-variants.{Less, Equal, Greater}
 use Rattle.machine.proofs.Options.{both}
 use Rattle.stored_pairs.specs.Stored.{blockOk}
-use Rattle.stored_pairs.proofs.Blocks.{block, block-none}
+use Rattle.stored_pairs.proofs.Blocks.{block}
 use Rattle.row.specs.declared.Head.{Head}
-use Rattle.row.specs.Row.{headAt, spanAt, inside, headLength, span}
-use Rattle.scan.specs.declared.Reading.the-variants.{Short, Fits}
+use Rattle.row.specs.Row.{headAt, headLength, span}
 use Rattle.layout.specs.declared.Mark.{Mark}
-use Rattle.layout.specs.Rules.{isLess, noDigest, partKind, pairsRule, partRule}
+use Rattle.layout.specs.Rules.{noDigest, partKind, pairsRule, partRule}
 use Rattle.layout.proofs.TestLaws.{all-true}
-use Rattle.scan.specs.Scan.{readingOf}
-
--- the tests of `read_row`
-pub reading-is : (t : List ℕ) (at : ℕ) (a : List ℕ) (base : ℕ) (h : Head) (n : ℕ) → h ≡ headAt (drop at t) → n ≡ span h
-    → readingOf (drop at t) (drop base a) ≡ cond (leb headLength (length t - at) && (leb n (length t - at) && leb (h .size) (length a - base))) (Fits h) Short
-unfolding readingOf inside spanAt
-reading-is t at a base h n e f = rw (length-drop at t, length-drop base a, f, e)
-
--- what `compare` answers, as a test
-abbrev answered : Order → Bool
-answered Less = true
-answered Equal = false
-answered Greater = false
-
-pub less-answered : (a b : List ℕ) (r k : Order) → r ≡ orderOf (byBytes a b) → r ≡ k → answered k ≡ isLess (byBytes a b)
-less-answered a b r k e q = ap answered (sym q ∙ e) ∙ same-answer (byBytes a b)
-  where
-    same-answer : (o : Ordering) → answered (orderOf o) ≡ isLess o
-    same-answer Ordering·lt = refl
-    same-answer Ordering·eq = refl
-    same-answer Ordering·gt = refl
+use Rattle.scan_objects.specs.declared.Reading.the-variants.{Fits}
+use Rattle.scan_objects.specs.Scan.{readingOf}
+use Rattle.scan_objects.proofs.Readings.{reading-is}
 
 -- sixteen bytes are 0 where the two numbers in them are
 bytes-zeros : (n : ℕ) → AreBytes (replicate n 0)
@@ -78,10 +56,6 @@ module _ (d : List ℕ) (lo hi : ℕ) (b : AreBytes d) (n : length d ≡ 16) (l 
 pub lengths-few : (most : ℕ) (h : Head) (lengths content : List ℕ) → pairsRule most h lengths content ≡ true → length lengths ≤ 16
 unfolding pairsRule
 lengths-few most h lengths content e = block lengths content (both (leb (h .pairs) most) (blockOk lengths content) e .1) .few
-
--- a row without pairs may stand
-pub no-pairs : (most n : ℕ) (t content : List ℕ) → n ≡ 0 → leb n most && blockOk (take (2 * n) t) content ≡ true
-no-pairs most n t content e = rw (le-leb n most (omega arith), block-none (take (2 * n) t) content (omega (arith, length-take (2 * n) t)))
 
 -- a part's row is its head alone
 module _ (m : Mark) (h : Head) (e : partRule m h ≡ true) where

@@ -5,14 +5,15 @@ ghost use Prim.Native.Nat.{ℕ, _+_, _-_, _≤_};
 ghost use lib.ListN.{length, drop};
 ghost use Rattle.order.specs.Order.{same};
 ghost use Rattle.layout.specs.Rules.{entryRule, noDigest, uploadRule, partRule, markAfter, start};
-ghost use Rattle.scan.specs.Scan.{readingOf, opensOne, entriesOk};
-ghost use Rattle.scan.specs.declared.Reading.the-variants.{Fits};
+ghost use Rattle.scan_objects.specs.Scan.{readingOf};
+ghost use Rattle.scan.specs.Scan.{opensOne, entriesOk};
+ghost use Rattle.scan_objects.specs.declared.Reading.the-variants.{Fits};
 ghost use Rattle.row.specs.declared.Head.{Head};
-use crate::Offset;
-use crate::Reading;
-use crate::rows;
 use layout::Mark;
 use row::Head;
+use scan_objects::Offset;
+use scan_objects::Reading;
+use scan_objects::rows;
 
 // Where a run of parts ends: the number of the next row, its offset, and the mark after the parts.
 struct Run {

@@ -1,35 +1,17 @@
 // The test "whole", over any bytes.
 mod entries;
-mod objects;
-mod rows;
 
 use layout::Header;
 use layout::headers;
-use row::Head;
+use scan_objects::Offset;
+use scan_objects::Scan;
+use scan_objects::objects;
 ghost use mathlib.Core.Path.{_≡_};
 ghost use Prim.Native.Nat.{_≤_};
 ghost use lib.ListN.{length};
 ghost use Rattle.scan.specs.Scan.{rowsOk};
 ghost use Rattle.layout.specs.Header.{headerLength};
 ghost use Rattle.layout.specs.Memory as memory;
-
-// What stands at an offset: the head of a row that fits there with its data.
-pub enum Reading {
-    Short,
-    Fits(Head),
-}
-
-// Where a row stands in the tables, and its data in the arena.
-pub struct Offset {
-    pub at: usize,
-    pub base: usize,
-}
-
-// What a scan of rows finds: that they do not stand, or where they end.
-pub enum Scan {
-    Bad,
-    Good(Offset),
-}
 
 // Whether all rows stand after a header.
 fn rows_ok(tables: &[u8], arena: &[u8], h: Header, most: u8) -> bool

@@ -7,10 +7,11 @@ use borrow.Author.Needs.{needs}
 use lib.ListN.{length, drop}
 use Rattle.row.specs.declared.Head.{Head}
 use Rattle.row.specs.Row.{span}
-use Rattle.scan.specs.declared.Offset.{Offset}
-use Rattle.scan.specs.declared.Reading.the-variants.{Fits}
-use Rattle.scan.specs.Scan.{readingOf, entriesOk}
-use Rattle.scan.proofs.Turns.{row-in, data-in, digest-length}
+use Rattle.scan_objects.specs.declared.Offset.{Offset}
+use Rattle.scan_objects.specs.declared.Reading.the-variants.{Fits}
+use Rattle.scan_objects.specs.Scan.{readingOf}
+use Rattle.scan.specs.Scan.{entriesOk}
+use Rattle.scan_objects.proofs.Turns.{row-in, data-in, digest-length}
 use Rattle.scan.proofs.EntryTurns.{opens-small, entries-end, entries-short, entries-wrong, entries-next}
 use native.Mathlib.Omega.{arith}
 use Rattle.scan.proofs.entries.entries_ok.Statement.{statement}

@@ -1,4 +1,4 @@
--- `scan::objects::object_ok` meets its contract: the tests are the definition's. Assumes nothing.
+-- `scan_objects::objects::object_ok` meets its contract: the tests are the definition's. Assumes nothing.
 use Prim.Native.Nat.{_-_, _*_, _≤_, _<_}
 use mathlib.Core.Path.{_≡_, sym, _∙_}
 use mathlib.Core.Bool.{_&&_, cond}
@@ -8,8 +8,8 @@ use Rattle.order.specs.Order.{byBytes}
 use Rattle.names.proofs.Tests.{tests, said-no, said-yes}
 use Rattle.layout.specs.Rules.{all, isLess, pairsRule, objectRule, plainKind, partsMost}
 use borrow.Author.Needs.{needs}
-use Rattle.scan.proofs.objects.object_ok.Statement.{statement}
-use Rattle.scan.proofs.objects.object_ok.Tie as tie
+use Rattle.scan_objects.proofs.objects.object_ok.Statement.{statement}
+use Rattle.scan_objects.proofs.objects.object_ok.Tie as tie
 
 returns : tie.Need-returns
 unfolding all objectRule

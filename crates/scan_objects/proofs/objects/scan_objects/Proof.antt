@@ -1,4 +1,4 @@
--- `scan::objects::scan_objects` meets its contract. The invariant: the scan of all rows is the scan of those not yet passed. Assumes nothing.
+-- `scan_objects::objects::scan_objects` meets its contract. The invariant: the scan of all rows is the scan of those not yet passed. Assumes nothing.
 use Prim.Native.Nat.{ℕ, _+_, _-_, _≤_}
 use mathlib.Core.Path.{_≡_, sym, _∙_}
 use mathlib.Core.List.{List, []}
@@ -7,14 +7,14 @@ use borrow.Author.Needs.{needs}
 use lib.ListN.{length, take, drop}
 use Rattle.row.specs.declared.Head.{Head}
 use Rattle.row.specs.Row.{span}
-use Rattle.scan.specs.declared.Offset.{Offset}
-use Rattle.scan.specs.declared.Reading.the-variants.{Fits}
-use Rattle.scan.specs.Scan.{readingOf, objectScan}
-use Rattle.scan.proofs.Turns.{row-in, data-in}
-use Rattle.scan.proofs.ObjectTurns.{objects-end, objects-short, objects-wrong, objects-next}
+use Rattle.scan_objects.specs.declared.Offset.{Offset}
+use Rattle.scan_objects.specs.declared.Reading.the-variants.{Fits}
+use Rattle.scan_objects.specs.Scan.{readingOf, objectScan}
+use Rattle.scan_objects.proofs.Turns.{row-in, data-in}
+use Rattle.scan_objects.proofs.ObjectTurns.{objects-end, objects-short, objects-wrong, objects-next}
 use native.Mathlib.Omega.{arith}
-use Rattle.scan.proofs.objects.scan_objects.Statement.{statement}
-use Rattle.scan.proofs.objects.scan_objects.Tie as tie
+use Rattle.scan_objects.proofs.objects.scan_objects.Statement.{statement}
+use Rattle.scan_objects.proofs.objects.scan_objects.Tie as tie
 
 abbrev Inv-loop : tie.InvT-loop
 Inv-loop t arena rows most at₀ base₀ last₀ last-end₀ i₀ at base last last-end i =

@@ -1,8 +1,8 @@
--- `scan::objects::ascend` meets its contract: the test of `compare`'s answer. Assumes nothing.
-use Rattle.scan.proofs.Readings.{less-answered}
+-- `scan_objects::objects::ascend` meets its contract: the test of `compare`'s answer. Assumes nothing.
+use Rattle.scan_objects.proofs.Readings.{less-answered}
 use borrow.Author.Needs.{needs}
-use Rattle.scan.proofs.objects.ascend.Statement.{statement}
-use Rattle.scan.proofs.objects.ascend.Tie as tie
+use Rattle.scan_objects.proofs.objects.ascend.Statement.{statement}
+use Rattle.scan_objects.proofs.objects.ascend.Tie as tie
 
 compare-requires : tie.Need-compare-requires
 compare-requires c κs = search needs

@@ -1,9 +1,9 @@
--- `scan::rows::pairs_ok` meets its contract: the tests are the definition's. Assumes nothing.
+-- `scan_objects::rows::pairs_ok` meets its contract: the tests are the definition's. Assumes nothing.
 use Rattle.layout.specs.Rules.{pairsRule}
 use Rattle.names.proofs.Tests.{tests}
 use borrow.Author.Needs.{needs}
-use Rattle.scan.proofs.rows.pairs_ok.Statement.{statement}
-use Rattle.scan.proofs.rows.pairs_ok.Tie as tie
+use Rattle.scan_objects.proofs.rows.pairs_ok.Statement.{statement}
+use Rattle.scan_objects.proofs.rows.pairs_ok.Tie as tie
 
 returns : tie.Need-returns
 unfolding pairsRule

@@ -7,7 +7,7 @@ ghost use lib.Dec.{eqb};
 ghost use lib.ListN.{length, take, drop};
 ghost use Rattle.order.specs.Order.{byBytes};
 ghost use Rattle.layout.specs.Rules.{plainKind, partsMost, isLess, objectRule};
-ghost use Rattle.scan.specs.Scan.{objectScan};
+ghost use Rattle.scan_objects.specs.Scan.{objectScan};
 use crate::Offset;
 use crate::Reading;
 use crate::Scan;
@@ -77,7 +77,7 @@ fn object_ok(
 
 // Whether the rows of objects stand from `from` on, and where they end. The path of the row passed stands from `last` to
 // `last_end`.
-pub(crate) fn scan_objects(t: &[u8], arena: &[u8], from: Offset, rows: u16, most: u8) -> Scan
+pub fn scan_objects(t: &[u8], arena: &[u8], from: Offset, rows: u16, most: u8) -> Scan
     requires { ⌜ (from .at ≤ length (now t)) × (from .base ≤ length (now arena)) ⌝ }
     ensures { λ r. ⌜ r ≡ objectScan most rows [] from (now (t .entry)) (now (arena .entry)) ⌝ }
 {

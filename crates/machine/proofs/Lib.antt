@@ -1,4 +1,5 @@
 pub mod Options
+pub mod Tests
 pub mod MapLaws
 pub mod MapSums
 pub mod MapSplits

@@ -1,5 +1,1 @@
-pub mod Tests
-pub mod FaultLaws
-pub mod BlockLaws
-pub mod LetterLaws
 pub mod PathLaws

@@ -1,7 +1,6 @@
 // The rules of paths, stamps and part numbers. What a request may name and what a store may hold is asked apart.
-mod letters;
-mod plain;
-
+use path_text::letters;
+use path_text::plain;
 ghost use mathlib.Core.Path.{_≡_};
 ghost use Prim.Native.Nat.{_-_, _≤_};
 ghost use lib.ListN.{length, take, drop};

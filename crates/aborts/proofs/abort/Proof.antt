@@ -1,6 +1,6 @@
 -- `aborts::abort` meets its contract: refused by 1, or over whole memory. Assumes nothing.
 use borrow.Author.Needs.{needs}
-use Rattle.names.proofs.Tests.{said-no, said-yes}
+use Rattle.machine.proofs.Tests.{said-no, said-yes}
 use Rattle.contract.proofs.MadeLaws.{one-not-zero, not-whole, over-whole}
 use Rattle.aborts.proofs.abort.Statement.{statement}
 use Rattle.aborts.proofs.abort.Tie as tie

@@ -1,5 +1,5 @@
 -- `carries::carry_over` meets its contract: a length, the former test, and a copy. Assumes nothing.
-use Rattle.names.proofs.Tests.{said-no, said-yes}
+use Rattle.machine.proofs.Tests.{said-no, said-yes}
 use Rattle.carries.proofs.Carrying.{other-length, not-whole, former-fits, carried-over}
 use native.Mathlib.Omega.{arith}
 use borrow.Author.Needs.{needs}

@@ -1,6 +1,6 @@
 -- `copies::copy` meets its contract: refused by 1, or over whole memory. Assumes nothing.
 use borrow.Author.Needs.{needs}
-use Rattle.names.proofs.Tests.{said-no, said-yes}
+use Rattle.machine.proofs.Tests.{said-no, said-yes}
 use Rattle.contract.proofs.MadeLaws.{one-not-zero, not-whole, over-whole}
 use Rattle.copies.proofs.copy.Statement.{statement}
 use Rattle.copies.proofs.copy.Tie as tie

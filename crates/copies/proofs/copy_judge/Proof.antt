@@ -1,7 +1,7 @@
 -- `copies::copy_judge` meets its contract: stamp and paths, then the source. Assumes nothing.
 use mathlib.Core.Path.{_∙_}
 use native.Mathlib.Omega.{arith}
-use Rattle.names.proofs.Tests.{said-no, said-yes}
+use Rattle.machine.proofs.Tests.{said-no, said-yes}
 use Rattle.contract.specs.Made.{memory}
 use Rattle.copies.proofs.Sources.{copy-bad, copy-judged}
 use borrow.Author.Needs.{needs}

@@ -3,7 +3,7 @@ use mathlib.Core.Path.{_≡_, _∙_}
 use mathlib.Core.Bool.{true, false}
 use native.Mathlib.Omega.{arith}
 use borrow.Author.Needs.{needs}
-use Rattle.names.proofs.Tests.{said-no, said-yes}
+use Rattle.machine.proofs.Tests.{said-no, said-yes}
 use Rattle.machine.specs.Names.{stampOk, newPathOk}
 use Rattle.machine.specs.Pairs.{pairsOk, pairList}
 use Rattle.contract.specs.Made.{memory}

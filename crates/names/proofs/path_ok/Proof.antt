@@ -4,7 +4,7 @@ use native.Mathlib.Omega.{arith}
 use borrow.Author.Needs.{needs}
 use Rattle.machine.specs.Names.{pathOk}
 use Rattle.names.proofs.PathLaws.{plain-ok}
-use Rattle.names.proofs.Tests.{tests}
+use Rattle.machine.proofs.Tests.{tests}
 use Rattle.names.proofs.path_ok.Statement.{statement}
 use Rattle.names.proofs.path_ok.Tie as tie
 

@@ -3,7 +3,7 @@ use mathlib.Core.Path.{_≡_}
 use mathlib.Core.Bool.{true}
 use borrow.Author.Needs.{needs}
 use borrow.Author.Tests.{not-true, not-false}
-use Rattle.names.proofs.Tests.{said-no, said-yes}
+use Rattle.machine.proofs.Tests.{said-no, said-yes}
 use Rattle.machine.specs.Names.{requestPathOk}
 use Rattle.reads.proofs.Lookups.{is-root, is-bad, is-absent, is-object}
 use Rattle.reads.proofs.look_up.Statement.{statement}

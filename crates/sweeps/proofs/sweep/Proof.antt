@@ -1,6 +1,6 @@
 -- `sweeps::sweep` meets its contract: refused by 1 or 2, or swept. Assumes nothing.
 use borrow.Author.Needs.{needs}
-use Rattle.names.proofs.Tests.{said-no, said-yes}
+use Rattle.machine.proofs.Tests.{said-no, said-yes}
 use Rattle.contract.specs.Made.{memory}
 use Rattle.contract.proofs.MadeLaws.{not-whole, over-whole}
 use Rattle.sweeps.proofs.Accepting.{bad-stamp, swept-made}

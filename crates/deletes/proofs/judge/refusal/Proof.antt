@@ -2,7 +2,7 @@
 use mathlib.Core.Path.{_≡_}
 use borrow.Author.Needs.{needs}
 use borrow.Author.Tests.{eq-eqb, ne-eqb, le-leb, lt-leb}
-use Rattle.names.proofs.Tests.{said-no, said-yes}
+use Rattle.machine.proofs.Tests.{said-no, said-yes}
 use Rattle.contract.specs.Made.{memory}
 use Rattle.deletes.specs.Judged.{listRefusal, Judged}
 use Rattle.deletes.proofs.Judging.{no-store, list-judged}

@@ -1,7 +1,7 @@
 -- `layout::headers::header_ok` meets its contract: the tests are the definition's. Assumes nothing.
 use Rattle.layout.specs.Rules.{all}
 use Rattle.layout.specs.Memory.{headerOk}
-use Rattle.names.proofs.Tests.{tests}
+use Rattle.machine.proofs.Tests.{tests}
 use borrow.Author.Needs.{needs}
 use Rattle.layout.proofs.headers.header_ok.Statement.{statement}
 use Rattle.layout.proofs.headers.header_ok.Tie as tie

@@ -3,7 +3,7 @@ use native.Mathlib.Omega.{arith}
 use borrow.Author.Needs.{needs}
 use mathlib.Core.Path.{ap, _∙_}
 use lib.ListN.{length, drop}
-use Rattle.names.proofs.Tests.{said-no, said-yes}
+use Rattle.machine.proofs.Tests.{said-no, said-yes}
 use Rattle.machine.specs.Etags.{text}
 use Rattle.row.specs.declared.Head.{Head}
 use Rattle.row.specs.Row.{digestAt}

@@ -1,7 +1,7 @@
 -- `listing::paths::has_path` meets its contract: the prefix first, then the suffix of the rest. Assumes nothing.
 use native.Mathlib.Omega.{arith}
 use borrow.Author.Needs.{needs}
-use Rattle.names.proofs.Tests.{said-no, said-yes}
+use Rattle.machine.proofs.Tests.{said-no, said-yes}
 use Rattle.listing.proofs.RowLengths.{long-enough, has-not, has-rest}
 use Rattle.listing.proofs.paths.has_path.Statement.{statement}
 use Rattle.listing.proofs.paths.has_path.Tie as tie

@@ -1,7 +1,7 @@
 -- `listing::writing::write_row` meets its contract: nothing, or the record. Assumes nothing.
 use borrow.Author.Needs.{needs}
 use lib.ListN.{drop}
-use Rattle.names.proofs.Tests.{said-no, said-yes}
+use Rattle.machine.proofs.Tests.{said-no, said-yes}
 use Rattle.listing.proofs.RowsWritten.{none-written, one-room, one-written}
 use Rattle.listing.proofs.writing.write_row.Statement.{statement}
 use Rattle.listing.proofs.writing.write_row.Tie as tie

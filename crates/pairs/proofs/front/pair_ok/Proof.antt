@@ -1,7 +1,7 @@
 -- `pairs::front::pair_ok` meets its contract. Assumes nothing.
 use mathlib.Core.Path.{ap, _∙_}
 use borrow.Author.Needs.{needs}
-use Rattle.names.proofs.Tests.{said-no, said-yes}
+use Rattle.machine.proofs.Tests.{said-no, said-yes}
 use Rattle.pairs.proofs.FrontLaws.{ok-cut, ok-key, ok-value}
 use Rattle.machine.specs.Pairs.{keyOk, valueOk}
 use Rattle.pairs.proofs.front.pair_ok.Statement.{statement}

@@ -5,7 +5,7 @@ use mathlib.Core.List.{List}
 use native.Mathlib.Omega.{arith}
 use lib.ListN.{length, drop}
 use Rattle.machine.specs.Pairs.{every, pairOk, pairList}
-use Rattle.names.proofs.Tests.{said-no, said-yes}
+use Rattle.machine.proofs.Tests.{said-no, said-yes}
 use Rattle.pairs.proofs.Passing.{none-left, formed-no, ok-fits, formed-next}
 use Rattle.pairs.proofs.judging.formed.Statement.{statement}
 use Rattle.pairs.proofs.judging.formed.Tie as tie

@@ -2,7 +2,7 @@
 use native.Mathlib.Omega.{arith}
 use borrow.Author.Needs.{needs}
 use Rattle.pairs.proofs.Keeping.{judge-form, judge-many, judge-keys}
-use Rattle.names.proofs.Tests.{said-no, said-yes}
+use Rattle.machine.proofs.Tests.{said-no, said-yes}
 use Rattle.machine.specs.Pairs.{pairList}
 use Rattle.pairs.proofs.judging.judge.Statement.{statement}
 use Rattle.pairs.proofs.judging.judge.Tie as tie

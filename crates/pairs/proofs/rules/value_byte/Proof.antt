@@ -1,6 +1,6 @@
 -- `pairs::rules::value_byte` meets its contract. Assumes nothing.
 use Rattle.machine.specs.Pairs.{valueByte}
-use Rattle.names.proofs.Tests.{tests}
+use Rattle.machine.proofs.Tests.{tests}
 use Rattle.pairs.proofs.rules.value_byte.Statement.{statement}
 use Rattle.pairs.proofs.rules.value_byte.Tie as tie
 

@@ -4,7 +4,7 @@ use mathlib.Core.Path.{_≡_, refl}
 use native.Mathlib.Omega.{arith}
 use borrow.Author.Tests.{le-leb}
 use lib.ListN.{drop}
-use Rattle.names.proofs.Tests.{tests, said-no, said-yes}
+use Rattle.machine.proofs.Tests.{tests, said-no, said-yes}
 use Rattle.pairs.proofs.RuleLaws.{every-no, every-next, every-all}
 use Rattle.machine.specs.Pairs.{every, valueByte, valueOk}
 use Rattle.pairs.proofs.rules.value_ok.Statement.{statement}

@@ -1,5 +1,5 @@
 -- `scan::entries::entry_ok` meets its contract: the test is the definition's. Assumes nothing.
-use Rattle.names.proofs.Tests.{tests}
+use Rattle.machine.proofs.Tests.{tests}
 use borrow.Author.Needs.{needs}
 use Rattle.layout.specs.Rules.{entryRule}
 use Rattle.scan.proofs.entries.entry_ok.Statement.{statement}

@@ -1,6 +1,6 @@
 -- `scan::entries::mark_after` meets its contract: the tests are the definition's. Assumes nothing.
 use Rattle.layout.specs.Rules.{markAfter}
-use Rattle.names.proofs.Tests.{tests}
+use Rattle.machine.proofs.Tests.{tests}
 use Rattle.scan.proofs.entries.mark_after.Statement.{statement}
 use Rattle.scan.proofs.entries.mark_after.Tie as tie
 

@@ -1,6 +1,6 @@
 -- `scan::entries::opening` meets its contract: the test is the definition's. Assumes nothing.
 use Rattle.scan.specs.Scan.{opensOne}
-use Rattle.names.proofs.Tests.{tests}
+use Rattle.machine.proofs.Tests.{tests}
 use Rattle.scan.proofs.entries.opening.Statement.{statement}
 use Rattle.scan.proofs.entries.opening.Tie as tie
 

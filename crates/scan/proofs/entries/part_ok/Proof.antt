@@ -1,6 +1,6 @@
 -- `scan::entries::part_ok` meets its contract: the tests are the definition's. Assumes nothing.
 use Rattle.layout.specs.Rules.{all, partRule}
-use Rattle.names.proofs.Tests.{tests}
+use Rattle.machine.proofs.Tests.{tests}
 use borrow.Author.Needs.{needs}
 use Rattle.scan.proofs.entries.part_ok.Statement.{statement}
 use Rattle.scan.proofs.entries.part_ok.Tie as tie

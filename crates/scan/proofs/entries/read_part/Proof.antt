@@ -1,5 +1,5 @@
 -- `scan::entries::read_part` meets its contract: a part's row is its head alone, so it fits where that does. Assumes nothing.
-use Rattle.names.proofs.Tests.{said-yes}
+use Rattle.machine.proofs.Tests.{said-yes}
 use Rattle.scan.proofs.Readings.{part-fits}
 use borrow.Author.Needs.{needs}
 use Rattle.scan.proofs.entries.read_part.Statement.{statement}

@@ -4,7 +4,7 @@ use mathlib.Core.Bool.{_&&_}
 use native.Mathlib.Omega.{arith}
 use lib.Dec.{eqb}
 use Rattle.order.specs.Order.{same}
-use Rattle.names.proofs.Tests.{tests, said-no, said-yes}
+use Rattle.machine.proofs.Tests.{tests, said-no, said-yes}
 use Rattle.stored_pairs.specs.Stored.{sumOf}
 use Rattle.layout.specs.Rules.{all, noDigest, pairsRule, uploadRule}
 use Rattle.scan.proofs.Readings.{lengths-few}

@@ -1,5 +1,5 @@
 -- `scan_objects::objects::most_parts` meets its contract: the tests are the definition's. Assumes nothing.
-use Rattle.names.proofs.Tests.{tests}
+use Rattle.machine.proofs.Tests.{tests}
 use borrow.Author.Needs.{needs}
 use Rattle.scan_objects.proofs.objects.most_parts.Statement.{statement}
 use Rattle.scan_objects.proofs.objects.most_parts.Tie as tie

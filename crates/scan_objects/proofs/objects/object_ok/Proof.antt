@@ -5,7 +5,7 @@ use mathlib.Core.Bool.{_&&_, cond}
 use lib.Dec.{eqb}
 use lib.ListN.{take, drop}
 use Rattle.order.specs.Order.{byBytes}
-use Rattle.names.proofs.Tests.{tests, said-no, said-yes}
+use Rattle.machine.proofs.Tests.{tests, said-no, said-yes}
 use Rattle.layout.specs.Rules.{all, isLess, pairsRule, objectRule, plainKind, partsMost}
 use borrow.Author.Needs.{needs}
 use Rattle.scan_objects.proofs.objects.object_ok.Statement.{statement}

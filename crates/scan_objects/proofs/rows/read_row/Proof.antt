@@ -4,7 +4,7 @@ use mathlib.Core.Path.{_≡_, refl}
 use mathlib.Core.Bool.{_&&_, cond}
 use lib.Dec.{leb}
 use lib.ListN.{length, drop}
-use Rattle.names.proofs.Tests.{tests}
+use Rattle.machine.proofs.Tests.{tests}
 use Rattle.row.specs.Row.{headLength}
 use Rattle.scan_objects.specs.declared.Reading.the-variants.{Short, Fits}
 use Rattle.scan_objects.specs.Scan.{readingOf}

@@ -1,7 +1,7 @@
 -- `stored_pairs::sorting::is_better` meets its contract. Assumes nothing.
 use borrow.Author.Tests.{not-true, not-false}
 use borrow.Author.Needs.{needs}
-use Rattle.names.proofs.Tests.{said-no, said-yes}
+use Rattle.machine.proofs.Tests.{said-no, said-yes}
 use Rattle.stored_pairs.proofs.Picking.{better-system, better-low, better-first, better-key}
 use Rattle.stored_pairs.proofs.sorting.is_better.Statement.{statement}
 use Rattle.stored_pairs.proofs.sorting.is_better.Tie as tie

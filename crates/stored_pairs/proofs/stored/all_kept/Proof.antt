@@ -3,7 +3,7 @@ use Prim.Native.Nat.{ℕ, _-_, _≤_}
 use mathlib.Core.List.{List}
 use native.Mathlib.Omega.{arith}
 use lib.ListN.{length}
-use Rattle.names.proofs.Tests.{said-no, said-yes}
+use Rattle.machine.proofs.Tests.{said-no, said-yes}
 use Rattle.stored_pairs.proofs.Storing.{Kept, kept-none, kept-odd, kept-all, kept-no, kept-next, pair-inside}
 use Rattle.stored_pairs.proofs.stored.all_kept.Statement.{statement}
 use Rattle.stored_pairs.proofs.stored.all_kept.Tie as tie

@@ -2,7 +2,7 @@
 use mathlib.Core.Path.{sym, _∙_}
 use borrow.Author.Needs.{needs}
 use Rattle.stored_pairs.proofs.Storing.{after-key, after-value, after-system, after-below}
-use Rattle.names.proofs.Tests.{said-no, said-yes}
+use Rattle.machine.proofs.Tests.{said-no, said-yes}
 use Rattle.stored_pairs.proofs.stored.kept_after.Statement.{statement}
 use Rattle.stored_pairs.proofs.stored.kept_after.Tie as tie
 

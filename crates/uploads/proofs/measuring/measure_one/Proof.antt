@@ -1,7 +1,7 @@
 -- `uploads::measuring::measure_one` meets its contract. Assumes nothing.
 use native.Mathlib.Omega.{arith}
 use borrow.Author.Needs.{needs}
-use Rattle.names.proofs.Tests.{said-no, said-yes}
+use Rattle.machine.proofs.Tests.{said-no, said-yes}
 use Rattle.uploads.proofs.measuring.measure_one.Statement.{statement}
 use Rattle.uploads.proofs.measuring.measure_one.Tie as tie
 

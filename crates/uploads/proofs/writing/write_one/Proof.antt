@@ -1,6 +1,6 @@
 -- `uploads::writing::write_one` meets its contract: nothing is written, or a record. Assumes nothing.
 use borrow.Author.Needs.{needs}
-use Rattle.names.proofs.Tests.{said-no, said-yes}
+use Rattle.machine.proofs.Tests.{said-no, said-yes}
 use Rattle.uploads.proofs.RecordBytes.{none-written, one-fits, one-written}
 use Rattle.uploads.proofs.writing.write_one.Statement.{statement}
 use Rattle.uploads.proofs.writing.write_one.Tie as tie

@@ -1,5 +1,5 @@
 -- `writes::judges::delete_judge` meets its contract: the path, then whether it is there. Assumes nothing.
-use Rattle.names.proofs.Tests.{said-no, said-yes}
+use Rattle.machine.proofs.Tests.{said-no, said-yes}
 use borrow.Author.Tests.{not-true, not-false}
 use Rattle.contract.specs.Made.{memory}
 use Rattle.writes.proofs.Deleting.{delete-bad, delete-absent, delete-judged}

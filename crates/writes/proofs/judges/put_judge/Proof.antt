@@ -8,7 +8,7 @@ use lib.ListN.{length}
 use borrow.Author.Needs.{needs}
 use Rattle.machine.specs.Pairs.{pairsOk, pairMap, pairsHeld, pairList}
 use Rattle.machine.proofs.PairLaws.{formed-is, held-is, kept-held, taken-kept}
-use Rattle.names.proofs.Tests.{said-no, said-yes}
+use Rattle.machine.proofs.Tests.{said-no, said-yes}
 use Rattle.contract.specs.Made.{memory}
 use Rattle.writes.proofs.Putting.{put-bad, put-judged}
 use Rattle.writes.proofs.judges.put_judge.Statement.{statement}

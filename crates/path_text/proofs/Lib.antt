@@ -1,0 +1,4 @@
+pub mod FaultLaws
+pub mod BlockLaws
+pub mod LetterLaws
+pub mod PathLaws

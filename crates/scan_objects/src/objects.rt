@@ -38,7 +38,7 @@ fn ascend(a: &[u8], b: &[u8]) -> bool
 }
 
 // Whether the row of an object, with its path from `path` to `end` and its block at `base`, may stand after one whose path
-// is `last`.
+// is `last`. Tests are in the order that takes the least time; most objects count no parts.
 fn object_ok(
     most: u8,
     last: &[u8],
@@ -54,22 +54,24 @@ fn object_ok(
     ensures { λ r. ⌜ r ≡ objectRule most (now (last .entry)) h (take (end - path) (drop path (now (t .entry))))
         (take (2 * h .pairs) (drop end (now (t .entry)))) (take (h .size) (drop base (now (arena .entry)))) ⌝ }
 {
+    if layout::JOINED_KIND < h.kind {
+        return false;
+    }
+    if h.count != 0 {
+        if most_parts(h.kind) < h.count {
+            return false;
+        }
+    }
     if h.number != 0 {
         return false;
     }
     if h.stamp < 1 {
         return false;
     }
-    if layout::JOINED_KIND < h.kind {
-        return false;
-    }
-    if most_parts(h.kind) < h.count {
+    if !ascend(last, &t[path..end]) {
         return false;
     }
     if !names::stored_path_ok_at(t, path, end) {
-        return false;
-    }
-    if !ascend(last, &t[path..end]) {
         return false;
     }
     rows::pairs_ok_at(most, h, t, end, arena, base)

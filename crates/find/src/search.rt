@@ -5,10 +5,10 @@ use crate::counts::read_counts;
 use row::Head;
 ghost use mathlib.Core.Path.{_≡_};
 ghost use mathlib.Core.Bool.{true};
-ghost use Prim.Native.Nat.{_+_};
+ghost use Prim.Native.Nat.{_+_, _≤_};
 ghost use lib.ListN.{drop};
 ghost use Rattle.layout.specs.Memory.{whole};
-ghost use Rattle.find.specs.Search.{stopsAt, sought, rowPlaceAt, leads, leader};
+ghost use Rattle.find.specs.Search.{IsRowPlace, stopsAt, sought, rowPlaceAt, leads, leader};
 ghost use Rattle.find.specs.Known.{rowsIn, WholeRow, WholePlace};
 
 // Where a search along the rows stops: after them all; at the upload with a number, or the first above it; at the next
@@ -49,10 +49,14 @@ pub fn next_row(tables: &[u8], arena: &[u8], from: RowPlace) -> RowPlace
     }
 }
 
-// From a row on, the first row at which the search stops, or the end of the rows.
-pub(crate) fn seek(tables: &[u8], arena: &[u8], from: RowPlace, goal: Goal) -> RowPlace
+// Passes rows that have no pairs, as most have none, up to one at which the search stops. The next row begins where the
+// path ends, which is known sooner than where pairs do.
+fn pass_rows(tables: &[u8], arena: &[u8], from: RowPlace, goal: Goal) -> RowPlace
     requires { ⌜ WholePlace (now tables) (now arena) from ⌝ }
-    ensures { λ r. ⌜ r ≡ sought goal (rowsIn (now (tables .entry)) (now (arena .entry))) (from .row) ⌝ }
+    ensures { λ r. ⌜ (from .row ≤ r .row)
+        × IsRowPlace (rowsIn (now (tables .entry)) (now (arena .entry))) r
+        × (sought goal (rowsIn (now (tables .entry)) (now (arena .entry))) (from .row)
+        ≡ sought goal (rowsIn (now (tables .entry)) (now (arena .entry))) (r .row)) ⌝ }
 {
     let counts = read_counts(tables, arena);
     let rows = counts.rows;
@@ -61,14 +65,36 @@ pub(crate) fn seek(tables: &[u8], arena: &[u8], from: RowPlace, goal: Goal) -> R
     let mut base = from.base;
     while row < rows {
         let h = row::read_head(tables, at);
+        if h.pairs != 0 {
+            return RowPlace { row, at, base };
+        }
         if stops(h, goal) {
             return RowPlace { row, at, base };
         }
-        at += row::span(h);
+        at += row::HEAD_LENGTH + h.pathlen as usize;
         base += h.size as usize;
         row += 1;
     }
     RowPlace { row, at, base }
+}
+
+// From a row on, the first row at which the search stops, or the end of the rows.
+pub(crate) fn seek(tables: &[u8], arena: &[u8], from: RowPlace, goal: Goal) -> RowPlace
+    requires { ⌜ WholePlace (now tables) (now arena) from ⌝ }
+    ensures { λ r. ⌜ r ≡ sought goal (rowsIn (now (tables .entry)) (now (arena .entry))) (from .row) ⌝ }
+{
+    let counts = read_counts(tables, arena);
+    let rows = counts.rows;
+    let mut here = pass_rows(tables, arena, from, goal);
+    while here.row < rows {
+        let h = row::read_head(tables, here.at);
+        if stops(h, goal) {
+            return here;
+        }
+        let next = next_row(tables, arena, here);
+        here = pass_rows(tables, arena, next, goal);
+    }
+    here
 }
 
 // The same from the first row on.

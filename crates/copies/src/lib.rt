@@ -55,12 +55,14 @@ fn source_judge(
         × (r .refusal ≡ 0 → CopyPlaced (now (tables .entry)) (now (arena .entry)) (now (source .entry))
         (now (destination .entry)) (r .source) (r .place) (r .end)) ⌝ }
 {
-    let from = find::find_object(tables, arena, source);
+    let looked_up = find::find_two(tables, arena, source, destination);
+    let from = looked_up.first;
     if !from.found {
         return refused(types::NOT_FOUND);
     }
     let h = row::read_head(tables, from.at);
-    let room = room::object_judge(tables, arena, destination, h.size as usize);
+    let to = looked_up.second;
+    let room = room::object_room(tables, arena, to, h.size as usize);
     let place = room.place;
     let end = room.end;
     CopyRoom {

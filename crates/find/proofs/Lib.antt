@@ -3,6 +3,7 @@ pub mod RowsAt
 pub mod Splits
 pub mod ObjectAt
 pub mod ObjectSearch
+pub mod TwoPaths
 pub mod Walk
 pub mod Searches
 pub mod Answers

@@ -10,6 +10,7 @@ ghost use mathlib.Core.Path.{_≡_};
 ghost use Rattle.find.specs.Places.{lookupOf, placeOf};
 pub use counts::read_counts;
 pub use objects::find_object;
+pub use objects::find_two;
 pub use pairs::pairs_size;
 pub use search::next_row;
 pub use uploads::find_part_after;
@@ -29,6 +30,12 @@ pub struct Lookup {
     pub row: usize,
     pub at: usize,
     pub base: usize,
+}
+
+// What the searches for two paths found.
+pub struct TwoLookups {
+    pub first: Lookup,
+    pub second: Lookup,
 }
 
 // The place of a row: its number among the rows, counted from 0, where it begins in the tables, and where its data

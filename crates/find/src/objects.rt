@@ -1,8 +1,10 @@
 // Where an object stands.
 use crate::Lookup;
 use crate::RowPlace;
+use crate::TwoLookups;
 use crate::counts::read_counts;
 use crate::lookup_at;
+use crate::place_of;
 use order::Order;
 ghost use mathlib.Core.Path.{_≡_};
 ghost use mathlib.Core.Bool.{true};
@@ -74,4 +76,37 @@ fn find_from(tables: &[u8], arena: &[u8], path: &[u8], start: RowPlace) -> Looku
         i += 1;
     }
     lookup_at(false, RowPlace { row: i, at, base })
+}
+
+// The places of the objects at two paths, in one pass: the search for the higher path begins where that for the lower one
+// ended.
+pub fn find_two(tables: &[u8], arena: &[u8], first: &[u8], second: &[u8]) -> TwoLookups
+    requires { ⌜ whole (now tables) (now arena) ≡ true ⌝ }
+    ensures { λ r. ⌜ (r .first ≡ objectPlace (stateOf (now (tables .entry)) (now (arena .entry))) (now (first .entry)))
+        × (r .second ≡ objectPlace (stateOf (now (tables .entry)) (now (arena .entry))) (now (second .entry))) ⌝ }
+{
+    let o = order::compare(first, second);
+    match o {
+        Order::Greater => {
+            let low = find_object(tables, arena, second);
+            TwoLookups {
+                first: find_from(tables, arena, first, place_of(low)),
+                second: low,
+            }
+        }
+        Order::Equal => {
+            let low = find_object(tables, arena, first);
+            TwoLookups {
+                first: low,
+                second: low,
+            }
+        }
+        Order::Less => {
+            let low = find_object(tables, arena, first);
+            TwoLookups {
+                first: low,
+                second: find_from(tables, arena, second, place_of(low)),
+            }
+        }
+    }
 }

@@ -15,11 +15,11 @@ use Rattle.copies.proofs.Sources.{judged-source, judged-missing}
 use Rattle.copies.proofs.source_judge.Statement.{statement}
 use Rattle.copies.proofs.source_judge.Tie as tie
 
-find-object-requires : tie.Need-find-object-requires
-find-object-requires c κs = search needs
+find-two-requires : tie.Need-find-two-requires
+find-two-requires c κs = search needs
 
--- once it is looked for
-module _ (f : tie.After-find-object) where
+-- once both are looked for
+module _ (f : tie.After-find-two) where
   abbrev start : tie.Start
   start = f .before .before .before .before .before
 
@@ -33,51 +33,55 @@ module _ (f : tie.After-find-object) where
   p = start .args .source .now
 
   abbrev place : Lookup
-  place = f .find-object .result
+  place = f .find-two .result .first
 
   there : place .found ≡ true → ObjectThere t a p place
   there e =
-      object-there t a p (λ j. f .before .before .before .before .shared-slice-known .given j .fits) (start .pre) (place-found (stateOf t a) p place true (f .find-object .ensures) e) place (f .find-object .ensures)
+      object-there t a p (λ j. f .before .before .before .before .shared-slice-known .given j .fits) (start .pre) (place-found (stateOf t a) p place true (f .find-two .ensures .0) e) place (f .find-two .ensures .0)
 
 refused-requires : tie.Need-refused-requires
 refused-requires c κs = search needs
 
 returns : tie.Need-returns
 returns c =
-    let f = c .before .before .before in
+    let f = c .before .before .before .before in
     let r = c .refused .ensures in
-    let none = place-found (stateOf (t f) (a f)) (p f) (place f) false (f .find-object .ensures) (not-true _ (c .before .if1 .taken)) in
+    let none = place-found (stateOf (t f) (a f)) (p f) (place f) false (f .find-two .ensures .0) (not-true _ (c .before .if1 .taken)) in
     (r ∙ judged-missing (length (a f)) (stateOf (t f) (a f)) (start f .args .stamp .0) (p f) (start f .args .destination .now) none, λ z. absurd (omega arith))
 
 read-head-requires : tie.Need-read-head-requires
 read-head-requires c κs =
-    let f = c .before .before in
+    let f = c .before .before .before in
     let z = front-inside (t f) (a f) (p f) (place f) (there f (not-false _ (c .if1 .left))) in
     omega arith
 
-cast-object-judge : tie.Need-cast-object-judge
-cast-object-judge c = search needs
+cast-object-room : tie.Need-cast-object-room
+cast-object-room c = search needs
 
-object-judge-requires : tie.Need-object-judge-requires
-object-judge-requires c κs = search needs
+object-room-requires : tie.Need-object-room-requires
+object-room-requires c κs =
+    let f = c .before .before .before .before .before .before in
+    (start f .pre, (start f .args .destination .now, f .find-two .ensures .1))
 
 returns-2 : tie.Need-returns-2
 returns-2 c =
-    let f = c .before .before .before .before .before .before .before in
-    let h = c .before .before .before .before .read-head in
-    let r = c .before .before .object-judge in (
-      judged-source (t f) (a f) (p f) (place f) (there f (not-false _ (c .before .before .before .before .before .if1 .left))) (h .result) (h .ensures) (r .result .refusal) (start f .args .stamp .0) (start f .args .destination .now) (r .ensures .0),
-      λ _. record { source-place = f .find-object .ensures; destination-place = r .ensures .1 },
+    let o = c .before .before in
+    let e = o .before .before .before .before in
+    let f = e .before .before .before in
+    let h = o .before .before .before .read-head in
+    let r = o .object-room .ensures (start f .args .destination .now) (f .find-two .ensures .1) in (
+      judged-source (t f) (a f) (p f) (place f) (there f (not-false _ (e .if1 .left))) (h .result) (h .ensures) (o .object-room .result .refusal) (start f .args .stamp .0) (start f .args .destination .now) (r .0),
+      λ _. record { source-place = f .find-two .ensures .0; destination-place = r .1 },
     )
 
 pub source-judge-spec : {M : Type 1} → statement M
 source-judge-spec =
     tie.close
     (tie.spec
-    find-object-requires
+    find-two-requires
     refused-requires
     returns
     read-head-requires
-    cast-object-judge
-    object-judge-requires
+    cast-object-room
+    object-room-requires
     returns-2)

@@ -1,6 +1,6 @@
 -- Byte strings that agree on their first r bytes: how they compare is told by what follows. Assumes nothing.
-use mathlib.Core.Path.{_≡_, sym, ap, ap₂, _∙_}
-use mathlib.Core.Bool.{false}
+use mathlib.Core.Path.{_≡_, refl, sym, ap, ap₂, _∙_}
+use mathlib.Core.Bool.{true, false}
 use mathlib.Core.List.{List, [], _∷_, _++_}
 use Prim.Native.Nat.{ℕ, suc, _+_, _≤_, _<_}
 use native.Mathlib.Numerals.{add-one}
@@ -64,6 +64,12 @@ module _ (a b : List ℕ) (r : ℕ) (alike : take r a ≡ take r b) where
 
     pub next-greater : getD b r 0 < getD a r 0 → Greater ≡ orderOf (byBytes a b)
     next-greater h = sym (ap orderOf next ∙ rw (compare-above (getD a r 0) (getD b r 0) h))
+
+-- two empty lists
+pub both-empty : (a b : List ℕ) → length a ≡ 0 → length b ≡ 0 → true ≡ same a b
+both-empty [] [] p q = refl
+both-empty [] (y ∷ b) p q = absurd (omega arith)
+both-empty (x ∷ a) b p q = absurd (omega arith)
 
 -- lists that differ in length
 pub other-length : (a b : List ℕ) → (length a ≡ length b → ⊥) → false ≡ same a b

@@ -139,12 +139,15 @@ pub fn compare(a: &[u8], b: &[u8]) -> Order
     by_length(a, b, n)
 }
 
-// Whether they are the same bytes.
+// Whether they are the same bytes. Empty ones are seen first: most listings have an empty suffix.
 pub fn equal(a: &[u8], b: &[u8]) -> bool
     ensures { λ r. ⌜ r ≡ same (now (a .entry)) (now (b .entry)) ⌝ }
 {
     if a.len() != b.len() {
         return false;
+    }
+    if a.len() == 0 {
+        return true;
     }
     match compare(a, b) {
         Order::Less => false,

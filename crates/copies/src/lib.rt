@@ -5,7 +5,8 @@ use md5::words::Digest;
 use types::DoneAnswer;
 use types::Stamp;
 ghost use mathlib.Core.Path.{_≡_};
-ghost use mathlib.Core.Bool.{true};
+ghost use mathlib.Core.Bool.{true, cond};
+ghost use lib.Dec.{ltb};
 ghost use lib.ListN.{length};
 ghost use Rattle.md5.specs.Md5.{md5};
 ghost use Rattle.machine.specs.Calls.{COPY};
@@ -39,8 +40,15 @@ fn refused(n: u8) -> CopyRoom
     }
 }
 
+// Of two lookups the one whose row is the later.
+fn further(a: Lookup, b: Lookup) -> Lookup
+    ensures { λ r. ⌜ r ≡ cond (ltb (a .row) (b .row)) b a ⌝ }
+{
+    if a.row < b.row { b } else { a }
+}
+
 // The refusal of COPY whose arguments keep their rules: not found, table full, arena full or 0; of an accepted one,
-// where source and copy stand.
+// where source and copy stand. The end of the rows is looked for from the further place on: no row is passed twice.
 fn source_judge(
     tables: &[u8],
     arena: &[u8],
@@ -62,9 +70,9 @@ fn source_judge(
     }
     let h = row::read_head(tables, from.at);
     let to = looked_up.second;
-    let room = room::object_room(tables, arena, to, h.size as usize);
+    let end = find::rows_end_from(tables, arena, further(from, to));
+    let room = room::object_room(tables, arena, to, end, h.size as usize);
     let place = room.place;
-    let end = room.end;
     CopyRoom {
         refusal: room.refusal,
         source: from,

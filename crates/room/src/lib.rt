@@ -7,7 +7,8 @@ ghost use Prim.Native.Nat.{_+_, _≤_};
 ghost use lib.Dec.{leb};
 ghost use Rattle.machine.specs.Calls.{arenaFull, code};
 ghost use Rattle.layout.specs.Memory.{whole};
-ghost use Rattle.find.specs.Known.{WholeLookup, OfPath};
+ghost use Rattle.find.specs.Places.{placeAfter};
+ghost use Rattle.find.specs.Known.{rowsIn, WholeLookup, OfPath};
 ghost use Rattle.edit.specs.Objects.{ObjectPlaced};
 ghost use Rattle.room.specs.Judged.{PutResult};
 
@@ -30,14 +31,13 @@ pub struct Room {
 }
 
 // An object of n bytes at the path whose lookup answered `place`, as PUT and COPY put it: table full, arena full or 0, and
-// where it goes. The bytes of the old object are free.
-pub fn object_room(tables: &[u8], arena: &[u8], place: Lookup, n: usize) -> Room
-    requires { ⌜ WholeLookup (now tables) (now arena) place ⌝ }
+// where it goes. The rows end at `end`; the bytes of the old object are free.
+pub fn object_room(tables: &[u8], arena: &[u8], place: Lookup, end: RowPlace, n: usize) -> Room
+    requires { ⌜ WholeLookup (now tables) (now arena) place × (end ≡ placeAfter (rowsIn (now tables) (now arena))) ⌝ }
     ensures { λ r. ⌜ OfPath (now (tables .entry)) (now (arena .entry)) place
         (λ s p. PutResult (now (tables .entry)) (now (arena .entry)) p n (r .refusal)
         × ObjectPlaced (now (tables .entry)) (now (arena .entry)) p (r .place) (r .end)) ⌝ }
 {
-    let end = find::rows_end_from(tables, arena, place);
     let held = end.base;
     if place.found {
         let h = row::read_head(tables, place.at);
@@ -70,7 +70,8 @@ pub fn object_judge(tables: &[u8], arena: &[u8], path: &[u8], n: usize) -> Room
         × ObjectPlaced (now (tables .entry)) (now (arena .entry)) (now (path .entry)) (r .place) (r .end) ⌝ }
 {
     let place = find::find_object(tables, arena, path);
-    object_room(tables, arena, place, n)
+    let end = find::rows_end_from(tables, arena, place);
+    object_room(tables, arena, place, end, n)
 }
 
 // A refusal before the place is looked for.

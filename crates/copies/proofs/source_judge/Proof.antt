@@ -11,7 +11,7 @@ use Rattle.layout.specs.Memory.{stateOf}
 use Rattle.find.specs.declared.Lookup.{Lookup}
 use Rattle.edit.proofs.ObjectEdits.{place-found}
 use Rattle.edit_copy.proofs.Source.{ObjectThere, object-there, front-inside}
-use Rattle.copies.proofs.Sources.{judged-source, judged-missing}
+use Rattle.copies.proofs.Sources.{further-place, judged-source, judged-missing}
 use Rattle.copies.proofs.source_judge.Statement.{statement}
 use Rattle.copies.proofs.source_judge.Tie as tie
 
@@ -32,6 +32,9 @@ module _ (f : tie.After-find-two) where
   abbrev p : List ℕ
   p = start .args .source .now
 
+  abbrev q : List ℕ
+  q = start .args .destination .now
+
   abbrev place : Lookup
   place = f .find-two .result .first
 
@@ -47,7 +50,7 @@ returns c =
     let f = c .before .before .before .before in
     let r = c .refused .ensures in
     let none = place-found (stateOf (t f) (a f)) (p f) (place f) false (f .find-two .ensures .0) (not-true _ (c .before .if1 .taken)) in
-    (r ∙ judged-missing (length (a f)) (stateOf (t f) (a f)) (start f .args .stamp .0) (p f) (start f .args .destination .now) none, λ z. absurd (omega arith))
+    (r ∙ judged-missing (length (a f)) (stateOf (t f) (a f)) (start f .args .stamp .0) (p f) (q f) none, λ z. absurd (omega arith))
 
 read-head-requires : tie.Need-read-head-requires
 read-head-requires c κs =
@@ -55,23 +58,32 @@ read-head-requires c κs =
     let z = front-inside (t f) (a f) (p f) (place f) (there f (not-false _ (c .if1 .left))) in
     omega arith
 
+further-requires : tie.Need-further-requires
+further-requires c κs = search needs
+
+rows-end-from-requires : tie.Need-rows-end-from-requires
+rows-end-from-requires c κs =
+    let f = c .before .before .before .before .before .before in
+    (start f .pre, further-place (stateOf (t f) (a f)) (p f) (q f) (place f) (f .find-two .result .second) (c .further .result) (f .find-two .ensures .0) (f .find-two .ensures .1) (c .further .ensures))
+
 cast-object-room : tie.Need-cast-object-room
 cast-object-room c = search needs
 
 object-room-requires : tie.Need-object-room-requires
 object-room-requires c κs =
-    let f = c .before .before .before .before .before .before in
-    (start f .pre, (start f .args .destination .now, f .find-two .ensures .1))
+    let e = c .before in
+    let f = e .before .before .before .before .before .before .before in
+    ((start f .pre, (q f, f .find-two .ensures .1)), e .rows-end-from .ensures)
 
 returns-2 : tie.Need-returns-2
 returns-2 c =
-    let o = c .before .before in
-    let e = o .before .before .before .before in
-    let f = e .before .before .before in
-    let h = o .before .before .before .read-head in
-    let r = o .object-room .ensures (start f .args .destination .now) (f .find-two .ensures .1) in (
-      judged-source (t f) (a f) (p f) (place f) (there f (not-false _ (e .if1 .left))) (h .result) (h .ensures) (o .object-room .result .refusal) (start f .args .stamp .0) (start f .args .destination .now) (r .0),
-      λ _. record { source-place = f .find-two .ensures .0; destination-place = r .1 },
+    let o = c .before in
+    let e = o .before .before in
+    let h = e .before .before .before in
+    let f = h .before .before .before .before in
+    let r = o .object-room .ensures (q f) (f .find-two .ensures .1) in (
+      judged-source (t f) (a f) (p f) (place f) (there f (not-false _ (h .before .if1 .left))) (h .read-head .result) (h .read-head .ensures) (o .object-room .result .refusal) (start f .args .stamp .0) (q f) (r .0),
+      λ _. record { source-place = f .find-two .ensures .0; destination-place = (r .1 .0, e .rows-end-from .ensures) },
     )
 
 pub source-judge-spec : {M : Type 1} → statement M
@@ -82,6 +94,8 @@ source-judge-spec =
     refused-requires
     returns
     read-head-requires
+    further-requires
+    rows-end-from-requires
     cast-object-room
     object-room-requires
     returns-2)

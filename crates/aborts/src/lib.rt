@@ -1,12 +1,14 @@
 // ABORT: an open upload leaves the store with its parts.
 use find::Lookup;
+use scan_objects::Offset;
+use scan_objects::Scan;
 use types::DoneAnswer;
 use types::UploadNumber;
 ghost use mathlib.Core.Path.{_≡_};
-ghost use mathlib.Core.Bool.{true};
 ghost use Rattle.machine.specs.Calls.{ABORT};
-ghost use Rattle.layout.specs.Memory.{whole, stateOf};
+ghost use Rattle.layout.specs.Memory.{stateOf};
 ghost use Rattle.find.specs.Places.{uploadPlace};
+ghost use Rattle.find.specs.Known.{WholeFrom};
 ghost use Rattle.contract.specs.Answers.{WellNumbered, doneReply};
 ghost use Rattle.contract.specs.Made.{memory, outcome, resultOf, Made, MadeWhole};
 
@@ -16,13 +18,13 @@ struct AbortPlace {
     place: Lookup,
 }
 
-// ABORT's refusal over whole memory, 0 for none, and what the lookup of its upload answers.
-fn abort_judge(tables: &[u8], arena: &[u8], upload: UploadNumber) -> AbortPlace
-    requires { ⌜ whole (now tables) (now arena) ≡ true ⌝ }
+// ABORT's refusal over whole memory whose uploads begin at `uploads`, 0 for none, and what the lookup of its upload answers.
+fn abort_judge(tables: &[u8], arena: &[u8], uploads: Offset, upload: UploadNumber) -> AbortPlace
+    requires { ⌜ WholeFrom (now tables) (now arena) uploads ⌝ }
     ensures { λ r. ⌜ (r .refusal ≡ resultOf (outcome (ABORT (upload .0)) (memory (now (tables .entry)) (now (arena .entry)))))
         × (r .place ≡ uploadPlace (stateOf (now (tables .entry)) (now (arena .entry))) (upload .0)) ⌝ }
 {
-    let place = find::find_upload(tables, arena, upload.0);
+    let place = find::find_upload(tables, arena, uploads, upload.0);
     if place.found {
         return AbortPlace { refusal: 0, place };
     }
@@ -32,12 +34,17 @@ fn abort_judge(tables: &[u8], arena: &[u8], upload: UploadNumber) -> AbortPlace
     }
 }
 
-// ABORT over whole memory.
-pub fn abort_whole(tables: &mut [u8], arena: &mut [u8], upload: UploadNumber) -> DoneAnswer
-    requires { ⌜ whole (now tables) (now arena) ≡ true ⌝ }
+// ABORT over whole memory whose uploads begin at `uploads`.
+pub fn abort_whole(
+    tables: &mut [u8],
+    arena: &mut [u8],
+    uploads: Offset,
+    upload: UploadNumber,
+) -> DoneAnswer
+    requires { ⌜ WholeFrom (now tables) (now arena) uploads ⌝ }
     ensures { λ r. ⌜ MadeWhole (ABORT (upload .0)) (memory (now (tables .entry)) (now (arena .entry))) (doneReply r) (memory (now (tables .exit)) (now (arena .exit))) × WellNumbered r ⌝ }
 {
-    let judged = abort_judge(tables, arena, upload);
+    let judged = abort_judge(tables, arena, uploads, upload);
     if judged.refusal != 0 {
         return DoneAnswer::Refused(judged.refusal);
     }
@@ -49,8 +56,8 @@ pub fn abort_whole(tables: &mut [u8], arena: &mut [u8], upload: UploadNumber) ->
 pub fn abort(tables: &mut [u8], arena: &mut [u8], upload: UploadNumber) -> DoneAnswer
     ensures { λ r. ⌜ Made (ABORT (upload .0)) (memory (now (tables .entry)) (now (arena .entry))) (doneReply r) (memory (now (tables .exit)) (now (arena .exit))) × WellNumbered r ⌝ }
 {
-    if !scan::whole(tables, arena) {
+    let Scan::Good(uploads) = scan::scan_store(tables, arena) else {
         return DoneAnswer::Refused(types::NOT_A_STORE);
-    }
-    abort_whole(tables, arena, upload)
+    };
+    abort_whole(tables, arena, uploads, upload)
 }

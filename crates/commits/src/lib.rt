@@ -2,18 +2,19 @@
 use find::Lookup;
 use find::RowPlace;
 use join::Bounds;
+use scan_objects::Offset;
+use scan_objects::Scan;
 use types::DoneAnswer;
 use types::UploadNumber;
 ghost use mathlib.Core.Path.{_≡_};
-ghost use mathlib.Core.Bool.{true, cond};
+ghost use mathlib.Core.Bool.{cond};
 ghost use Prim.Native.Nat.{_+_, _*_, _≤_};
 ghost use lib.ListN.{length, drop};
 ghost use Rattle.machine.specs.State.{Object, withObject, withoutUpload, counted};
 ghost use Rattle.machine.specs.Calls.{COMMIT, tableFull, code};
 ghost use Rattle.machine.specs.Fits.{member, fits};
-ghost use Rattle.layout.specs.Memory.{whole};
 ghost use Rattle.find.specs.Places.{objectPlace};
-ghost use Rattle.find.specs.Known.{rowsIn, WholeOpenAt, WholePlace, OfOpenAt, OfOpenBefore};
+ghost use Rattle.find.specs.Known.{rowsIn, WholeFrom, WholeOpenAt, WholePlace, OfOpenAt, OfOpenBefore};
 ghost use Rattle.contract.specs.Answers.{WellNumbered, doneReply, partList};
 ghost use Rattle.contract.specs.Made.{memory, outcome, resultOf, Made, MadeWhole};
 ghost use Rattle.join.specs.Joined.{JoinPlaced};
@@ -162,16 +163,22 @@ fn refused(n: u8) -> CommitRoom
     }
 }
 
-// COMMIT's refusal over whole memory, 0 for none; of an accepted one, the bounds of its upload and the place of its path.
-// Upload and path are looked up one time each.
-fn commit_judge(tables: &[u8], arena: &[u8], upload: UploadNumber, list: &[u8]) -> CommitRoom
-    requires { ⌜ whole (now tables) (now arena) ≡ true ⌝ }
+// COMMIT's refusal over whole memory whose uploads begin at `uploads`, 0 for none; of an accepted one, the bounds of its
+// upload and the place of its path. Upload and path are looked up one time each.
+fn commit_judge(
+    tables: &[u8],
+    arena: &[u8],
+    uploads: Offset,
+    upload: UploadNumber,
+    list: &[u8],
+) -> CommitRoom
+    requires { ⌜ WholeFrom (now tables) (now arena) uploads ⌝ }
     ensures { λ r. ⌜ (r .refusal ≡ resultOf (outcome (COMMIT (upload .0) (partList (now (list .entry))))
         (memory (now (tables .entry)) (now (arena .entry)))))
         × (r .refusal ≡ 0
         → JoinPlaced (now (tables .entry)) (now (arena .entry)) (upload .0) (r .bounds) (r .place)) ⌝ }
 {
-    let opened = find::find_upload(tables, arena, upload.0);
+    let opened = find::find_upload(tables, arena, uploads, upload.0);
     if !opened.found {
         return refused(types::BAD_REQUEST);
     }
@@ -195,17 +202,18 @@ fn commit_judge(tables: &[u8], arena: &[u8], upload: UploadNumber, list: &[u8]) 
     }
 }
 
-// COMMIT over whole memory.
+// COMMIT over whole memory whose uploads begin at `uploads`.
 pub fn commit_whole(
     tables: &mut [u8],
     arena: &mut [u8],
+    uploads: Offset,
     upload: UploadNumber,
     list: &[u8],
 ) -> DoneAnswer
-    requires { ⌜ whole (now tables) (now arena) ≡ true ⌝ }
+    requires { ⌜ WholeFrom (now tables) (now arena) uploads ⌝ }
     ensures { λ r. ⌜ MadeWhole (COMMIT (upload .0) (partList (now (list .entry)))) (memory (now (tables .entry)) (now (arena .entry))) (doneReply r) (memory (now (tables .exit)) (now (arena .exit))) × WellNumbered r ⌝ }
 {
-    let room = commit_judge(tables, arena, upload, list);
+    let room = commit_judge(tables, arena, uploads, upload, list);
     if room.refusal != 0 {
         return DoneAnswer::Refused(room.refusal);
     }
@@ -217,8 +225,8 @@ pub fn commit_whole(
 pub fn commit(tables: &mut [u8], arena: &mut [u8], upload: UploadNumber, list: &[u8]) -> DoneAnswer
     ensures { λ r. ⌜ Made (COMMIT (upload .0) (partList (now (list .entry)))) (memory (now (tables .entry)) (now (arena .entry))) (doneReply r) (memory (now (tables .exit)) (now (arena .exit))) × WellNumbered r ⌝ }
 {
-    if !scan::whole(tables, arena) {
+    let Scan::Good(uploads) = scan::scan_store(tables, arena) else {
         return DoneAnswer::Refused(types::NOT_A_STORE);
-    }
-    commit_whole(tables, arena, upload, list)
+    };
+    commit_whole(tables, arena, uploads, upload, list)
 }

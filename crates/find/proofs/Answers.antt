@@ -6,14 +6,14 @@ use mathlib.Core.List.{List, [], _∷_, _++_, append-nil}
 use mathlib.Core.Option.{some}
 use native.Mathlib.Omega.{arith}
 use lib.ListN.{length, take, drop, length-append, length-drop}
-use lib.Seq.{take-at, drop-at}
+use lib.Seq.{take-at, drop-at, drop-drop}
 use Rattle.machine.specs.Map.{isSome, byNumber, lookup, place}
 use Rattle.machine.specs.Names.{Bytes}
 use Rattle.machine.specs.State.{Upload, State}
 use Rattle.row.specs.Row.{Row, encodeRows, contentsOf}
 use Rattle.layout.specs.Rules.{uploadKind, partKind}
 use Rattle.layout.specs.Header.{headerLength}
-use Rattle.layout.specs.Memory.{uploadRow, partRows, rowsOf}
+use Rattle.layout.specs.Memory.{objectRows, uploadRow, partRows, uploadRows, rowsOf}
 use Rattle.layout.proofs.UploadLaws.{length-part-rows}
 use Rattle.find.specs.declared.RowPlace.{RowPlace}
 use Rattle.find.specs.declared.Lookup.{Lookup}
@@ -25,7 +25,7 @@ use Rattle.find.specs.Places.{placeAfter, lookupAfter, placeOf, beforeOb
 use Rattle.find.specs.Search.{reach, stopsOf, rowPlaceAt, IsRow, IsRowPlace, sought, leads, leader}
 use Rattle.find.proofs.Splits.{object-place, upload-place, upload-found, parts-place, parts-after, part-place}
 use Rattle.find.proofs.Walk.{rowPlace}
-use Rattle.find.proofs.Searches.{reach-end, reach-upload, upload-leads, reach-part, part-leads, reach-next, due-leads}
+use Rattle.find.proofs.Searches.{reach-end, reach-uploads, upload-leads, reach-part, part-leads, reach-next, due-uploads}
 use Rattle.find.proofs.Found.{is-some}
 
 -- Row places -------------------------------------------------------------------------------------------------------------
@@ -107,9 +107,16 @@ object-row-place s p l e = lookup-place _ (rowsOf s) (beforeObject s p) (fromObj
 
 -- Uploads ----------------------------------------------------------------------------------------------------------------
 
-pub upload-answer : (s : State) (u : ℕ) (p : RowPlace) → p ≡ sought (goal.Upload u) (rowsOf s) 0 → p ≡ uploadRowOf s u
-unfolding beforeUpload
-upload-answer s u p e = e ∙ sought-passes (goal.Upload u) (rowsOf s) [] (rowsOf s) (beforeUpload s u) 0 refl refl (reach-upload s u)
+pub uploads-within : (s : State) → length (objectRows (s .O)) ≤ length (rowsOf s)
+unfolding rowsOf
+uploads-within s = omega (arith, length-append (objectRows (s .O)) (uploadRows (s .U)))
+
+pub upload-answer : (s : State) (u : ℕ) (p : RowPlace) → p ≡ sought (goal.Upload u) (rowsOf s) (length (objectRows (s .O))) → p ≡ uploadRowOf s u
+unfolding beforeUpload rowsOf
+upload-answer s u p e =
+    let O = objectRows (s .O) in
+    let U = s .U in
+    e ∙ sought-passes (goal.Upload u) (rowsOf s) O (uploadRows U) (uploadRows (take (place byNumber u U) U)) (length O) refl refl (reach-uploads u U)
 
 pub upload-within : (s : State) (u : ℕ) → length (beforeUpload s u) ≤ length (rowsOf s)
 upload-within s u = omega (arith, ap length (upload-place s u), length-append (beforeUpload s u) (fromUpload s u))
@@ -147,11 +154,18 @@ unfolding uploadPlace
 upload-lookup s u l e = ap placeOf e ∙ sym (place-after (rowsOf s) (beforeUpload s u) (fromUpload s u) (upload-place s u))
 
 -- the first that started before a stamp
-pub due-answer : (t : ℕ) (s : State) (p : RowPlace) (r : Numbered) → p ≡ sought (goal.Due t) (rowsOf s) 0 → r ≡ leader uploadKind (drop (p .row) (rowsOf s)) → r ≡ firstDue t s
-unfolding sought
+pub due-answer : (t : ℕ) (s : State) (p : RowPlace) (r : Numbered) → p ≡ sought (goal.Due t) (rowsOf s) (length (objectRows (s .O)))
+    → r ≡ leader uploadKind (drop (p .row) (rowsOf s)) → r ≡ firstDue t s
+unfolding sought rowsOf
 due-answer t s p r e f =
-    let n : p .row ≡ reach (stopsOf (goal.Due t)) (rowsOf s) = omega (arith, place-row (rowsOf s) p _ e) in
-    f ∙ ap (λ (i : ℕ). leader uploadKind (drop i (rowsOf s))) n ∙ due-leads t s
+    let O = objectRows (s .O) in
+    let rest : drop (length O) (rowsOf s) ≡ uploadRows (s .U) = drop-at O (uploadRows (s .U)) (length O) refl in
+    let m : ℕ = reach (stopsOf (goal.Due t)) (uploadRows (s .U)) in
+    let n : p .row ≡ length O + m = place-row (rowsOf s) p _ e ∙ ap (λ (rs : List Row). length O + reach (stopsOf (goal.Due t)) rs) rest in
+    f
+    ∙ ap (λ (i : ℕ). leader uploadKind (drop i (rowsOf s))) n
+    ∙ ap (leader uploadKind) (sym (drop-drop m (length O) (rowsOf s)) ∙ ap (drop m) rest)
+    ∙ due-uploads t (s .U)
 
 -- Parts ------------------------------------------------------------------------------------------------------------------
 

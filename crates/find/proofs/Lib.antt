@@ -7,4 +7,5 @@ pub mod TwoPaths
 pub mod Walk
 pub mod Searches
 pub mod Answers
+pub mod UploadsFrom
 pub mod PairSizes

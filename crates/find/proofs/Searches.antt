@@ -26,27 +26,13 @@ unfolding reach stopsAt
 reach-end [] = refl
 reach-end (r ∷ rs) = ap suc (reach-end rs)
 
--- to an upload
-object-kind : (e : Etag) → eqb (rowKind e) uploadKind ≡ false
-object-kind absent = refl
-object-kind (plain d) = refl
-object-kind (joined d n) = refl
-
-object-passes : (u : ℕ) (p : Bytes) (x : Object) → stopsOf (goal.Upload u) (objectRow p x) ≡ false
-unfolding stopsAt
-object-passes u p x = rw (object-kind (x .etag))
-
-reach-objects : (u : ℕ) (m : Map Bytes Object) (rs : List Row) → reach (stopsOf (goal.Upload u)) (objectRows m ++ rs) ≡ length (objectRows m) + reach (stopsOf (goal.Upload u)) rs
-unfolding reach objectRows
-reach-objects u [] rs = omega arith
-reach-objects u (e ∷ m) rs = rw (object-passes u (e .0) (e .1), reach-objects u m rs) (omega arith)
-
+-- to an upload, from the uploads on
 reach-over-parts : (u : ℕ) (ps : Map ℕ Part) (rs : List Row) → reach (stopsOf (goal.Upload u)) (partRows ps ++ rs) ≡ length (partRows ps) + reach (stopsOf (goal.Upload u)) rs
 unfolding reach partRows stopsAt
 reach-over-parts u [] rs = omega arith
 reach-over-parts u (e ∷ ps) rs = rw (reach-over-parts u ps rs) (omega arith)
 
-reach-uploads : (u : ℕ) (m : Map ℕ Upload) → reach (stopsOf (goal.Upload u)) (uploadRows m) ≡ length (uploadRows (take (place byNumber u m) m))
+pub reach-uploads : (u : ℕ) (m : Map ℕ Upload) → reach (stopsOf (goal.Upload u)) (uploadRows m) ≡ length (uploadRows (take (place byNumber u m) m))
 unfolding reach uploadRows stopsAt
 reach-uploads u [] = refl
 reach-uploads u (e ∷ m) =
@@ -54,10 +40,6 @@ reach-uploads u (e ∷ m) =
     (λ q. rw q)
     (λ q. rw q)
     (λ q. rw q (ap suc (reach-over-parts u (e .1 .parts) (uploadRows m) ∙ rw (length-append, reach-uploads u m))))
-
-pub reach-upload : (s : State) (u : ℕ) → reach (stopsOf (goal.Upload u)) (rowsOf s) ≡ length (objectRows (s .O) ++ uploadRows (take (place byNumber u (s .U)) (s .U)))
-unfolding rowsOf
-reach-upload s u = reach-objects u (s .O) (uploadRows (s .U)) ∙ rw (length-append, reach-uploads u (s .U))
 
 pub upload-leads : (u : ℕ) (m : Map ℕ Upload) → leads uploadKind u (uploadRows (drop (place byNumber u m) m)) ≡ isSome (lookup byNumber u m)
 unfolding leads uploadRows
@@ -109,17 +91,12 @@ module _ (t : ℕ) where
   abbrev onward : List Row → List Row
   onward rs = drop (reach (stopsOf (goal.Due t)) rs) rs
 
-  due-objects : (m : Map Bytes Object) (rs : List Row) → leader uploadKind (onward (objectRows m ++ rs)) ≡ leader uploadKind (onward rs)
-  unfolding reach objectRows stopsAt
-  due-objects [] rs = refl
-  due-objects (e ∷ m) rs = rw (object-kind (e .1 .etag)) (due-objects m rs)
-
   due-parts : (ps : Map ℕ Part) (rs : List Row) → leader uploadKind (onward (partRows ps ++ rs)) ≡ leader uploadKind (onward rs)
   unfolding reach partRows stopsAt
   due-parts [] rs = refl
   due-parts (e ∷ ps) rs = due-parts ps rs
 
-  due-uploads : (m : Map ℕ Upload) → leader uploadKind (onward (uploadRows m)) ≡ firstOf (due t m)
+  pub due-uploads : (m : Map ℕ Upload) → leader uploadKind (onward (uploadRows m)) ≡ firstOf (due t m)
   unfolding reach leader uploadRows stopsAt firstOf due
   due-uploads [] = refl
   due-uploads (e ∷ m) = go (isDue t (e .1)) refl (due-parts (e .1 .parts) (uploadRows m) ∙ due-uploads m)
@@ -128,7 +105,3 @@ module _ (t : ℕ) where
           → leader uploadKind (onward (uploadRows (e ∷ m))) ≡ firstOf (due t (e ∷ m))
       go true q h = rw q
       go false q h = rw q h
-
-  pub due-leads : (s : State) → leader uploadKind (onward (rowsOf s)) ≡ firstDue t s
-  unfolding rowsOf
-  due-leads s = due-objects (s .O) (uploadRows (s .U)) ∙ due-uploads (s .U)

@@ -9,6 +9,8 @@ use Rattle.machine.specs.Names.{Bytes}
 use Rattle.machine.specs.State.{Upload, State}
 use Rattle.row.specs.Row.{Row}
 use Rattle.layout.specs.Memory.{whole, stateOf, rowsOf}
+use Rattle.scan_objects.specs.declared.Offset.{Offset}
+use Rattle.scan_objects.specs.Scan.{uploadsFrom}
 use Rattle.find.specs.declared.RowPlace.{RowPlace}
 use Rattle.find.specs.declared.Lookup.{Lookup}
 use Rattle.find.specs.Places.{objectPlace, uploadRowOf, partsRowOf}
@@ -18,6 +20,10 @@ module _ (t a : List ℕ) where
   -- the rows of the state that t and a stand for
   abbrev pub rowsIn : List Row
   rowsIn = rowsOf (stateOf t a)
+
+  -- t and a are whole, and the rows of uploads begin at o
+  abbrev pub WholeFrom : Offset → Type 0
+  WholeFrom o = (whole t a ≡ true) × (o ≡ uploadsFrom t)
 
   -- t and a are whole, and upload u is open
   abbrev pub WholeOpen : ℕ → Type 0

@@ -85,6 +85,10 @@ uploadRowOf s u = rowPlaceAt (rowsOf s) (length (beforeUpload s u))
 abbrev pub partsRowOf : State → ℕ → RowPlace
 partsRowOf s u = rowPlaceAt (rowsOf s) (length (beforeUpload s u) + 1)
 
+-- the place of the first upload's row, or where it would stand: after the objects
+abbrev pub firstUploadRow : State → RowPlace
+firstUploadRow s = rowPlaceAt (rowsOf s) (length (objectRows (s .O)))
+
 -- how many parts an upload has, and the place of the row after them
 unfoldable pub passedParts : State → ℕ → Upload → PassedParts
 passedParts s u x = record { count = length (x .parts); next = placeAfter (throughParts s u x) }

@@ -12,6 +12,7 @@ pub use counts::read_counts;
 pub use objects::find_object;
 pub use objects::find_two;
 pub use pairs::pairs_size;
+pub use search::first_upload;
 pub use search::next_row;
 pub use uploads::find_part_after;
 pub use uploads::find_part_from;
@@ -21,7 +22,6 @@ pub use uploads::pass_parts;
 pub use uploads::rows_end;
 pub use uploads::rows_end_after;
 pub use uploads::rows_end_from;
-pub use uploads::upload_row;
 
 // What a search found: whether it is there, the number of its row, where that begins in the tables, and where its data
 // begin in the arena. Where it is not there, the places are those of the row before which it would stand.

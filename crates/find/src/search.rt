@@ -3,13 +3,14 @@ use crate::Numbered;
 use crate::RowPlace;
 use crate::counts::read_counts;
 use row::Head;
+use scan_objects::Offset;
 ghost use mathlib.Core.Path.{_≡_};
-ghost use mathlib.Core.Bool.{true};
 ghost use Prim.Native.Nat.{_+_, _≤_};
-ghost use lib.ListN.{drop};
-ghost use Rattle.layout.specs.Memory.{whole};
+ghost use lib.ListN.{length, drop};
+ghost use Rattle.layout.specs.Memory.{stateOf, objectRows};
 ghost use Rattle.find.specs.Search.{IsRowPlace, stopsAt, sought, rowPlaceAt, leads, leader};
-ghost use Rattle.find.specs.Known.{rowsIn, WholeRow, WholePlace};
+ghost use Rattle.find.specs.Places.{firstUploadRow};
+ghost use Rattle.find.specs.Known.{rowsIn, WholeFrom, WholeRow, WholePlace};
 
 // Where a search along the rows stops: after them all; at the upload with a number, or the first above it; at the next
 // upload; at the part with a number, the first above it, or the next upload; at the next upload that started before a
@@ -97,16 +98,26 @@ pub(crate) fn seek(tables: &[u8], arena: &[u8], from: RowPlace, goal: Goal) -> R
     here
 }
 
-// The same from the first row on.
-pub(crate) fn seek_first(tables: &[u8], arena: &[u8], goal: Goal) -> RowPlace
-    requires { ⌜ whole (now tables) (now arena) ≡ true ⌝ }
-    ensures { λ r. ⌜ r ≡ sought goal (rowsIn (now (tables .entry)) (now (arena .entry))) 0 ⌝ }
+// The place of the first upload's row, or where it would stand. `uploads` is where the test "whole" found it.
+pub fn first_upload(tables: &[u8], arena: &[u8], uploads: Offset) -> RowPlace
+    requires { ⌜ WholeFrom (now tables) (now arena) uploads ⌝ }
+    ensures { λ r. ⌜ r ≡ firstUploadRow (stateOf (now (tables .entry)) (now (arena .entry))) ⌝ }
 {
-    let first = RowPlace {
-        row: 0,
-        at: layout::HEADER_LENGTH,
-        base: 0,
-    };
+    let counts = read_counts(tables, arena);
+    RowPlace {
+        row: counts.objects,
+        at: uploads.at,
+        base: uploads.base,
+    }
+}
+
+// The search from there on.
+pub(crate) fn seek_uploads(tables: &[u8], arena: &[u8], uploads: Offset, goal: Goal) -> RowPlace
+    requires { ⌜ WholeFrom (now tables) (now arena) uploads ⌝ }
+    ensures { λ r. ⌜ r ≡ sought goal (rowsIn (now (tables .entry)) (now (arena .entry)))
+        (length (objectRows (stateOf (now (tables .entry)) (now (arena .entry)) .O))) ⌝ }
+{
+    let first = first_upload(tables, arena, uploads);
     seek(tables, arena, first, goal)
 }
 

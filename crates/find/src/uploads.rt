@@ -1,4 +1,4 @@
-// Where an upload and its parts stand, and where the rows end.
+// Where an upload and its parts stand, and where the rows end. `uploads` is where the test "whole" found the rows of uploads.
 use crate::Lookup;
 use crate::Numbered;
 use crate::PassedParts;
@@ -9,28 +9,20 @@ use crate::search::Goal;
 use crate::search::next_row;
 use crate::search::number_of;
 use crate::search::seek;
-use crate::search::seek_first;
+use crate::search::seek_uploads;
 use crate::search::stands;
+use scan_objects::Offset;
 ghost use mathlib.Core.Path.{_≡_};
-ghost use mathlib.Core.Bool.{true};
-ghost use Rattle.layout.specs.Memory.{whole, stateOf};
-ghost use Rattle.find.specs.Places.{placeOf, placeAfter, uploadPlace, partPlace, uploadRowOf, passedParts, firstDue};
-ghost use Rattle.find.specs.Known.{rowsIn, WholeRow, WholePlace, OfOpenAt, OfOpenBefore};
-
-// The row of the upload with this number, or where it would stand.
-pub fn upload_row(tables: &[u8], arena: &[u8], upload: u32) -> RowPlace
-    requires { ⌜ whole (now tables) (now arena) ≡ true ⌝ }
-    ensures { λ r. ⌜ r ≡ uploadRowOf (stateOf (now (tables .entry)) (now (arena .entry))) upload ⌝ }
-{
-    seek_first(tables, arena, Goal::Upload(upload))
-}
+ghost use Rattle.layout.specs.Memory.{stateOf};
+ghost use Rattle.find.specs.Places.{placeOf, placeAfter, uploadPlace, partPlace, passedParts, firstDue};
+ghost use Rattle.find.specs.Known.{rowsIn, WholeFrom, WholeRow, WholePlace, OfOpenAt, OfOpenBefore};
 
 // The end of the rows.
-pub fn rows_end(tables: &[u8], arena: &[u8]) -> RowPlace
-    requires { ⌜ whole (now tables) (now arena) ≡ true ⌝ }
+pub fn rows_end(tables: &[u8], arena: &[u8], uploads: Offset) -> RowPlace
+    requires { ⌜ WholeFrom (now tables) (now arena) uploads ⌝ }
     ensures { λ r. ⌜ r ≡ placeAfter (rowsIn (now (tables .entry)) (now (arena .entry))) ⌝ }
 {
-    seek_first(tables, arena, Goal::End)
+    seek_uploads(tables, arena, uploads, Goal::End)
 }
 
 // The same from a row on.
@@ -51,11 +43,11 @@ pub fn rows_end_from(tables: &[u8], arena: &[u8], place: Lookup) -> RowPlace
 }
 
 // The place of the upload with this number.
-pub fn find_upload(tables: &[u8], arena: &[u8], upload: u32) -> Lookup
-    requires { ⌜ whole (now tables) (now arena) ≡ true ⌝ }
+pub fn find_upload(tables: &[u8], arena: &[u8], uploads: Offset, upload: u32) -> Lookup
+    requires { ⌜ WholeFrom (now tables) (now arena) uploads ⌝ }
     ensures { λ r. ⌜ r ≡ uploadPlace (stateOf (now (tables .entry)) (now (arena .entry))) upload ⌝ }
 {
-    let here = upload_row(tables, arena, upload);
+    let here = seek_uploads(tables, arena, uploads, Goal::Upload(upload));
     let found = stands(tables, arena, here, layout::UPLOAD_KIND, upload);
     lookup_at(found, here)
 }
@@ -96,10 +88,10 @@ pub fn pass_parts(tables: &[u8], arena: &[u8], here: RowPlace) -> PassedParts
 }
 
 // The number of the first upload that started before a stamp.
-pub fn first_due(tables: &[u8], arena: &[u8], stamp: u64) -> Numbered
-    requires { ⌜ whole (now tables) (now arena) ≡ true ⌝ }
+pub fn first_due(tables: &[u8], arena: &[u8], uploads: Offset, stamp: u64) -> Numbered
+    requires { ⌜ WholeFrom (now tables) (now arena) uploads ⌝ }
     ensures { λ r. ⌜ r ≡ firstDue stamp (stateOf (now (tables .entry)) (now (arena .entry))) ⌝ }
 {
-    let here = seek_first(tables, arena, Goal::Due(stamp));
+    let here = seek_uploads(tables, arena, uploads, Goal::Due(stamp));
     number_of(tables, arena, here, layout::UPLOAD_KIND)
 }

@@ -1,5 +1,7 @@
 // INITIATE: an upload is opened, without parts, under a number that was never used.
 use find::RowPlace;
+use scan_objects::Offset;
+use scan_objects::Scan;
 use types::InitiateAnswer;
 use types::Stamp;
 use types::UploadNumber;
@@ -7,9 +9,8 @@ ghost use mathlib.Core.Path.{_≡_};
 ghost use mathlib.Core.Bool.{true};
 ghost use Rattle.machine.specs.Pairs.{pairsOk, pairMap, pairList};
 ghost use Rattle.machine.specs.Calls.{INITIATE};
-ghost use Rattle.layout.specs.Memory.{whole};
 ghost use Rattle.find.specs.Places.{placeAfter};
-ghost use Rattle.find.specs.Known.{rowsIn};
+ghost use Rattle.find.specs.Known.{rowsIn, WholeFrom};
 ghost use Rattle.contract.specs.Answers.{initiateReply};
 ghost use Rattle.contract.specs.Made.{memory, outcome, resultOf, Made, MadeWhole};
 ghost use Rattle.initiates.specs.Initiate.{OpenResult};
@@ -36,17 +37,17 @@ fn refused(n: u8) -> OpenRoom
 
 // The refusal of an upload with pairs that are taken: table full, arena full, numbers used up or 0; of an accepted one,
 // the end of the rows.
-fn initiate_room(tables: &[u8], arena: &[u8], pairs: &[u8]) -> OpenRoom
-    requires { ⌜ (whole (now tables) (now arena) ≡ true) × (pairsOk (pairList (now pairs)) ≡ true) ⌝ }
+fn initiate_room(tables: &[u8], arena: &[u8], uploads: Offset, pairs: &[u8]) -> OpenRoom
+    requires { ⌜ WholeFrom (now tables) (now arena) uploads × (pairsOk (pairList (now pairs)) ≡ true) ⌝ }
     ensures { λ r. ⌜ OpenResult (now (tables .entry)) (now (arena .entry)) (pairMap (pairList (now (pairs .entry)))) (r .refusal)
         × (r .refusal ≡ 0 → r .end ≡ placeAfter (rowsIn (now (tables .entry)) (now (arena .entry)))) ⌝ }
 {
     let counts = find::read_counts(tables, arena);
-    let uploads = counts.uploads;
-    if layout::UPLOADS_MOST <= uploads {
+    let open = counts.uploads;
+    if layout::UPLOADS_MOST <= open {
         return refused(types::TABLE_FULL);
     }
-    let end = find::rows_end(tables, arena);
+    let end = find::rows_end(tables, arena, uploads);
     let held = end.base;
     let n = pairs::held(pairs);
     let full = room::arena_judge(held, n, arena.len());
@@ -60,9 +61,17 @@ fn initiate_room(tables: &[u8], arena: &[u8], pairs: &[u8]) -> OpenRoom
     OpenRoom { refusal: 0, end }
 }
 
-// INITIATE's refusal over whole memory, 0 for none; of an accepted one, the end of the rows.
-fn initiate_judge(tables: &[u8], arena: &[u8], stamp: Stamp, path: &[u8], pairs: &[u8]) -> OpenRoom
-    requires { ⌜ whole (now tables) (now arena) ≡ true ⌝ }
+// INITIATE's refusal over whole memory whose uploads begin at `uploads`, 0 for none; of an accepted one, the end of the
+// rows.
+fn initiate_judge(
+    tables: &[u8],
+    arena: &[u8],
+    uploads: Offset,
+    stamp: Stamp,
+    path: &[u8],
+    pairs: &[u8],
+) -> OpenRoom
+    requires { ⌜ WholeFrom (now tables) (now arena) uploads ⌝ }
     ensures { λ r. ⌜ (r .refusal ≡ resultOf (outcome (INITIATE (stamp .0) (now (path .entry)) (pairList (now (pairs .entry))))
         (memory (now (tables .entry)) (now (arena .entry)))))
         × (r .refusal ≡ 0 → r .end ≡ placeAfter (rowsIn (now (tables .entry)) (now (arena .entry)))) ⌝ }
@@ -76,23 +85,24 @@ fn initiate_judge(tables: &[u8], arena: &[u8], stamp: Stamp, path: &[u8], pairs:
     if !pairs::judge(pairs) {
         return refused(types::BAD_REQUEST);
     }
-    initiate_room(tables, arena, pairs)
+    initiate_room(tables, arena, uploads, pairs)
 }
 
-// INITIATE over whole memory.
+// INITIATE over whole memory whose uploads begin at `uploads`.
 pub fn initiate_whole(
     tables: &mut [u8],
     arena: &mut [u8],
+    uploads: Offset,
     stamp: Stamp,
     path: &[u8],
     pairs: &[u8],
 ) -> InitiateAnswer
-    requires { ⌜ whole (now tables) (now arena) ≡ true ⌝ }
+    requires { ⌜ WholeFrom (now tables) (now arena) uploads ⌝ }
     ensures { λ r. ⌜ MadeWhole (INITIATE (stamp .0) (now (path .entry)) (pairList (now (pairs .entry))))
         (memory (now (tables .entry)) (now (arena .entry))) (initiateReply r)
         (memory (now (tables .exit)) (now (arena .exit))) ⌝ }
 {
-    let room = initiate_judge(tables, arena, stamp, path, pairs);
+    let room = initiate_judge(tables, arena, uploads, stamp, path, pairs);
     if room.refusal != 0 {
         return InitiateAnswer::Refused(room.refusal);
     }
@@ -113,8 +123,8 @@ pub fn initiate(
         (memory (now (tables .entry)) (now (arena .entry))) (initiateReply r)
         (memory (now (tables .exit)) (now (arena .exit))) ⌝ }
 {
-    if !scan::whole(tables, arena) {
+    let Scan::Good(uploads) = scan::scan_store(tables, arena) else {
         return InitiateAnswer::Refused(types::NOT_A_STORE);
-    }
-    initiate_whole(tables, arena, stamp, path, pairs)
+    };
+    initiate_whole(tables, arena, uploads, stamp, path, pairs)
 }

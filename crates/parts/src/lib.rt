@@ -1,18 +1,19 @@
 // PART: a part of an open upload is set.
 use find::Lookup;
 use room::Room;
+use scan_objects::Offset;
+use scan_objects::Scan;
 use types::Etag;
 use types::PartAnswer;
 use types::PartNumber;
 use types::UploadNumber;
 ghost use mathlib.Core.Path.{_≡_};
-ghost use mathlib.Core.Bool.{true};
 ghost use lib.ListN.{length};
 ghost use Rattle.machine.specs.Calls.{PART};
 ghost use Rattle.machine.specs.Steps.{partAt};
-ghost use Rattle.layout.specs.Memory.{whole, stateOf};
+ghost use Rattle.layout.specs.Memory.{stateOf};
 ghost use Rattle.find.specs.Places.{uploadPlace};
-ghost use Rattle.find.specs.Known.{WholeOpen};
+ghost use Rattle.find.specs.Known.{WholeFrom, WholeOpen};
 ghost use Rattle.edit_uploads.specs.Parts.{PartPlaced};
 ghost use Rattle.contract.specs.Answers.{partReply};
 ghost use Rattle.contract.specs.Made.{memory, outcome, resultOf, Made, MadeWhole};
@@ -60,15 +61,16 @@ fn part_room(
     }
 }
 
-// PART's refusal over whole memory, 0 for none; of an accepted one, where its part goes.
+// PART's refusal over whole memory whose uploads begin at `uploads`, 0 for none; of an accepted one, where its part goes.
 fn part_judge(
     tables: &[u8],
     arena: &[u8],
+    uploads: Offset,
     upload: UploadNumber,
     number: PartNumber,
     content: &[u8],
 ) -> Room
-    requires { ⌜ whole (now tables) (now arena) ≡ true ⌝ }
+    requires { ⌜ WholeFrom (now tables) (now arena) uploads ⌝ }
     ensures { λ r. ⌜ (r .refusal ≡ resultOf (outcome (PART (upload .0) (number .0) (now (content .entry)))
         (memory (now (tables .entry)) (now (arena .entry)))))
         × (r .refusal ≡ 0
@@ -77,25 +79,26 @@ fn part_judge(
     if !names::request_part_ok(number.0) {
         return room::refused(types::BAD_REQUEST);
     }
-    let place = find::find_upload(tables, arena, upload.0);
+    let place = find::find_upload(tables, arena, uploads, upload.0);
     if !place.found {
         return room::refused(types::BAD_REQUEST);
     }
     part_room(tables, arena, upload, place, number, content)
 }
 
-// PART over whole memory.
+// PART over whole memory whose uploads begin at `uploads`.
 pub fn part_whole(
     tables: &mut [u8],
     arena: &mut [u8],
+    uploads: Offset,
     upload: UploadNumber,
     number: PartNumber,
     content: &[u8],
 ) -> PartAnswer
-    requires { ⌜ whole (now tables) (now arena) ≡ true ⌝ }
+    requires { ⌜ WholeFrom (now tables) (now arena) uploads ⌝ }
     ensures { λ r. ⌜ MadeWhole (PART (upload .0) (number .0) (now (content .entry))) (memory (now (tables .entry)) (now (arena .entry))) (partReply r) (memory (now (tables .exit)) (now (arena .exit))) ⌝ }
 {
-    let room = part_judge(tables, arena, upload, number, content);
+    let room = part_judge(tables, arena, uploads, upload, number, content);
     if room.refusal != 0 {
         return PartAnswer::Refused(room.refusal);
     }
@@ -123,8 +126,8 @@ pub fn part(
 ) -> PartAnswer
     ensures { λ r. ⌜ Made (PART (upload .0) (number .0) (now (content .entry))) (memory (now (tables .entry)) (now (arena .entry))) (partReply r) (memory (now (tables .exit)) (now (arena .exit))) ⌝ }
 {
-    if !scan::whole(tables, arena) {
+    let Scan::Good(uploads) = scan::scan_store(tables, arena) else {
         return PartAnswer::Refused(types::NOT_A_STORE);
-    }
-    part_whole(tables, arena, upload, number, content)
+    };
+    part_whole(tables, arena, uploads, upload, number, content)
 }

@@ -17,8 +17,23 @@ use Rattle.scan_objects.specs.declared.Offset.{Offset}
 use Rattle.layout.specs.Header.{headerAt, headerLength}
 use Rattle.scan_objects.specs.declared.Scan.{Scan}
 use Rattle.scan_objects.specs.declared.Scan.the-variants.{Bad, Good}
-use Rattle.scan_objects.specs.Scan.{past, pastAll, objectScan}
-use Rattle.scan.specs.Scan.{entriesOk, first, rowsOk}
+use Rattle.scan_objects.specs.Scan.{past, pastAll, objectScan, first, uploadsFrom}
+use Rattle.scan.specs.Scan.{entriesOk, rowsOk}
+
+-- what the answer of a scan tells of what was scanned
+pub found-bad : {b : Bool} {r : Scan} (o : Offset) → r ≡ cond b (Good o) Bad → r ≡ Bad → b ≡ false
+found-bad {b} o e q = pick b (sym e ∙ q)
+  where
+    pick : (x : Bool) → cond x (Good o) Bad ≡ Bad → x ≡ false
+    pick true k = cc
+    pick false k = refl
+
+pub found-good : {b : Bool} {o p : Offset} {r : Scan} → r ≡ cond b (Good o) Bad → r ≡ Good p → (b ≡ true) × (p ≡ o)
+found-good {b} {o} {p} e q = pick b (sym e ∙ q)
+  where
+    pick : (x : Bool) → cond x (Good o) Bad ≡ Good p → (x ≡ true) × (p ≡ o)
+    pick true k = (refl, cc)
+    pick false k = (cc, cc)
 
 rest-tables : (t : List ℕ) (o : Offset) → drop (past o (headAt (drop (o .at) t)) .at) t ≡ drop (spanAt (drop (o .at) t)) (drop (o .at) t)
 unfolding spanAt
@@ -62,38 +77,45 @@ module _ (most : ℕ) (h : Header) (t a : List ℕ) (r : Scan) (e : r ≡ object
   abbrev objects : Bool
   objects = good (List ℕ) (objectOk most) objectNext (h .objects) [] (drop headerLength t) a
 
-  pub rows-bad : r ≡ Bad → rowsOk most h t a ≡ false
+  -- where the rows of uploads begin, if all rows stand
+  abbrev answer : Scan
+  answer = cond (rowsOk most h t a) (Good (pastAll (h .objects) first t)) Bad
+
+  pub rows-bad : r ≡ Bad → Bad ≡ answer
   unfolding objectScan rowsOk
-  rows-bad q = rw (pick objects (sym e ∙ q))
-    where
-      pick : (b : Bool) → cond b (Good (pastAll (h .objects) first t)) Bad ≡ Bad → b ≡ false
-      pick true q = cc
-      pick false q = refl
+  rows-bad q = let n : objects ≡ false = found-bad _ e q in rw n
 
   module _ (p : Offset) (q : r ≡ Good p) where
     found : (objects ≡ true) × (p ≡ pastAll (h .objects) first t)
     unfolding objectScan
-    found = pick objects (sym e ∙ q)
-      where
-        pick : (b : Bool) → cond b (Good (pastAll (h .objects) first t)) Bad ≡ Good p → (b ≡ true) × (p ≡ pastAll (h .objects) first t)
-        pick true q = (refl, cc)
-        pick false q = (cc, cc)
+    found = found-good e q
 
     pub rows-end : headerLength ≤ length t → (p .at ≤ length t) × (p .base ≤ length a)
     rows-end l = rw (found .1) (past-inside (List ℕ) (objectOk most) objectNext (h .objects) [] first t a (found .0) l (omega arith))
 
-    pub rows-good : (x : Bool) → x ≡ entriesOk most (h .next) (h .uploads) 0 (h .uploads + h .parts) start p t a → x ≡ rowsOk most h t a
-    unfolding rowsOk
-    rows-good x y = rw (found .0) (rw (found .1) at y)
+    module _ (x : Bool) (y : x ≡ entriesOk most (h .next) (h .uploads) 0 (h .uploads + h .parts) start p t a) where
+      rows-judged : rowsOk most h t a ≡ x
+      unfolding rowsOk
+      rows-judged = sym (rw (found .0) (rw (found .1) at y))
+
+      pub entries-bad : not x ≡ true → Bad ≡ answer
+      entries-bad n = rw (rows-judged, not-true x n)
+
+      pub rows-good : not x ≡ false → Good p ≡ answer
+      rows-good n = rw (rows-judged, not-false x n, found .1)
 
 -- the test "whole" of a layout, by the header and the scans
 module _ (T most : ℕ) (t a : List ℕ) where
+  -- where the rows of uploads begin, if memory is whole
+  abbrev pub scanned : Scan
+  scanned = cond (wholeOf T most t a) (Good (uploadsFrom t)) Bad
+
   whole-is : wholeOf T most t a ≡ (headerOk T (length t) (length a) (headerAt t) && rowsOk most (headerAt t) t a)
   unfolding wholeOf all rowsOk entriesOk objectsGood uploadsGood uploadRowsAt uploadTables uploadArena
   whole-is =
       rw (and-true, zero-add, past-tables (headerAt t .objects) first t, past-arena (headerAt t .objects) first t a)
 
-  pub too-short : length t < headerLength → headerLength ≤ T → wholeOf T most t a ≡ false
+  pub too-short : length t < headerLength → headerLength ≤ T → Bad ≡ scanned
   unfolding wholeOf all headerOk
   too-short l room = rw (ne-eqb (length t) T (λ e. omega arith))
 
@@ -101,8 +123,9 @@ module _ (T most : ℕ) (t a : List ℕ) where
     judged : headerOk T (length t) (length a) (headerAt t) ≡ b
     judged = ap (headerOk T (length t) (length a)) (sym e) ∙ sym q
 
-    pub header-bad : not b ≡ true → wholeOf T most t a ≡ false
-    header-bad n = whole-is ∙ rw (judged, not-true b n)
+    pub header-bad : not b ≡ true → Bad ≡ scanned
+    header-bad n = rw (whole-is, judged, not-true b n)
 
-    pub header-good : not b ≡ false → wholeOf T most t a ≡ rowsOk most h t a
-    header-good n = whole-is ∙ rw (judged, not-false b n, e)
+    pub header-good : not b ≡ false → (r : Scan) → r ≡ cond (rowsOk most h t a) (Good (pastAll (h .objects) first t)) Bad → r ≡ scanned
+    unfolding uploadsFrom
+    header-good n r q = rw (whole-is, judged, not-false b n, ← e) q

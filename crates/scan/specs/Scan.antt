@@ -12,7 +12,7 @@ use Rattle.layout.specs.Header.{headerLength}
 use Rattle.layout.specs.Rules.{uploadKind, objectOk, objectNext, entryOk, entryNext, start}
 use Rattle.layout.specs.Memory.{uploadsAmong}
 use Rattle.scan_objects.specs.declared.Offset.{Offset}
-use Rattle.scan_objects.specs.Scan.{pastAll}
+use Rattle.scan_objects.specs.Scan.{pastAll, first}
 
 -- 1 for the row of an upload
 unfoldable pub opensOne : Head → ℕ
@@ -22,10 +22,6 @@ opensOne h = cond (eqb (h .kind) uploadKind) 1 0
 unfoldable pub entriesOk : (most N uploads opened n : ℕ) → Mark → Offset → (t a : List ℕ) → Bool
 entriesOk most N uploads opened n m o t a =
     good Mark (entryOk most N) entryNext n m (drop (o .at) t) (drop (o .base) a) && eqb (opened + uploadsAmong (rowsAt n (drop (o .at) t) (drop (o .base) a))) uploads
-
--- the first row stands after the header
-abbrev pub first : Offset
-first = record { at = headerLength; base = 0 }
 
 -- the rows of a store with header h, by what the scans answer
 unfoldable pub rowsOk : (most : ℕ) → Header → (t a : List ℕ) → Bool

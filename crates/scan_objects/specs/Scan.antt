@@ -11,6 +11,7 @@ use Rattle.scan_objects.specs.declared.Reading.the-variants.{Short, Fits
 use Rattle.scan_objects.specs.declared.Scan.{Scan}
 use Rattle.scan_objects.specs.declared.Scan.the-variants.{Bad, Good}
 use Rattle.layout.specs.Rules.{objectOk, objectNext}
+use Rattle.layout.specs.Header.{headerLength, headerAt}
 
 -- the head of the row at the front of t, where the row is all in t and its data all in a
 unfoldable pub readingOf : (t a : List ℕ) → Reading
@@ -28,3 +29,11 @@ pastAll (suc n) o t = pastAll n (past o (headAt (drop (o .at) t))) t
 -- where n rows of objects from o on, after one whose path is `last`, end, if they stand there by the rule
 unfoldable pub objectScan : (most n : ℕ) (last : List ℕ) → Offset → (t a : List ℕ) → Scan
 objectScan most n last o t a = cond (good (List ℕ) (objectOk most) objectNext n last (drop (o .at) t) (drop (o .base) a)) (Good (pastAll n o t)) Bad
+
+-- the first row stands after the header
+abbrev pub first : Offset
+first = record { at = headerLength; base = 0 }
+
+-- where the rows of uploads begin: after as many objects as the header says
+unfoldable pub uploadsFrom : (t : List ℕ) → Offset
+uploadsFrom t = pastAll (headerAt t .objects) first t

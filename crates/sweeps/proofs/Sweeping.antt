@@ -19,8 +19,12 @@ use Rattle.machine.proofs.Sweeping.{abort-leaves, abort-accepted, first-due, on
 use Rattle.layout.specs.Memory.{Stands}
 use Rattle.layout.proofs.StandsLaws.{stands-state, stands-whole}
 use Rattle.layout.proofs.WholeLaws.{whole-stands}
+use Rattle.scan_objects.specs.declared.Offset.{Offset}
+use Rattle.scan_objects.specs.Scan.{uploadsFrom}
 use Rattle.find.specs.declared.Numbered.{Numbered}
 use Rattle.find.specs.Places.{firstOf, firstDue}
+use Rattle.find.specs.Known.{WholeFrom}
+use Rattle.find.proofs.UploadsFrom.{uploads-stay}
 use Rattle.contract.specs.Made.{Memory, wholeMemory, stateIn, outcome, MadeWhole}
 use Rattle.sweeps.specs.Swept.{Swept}
 
@@ -30,6 +34,7 @@ pub record Going (t n : ℕ) (m₀ : Memory) (count : ℕ) (m : Memory) : Type 0
   pub tables-length : length (m .tables) ≡ length (m₀ .tables)
   pub arena-length : length (m .arena) ≡ length (m₀ .arena)
   pub stands : Stands (m .tables) (m .arena) (stateIn m)
+  pub uploads : uploadsFrom (m₀ .tables) ≡ uploadsFrom (m .tables)
   pub due-left : count + length (due t (stateIn m .U)) ≡ length (due t (stateIn m₀ .U))
   pub leaves : afterAborts (stateIn m) (toSweep t (n - count) (stateIn m .U)) ≡ afterAborts (stateIn m₀) (toSweep t n (stateIn m₀ .U))
 
@@ -64,6 +69,7 @@ start t n m b w =
       tables-length = refl;
       arena-length = refl;
       stands = whole-stands (m .tables) (m .arena) b w;
+      uploads = refl;
       due-left = omega arith;
       leaves = ap (λ (k : ℕ). afterAborts (stateIn m) (toSweep t k (stateIn m .U))) z;
     }
@@ -72,8 +78,9 @@ module _ (t n : ℕ) (m₀ : Memory) (count : ℕ) (m : Memory) (g : Going t n m
   abbrev s : State
   s = stateIn m
 
-  pub is-whole : wholeMemory m ≡ true
-  is-whole = stands-whole (m .tables) (m .arena) _ (g .stands)
+  -- memory is whole, and its uploads begin where they began
+  pub whole-from : (o : Offset) → o ≡ uploadsFrom (m₀ .tables) → WholeFrom (m .tables) (m .arena) o
+  whole-from o e = (stands-whole (m .tables) (m .arena) _ (g .stands), e ∙ g .uploads)
 
   module _ (f : Numbered) (is : f ≡ firstDue t s) where
     pub turn : count < n → f .found ≡ true → (r : Reply) (m′ : Memory) → MadeWhole (ABORT (f .number)) m r m′
@@ -97,6 +104,7 @@ module _ (t n : ℕ) (m₀ : Memory) (count : ℕ) (m : Memory) (g : Going t n m
           tables-length = lt ∙ g .tables-length;
           arena-length = la ∙ g .arena-length;
           stands = subst (Stands (m′ .tables) (m′ .arena)) (sym now-is) stood;
+          uploads = g .uploads ∙ uploads-stay (m .tables) (m .arena) s (g .stands) (m′ .tables) (m′ .arena) (withoutUpload s u) stood refl;
           due-left = omega (arith, ap length fewer, ap length (d .2));
           leaves =
               ap (λ (z : State). afterAborts z (toSweep t k (z .U))) now-is

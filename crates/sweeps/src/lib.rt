@@ -1,19 +1,20 @@
 // SWEEP: the ABORT of the uploads that started before a stamp, by ascending number, at most so many.
+use scan_objects::Offset;
+use scan_objects::Scan;
 use types::Stamp;
 use types::Sweep;
 use types::SweepAnswer;
 use types::UploadNumber;
 ghost use mathlib.Core.Path.{_≡_};
-ghost use mathlib.Core.Bool.{true};
 ghost use Rattle.machine.specs.Calls.{SWEEP};
-ghost use Rattle.layout.specs.Memory.{whole};
+ghost use Rattle.find.specs.Known.{WholeFrom};
 ghost use Rattle.contract.specs.Answers.{sweepReply};
 ghost use Rattle.contract.specs.Made.{memory, Made};
 ghost use Rattle.sweeps.specs.Swept.{Swept};
 
-// The sweep over whole memory.
-fn sweep_whole(tables: &mut [u8], arena: &mut [u8], stamp: u64, most: u32) -> Sweep
-    requires { ⌜ whole (now tables) (now arena) ≡ true ⌝ }
+// The sweep over whole memory whose uploads begin at `uploads`: no ABORT moves an object, so they go on beginning there.
+fn sweep_whole(tables: &mut [u8], arena: &mut [u8], uploads: Offset, stamp: u64, most: u32) -> Sweep
+    requires { ⌜ WholeFrom (now tables) (now arena) uploads ⌝ }
     ensures { λ r. ⌜ Swept stamp most
         (memory (now (tables .entry)) (now (arena .entry)))
         r
@@ -21,14 +22,14 @@ fn sweep_whole(tables: &mut [u8], arena: &mut [u8], stamp: u64, most: u32) -> Sw
 {
     let mut count: u32 = 0;
     while count < most {
-        let due = find::first_due(tables, arena, stamp);
+        let due = find::first_due(tables, arena, uploads, stamp);
         if !due.found {
             return Sweep { count, more: false };
         }
-        aborts::abort_whole(tables, arena, UploadNumber(due.number));
+        aborts::abort_whole(tables, arena, uploads, UploadNumber(due.number));
         count += 1;
     }
-    let due = find::first_due(tables, arena, stamp);
+    let due = find::first_due(tables, arena, uploads, stamp);
     Sweep {
         count,
         more: due.found,
@@ -42,12 +43,12 @@ pub fn sweep(tables: &mut [u8], arena: &mut [u8], stamp: Stamp, most: u32) -> Sw
         (sweepReply r)
         (memory (now (tables .exit)) (now (arena .exit))) ⌝ }
 {
-    if !scan::whole(tables, arena) {
+    let Scan::Good(uploads) = scan::scan_store(tables, arena) else {
         return SweepAnswer::Refused(types::NOT_A_STORE);
-    }
+    };
     if !names::stamp_ok(stamp.0) {
         return SweepAnswer::Refused(types::BAD_REQUEST);
     }
-    let swept = sweep_whole(tables, arena, stamp.0, most);
+    let swept = sweep_whole(tables, arena, uploads, stamp.0, most);
     SweepAnswer::Swept(swept)
 }

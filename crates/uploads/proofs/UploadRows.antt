@@ -23,7 +23,7 @@ use Rattle.layout.specs.Memory.{objectRows, uploadRow, partRows, uploadRows, ro
 use Rattle.layout.proofs.TestLaws.{stored-path-length}
 use Rattle.find.specs.declared.RowPlace.{RowPlace}
 use Rattle.find.specs.declared.PassedParts.{PassedParts}
-use Rattle.find.specs.Places.{beforeUpload, beforeParts, throughParts, afterUpload, passedParts}
+use Rattle.find.specs.Places.{beforeUpload, firstUploadRow, beforeParts, throughParts, afterUpload, passedParts}
 use Rattle.find.specs.Search.{rowPlaceAt}
 use Rattle.find.proofs.RowsAt.{At, row-at}
 use Rattle.find.proofs.Splits.{upload-rows-append, upload-found, parts-after}
@@ -34,14 +34,10 @@ use Rattle.uploads.specs.Rows.{uploadRowPlace, RowRead}
 abbrev pub blank : ℕ × Upload
 blank = (0, record { path = []; started = 0; pairs = []; parts = [] })
 
--- no upload stands before the place of number 0
-place-zero : (m : Map ℕ Upload) → place byNumber 0 m ≡ 0
-place-zero [] = refl
-place-zero (e ∷ m) = cases (byNumber 0 (e .0)) (λ q. simp q) (λ q. simp q) (λ q. absurd (let n = above 0 (e .0) q in omega arith))
-
-pub first-place : (s : State) → rowPlaceAt (rowsOf s) (length (beforeUpload s 0)) ≡ uploadRowPlace s 0
-unfolding beforeUpload uploadRowPlace
-first-place s = ap (λ (n : ℕ). rowPlaceAt (rowsOf s) (length (objectRows (s .O) ++ uploadRows (take n (s .U))))) (place-zero (s .U))
+-- the first upload has none before it
+pub first-place : (s : State) → firstUploadRow s ≡ uploadRowPlace s 0
+unfolding uploadRowPlace uploadRows
+first-place s = ap (λ (rs : List Row). rowPlaceAt (rowsOf s) (length rs)) (sym (append-nil (objectRows (s .O))))
 
 -- an open upload has few parts
 pub parts-fit : (t a : List ℕ) (s : State) (h : Stands t a s) (u : ℕ) → isSome (lookup byNumber u (s .U)) ≡ true → (r : PassedParts) → ((x : Upload) → lookup byNumber u (s .U) ≡ some x → r ≡ passedParts s u x) → r .count ≤ 256

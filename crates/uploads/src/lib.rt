@@ -3,28 +3,36 @@ mod measuring;
 mod rows;
 mod writing;
 
+use scan_objects::Offset;
+use scan_objects::Scan;
 use types::ListAnswer;
 ghost use mathlib.Core.Path.{_≡_};
-ghost use mathlib.Core.Bool.{true};
 ghost use mathlib.Core.List.{[]};
 ghost use Rattle.machine.specs.Calls.{UPLOADS, buffers};
 ghost use Rattle.machine.specs.Steps.{replyOf};
-ghost use Rattle.layout.specs.Memory.{whole};
+ghost use Rattle.find.specs.Known.{WholeFrom};
 ghost use Rattle.contract.specs.Answers.{listReply};
 ghost use Rattle.contract.specs.Made.{memory, outcome, Made};
 
-// UPLOADS over whole memory.
-fn uploads_whole(tables: &[u8], arena: &[u8], prefix: &[u8], answer: &mut [u8]) -> ListAnswer
-    requires { ⌜ whole (now tables) (now arena) ≡ true ⌝ }
+// UPLOADS over whole memory whose uploads begin at `uploads`.
+fn uploads_whole(
+    tables: &[u8],
+    arena: &[u8],
+    uploads: Offset,
+    prefix: &[u8],
+    answer: &mut [u8],
+) -> ListAnswer
+    requires { ⌜ WholeFrom (now tables) (now arena) uploads ⌝ }
     ensures { λ r. ⌜ listReply r (now (answer .exit)) ≡ replyOf (buffers (now (answer .entry)) [])
         (outcome (UPLOADS (now (prefix .entry)) (now (answer .entry)))
         (memory (now (tables .entry)) (now (arena .entry)))) ⌝ }
 {
-    let counts = measuring::measure(tables, arena, prefix);
+    let first = find::first_upload(tables, arena, uploads);
+    let counts = measuring::measure(tables, arena, first, prefix);
     if answer.len() < counts.bytes as usize {
         return ListAnswer::Refused(types::BUFFER_SHORT);
     }
-    writing::write(tables, arena, prefix, answer);
+    writing::write(tables, arena, first, prefix, answer);
     ListAnswer::Written(counts)
 }
 
@@ -35,8 +43,8 @@ pub fn uploads(tables: &[u8], arena: &[u8], prefix: &[u8], answer: &mut [u8]) ->
         (listReply r (now (answer .exit)))
         (memory (now (tables .entry)) (now (arena .entry))) ⌝ }
 {
-    if !scan::whole(tables, arena) {
+    let Scan::Good(uploads) = scan::scan_store(tables, arena) else {
         return ListAnswer::Refused(types::NOT_A_STORE);
-    }
-    uploads_whole(tables, arena, prefix, answer)
+    };
+    uploads_whole(tables, arena, uploads, prefix, answer)
 }

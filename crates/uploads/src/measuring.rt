@@ -1,4 +1,5 @@
 // UPLOADS' records, counted and measured.
+use find::RowPlace;
 use types::Counts;
 ghost use mathlib.Core.Path.{_≡_};
 ghost use mathlib.Core.Bool.{true, cond};
@@ -7,6 +8,7 @@ ghost use lib.ListN.{length};
 ghost use Rattle.order.specs.Order.{begins};
 ghost use Rattle.machine.specs.Steps.{openUnder};
 ghost use Rattle.layout.specs.Memory.{whole, stateOf};
+ghost use Rattle.find.specs.Places.{firstUploadRow};
 ghost use Rattle.uploads.specs.Records.{recordsUnder};
 
 // How many records, 0 or 1, and bytes UPLOADS has of an upload at `path`.
@@ -29,16 +31,16 @@ fn measure_one(path: &[u8], prefix: &[u8]) -> Counts
     }
 }
 
-// How many records and bytes UPLOADS has.
-pub(crate) fn measure(tables: &[u8], arena: &[u8], prefix: &[u8]) -> Counts
-    requires { ⌜ whole (now tables) (now arena) ≡ true ⌝ }
+// How many records and bytes UPLOADS has, `first` being the first upload's row, or where it would stand.
+pub(crate) fn measure(tables: &[u8], arena: &[u8], first: RowPlace, prefix: &[u8]) -> Counts
+    requires { ⌜ (whole (now tables) (now arena) ≡ true) × (first ≡ firstUploadRow (stateOf (now tables) (now arena))) ⌝ }
     ensures { λ r. ⌜ (let s = stateOf (now (tables .entry)) (now (arena .entry)) in
         (r .records ≡ length (openUnder (now (prefix .entry)) (s .U)))
         × (r .bytes ≡ length (recordsUnder (now (prefix .entry)) s))) ⌝ }
 {
     let counts = find::read_counts(tables, arena);
     let uploads = counts.uploads;
-    let mut here = crate::rows::first_row(tables, arena);
+    let mut here = first;
     let mut records: u32 = 0;
     let mut bytes: u32 = 0;
     let mut i: usize = 0;

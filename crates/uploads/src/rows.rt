@@ -1,10 +1,7 @@
 // The rows of uploads, in order.
 use find::RowPlace;
-ghost use mathlib.Core.Path.{_≡_};
-ghost use mathlib.Core.Bool.{true};
-ghost use Rattle.layout.specs.Memory.{whole, stateOf};
 ghost use Rattle.find.specs.Known.{OfOpen};
-ghost use Rattle.uploads.specs.Rows.{uploadRowPlace, numberAt, WholeUpload, RowRead};
+ghost use Rattle.uploads.specs.Rows.{numberAt, WholeUpload, RowRead};
 
 // An open upload: its path stands in the tables from `from` to `to`, and `next` is the row after its parts.
 pub struct OpenUpload {
@@ -14,14 +11,6 @@ pub struct OpenUpload {
     pub started: u64,
     pub parts: u16,
     pub next: RowPlace,
-}
-
-// The first upload's row: at the place of number 0, which no upload has.
-pub(crate) fn first_row(tables: &[u8], arena: &[u8]) -> RowPlace
-    requires { ⌜ whole (now tables) (now arena) ≡ true ⌝ }
-    ensures { λ r. ⌜ r ≡ uploadRowPlace (stateOf (now (tables .entry)) (now (arena .entry))) 0 ⌝ }
-{
-    find::upload_row(tables, arena, 0)
 }
 
 // The upload whose row stands there.

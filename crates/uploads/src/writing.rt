@@ -1,4 +1,5 @@
 // UPLOADS' records, written to the front of the answer buffer.
+use find::RowPlace;
 ghost use mathlib.Core.Path.{_≡_};
 ghost use mathlib.Core.Bool.{true};
 ghost use mathlib.Core.List.{_++_};
@@ -6,6 +7,7 @@ ghost use Prim.Native.Nat.{_+_, _≤_};
 ghost use lib.ListN.{length, take, drop};
 ghost use Rattle.number.specs.Number.{le, over, fronted};
 ghost use Rattle.layout.specs.Memory.{whole, stateOf};
+ghost use Rattle.find.specs.Places.{firstUploadRow};
 ghost use Rattle.uploads.specs.Records.{recordOf, recordUnder, recordsUnder};
 
 // A byte over the one at `at`.
@@ -55,16 +57,16 @@ fn write_one(
     at + 15 + path.len()
 }
 
-// The records, to the front of the answer buffer.
-pub(crate) fn write(tables: &[u8], arena: &[u8], prefix: &[u8], answer: &mut [u8])
-    requires { ⌜ (whole (now tables) (now arena) ≡ true)
+// The records, to the front of the answer buffer, `first` being the first upload's row, or where it would stand.
+pub(crate) fn write(tables: &[u8], arena: &[u8], first: RowPlace, prefix: &[u8], answer: &mut [u8])
+    requires { ⌜ (whole (now tables) (now arena) ≡ true) × (first ≡ firstUploadRow (stateOf (now tables) (now arena)))
         × (length (recordsUnder (now prefix) (stateOf (now tables) (now arena))) ≤ length (now answer)) ⌝ }
     ensures { λ _. ⌜ now (answer .exit) ≡ fronted (now (answer .entry))
         (recordsUnder (now (prefix .entry)) (stateOf (now (tables .entry)) (now (arena .entry)))) ⌝ }
 {
     let counts = find::read_counts(tables, arena);
     let uploads = counts.uploads;
-    let mut here = crate::rows::first_row(tables, arena);
+    let mut here = first;
     let mut n: usize = 0;
     let mut i: usize = 0;
     while i < uploads {

@@ -25,7 +25,7 @@ remove-upload-requires c κs =
     let k = c .before .before in
     let s = k .before .before .before .before .before .before .before in
     let r = k .before .before .abort-judge .ensures in
-    ((s .pre, abort-there (memory (s .args .tables .now) (s .args .arena .now)) (s .args .upload .0) (sym (r .0) ∙ k .if1 .left)), r .1)
+    ((s .pre .0, abort-there (memory (s .args .tables .now) (s .args .arena .now)) (s .args .upload .0) (sym (r .0) ∙ k .if1 .left)), r .1)
 
 same-length-3 : tie.Need-same-length-3
 same-length-3 c = search needs

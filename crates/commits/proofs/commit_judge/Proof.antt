@@ -72,10 +72,10 @@ module _ (c : tie.After-place-of) where
   is-open = open-found t a u (start .args .list .now) (found .find-upload .result) (found .find-upload .ensures) true (not-false _ (c .before .if1 .left))
 
   there : WholeOpenAt t a here
-  there = (start .pre, (u, here-is, is-open))
+  there = (start .pre .0, (u, here-is, is-open))
 
 pass-parts-requires : tie.Need-pass-parts-requires
-pass-parts-requires c κs = (start c .pre, open-row-place (s c) (u c) (here c) (here-is c) (is-open c))
+pass-parts-requires c κs = (start c .pre .0, open-row-place (s c) (u c) (here c) (here-is c) (is-open c))
 
 list-fits-requires : tie.Need-list-fits-requires
 list-fits-requires c κs =
@@ -91,7 +91,7 @@ returns-2 c =
     let k = l .before .before in
     let f = found k .find-upload in
     let r = c .refused2 .ensures in
-    (r ∙ unfit-judged (t k) (a k) (u k) (start k .args .list .now) (f .result) (f .ensures) (bytes k) (start k .pre) (not-false _ (k .before .if1 .left)) (l .list-fits .result) (λ x e. l .list-fits .ensures (u k) x (here-is k) e) (not-true _ (c .before .if2 .taken)), λ z. absurd (omega arith))
+    (r ∙ unfit-judged (t k) (a k) (u k) (start k .args .list .now) (f .result) (f .ensures) (bytes k) (start k .pre .0) (not-false _ (k .before .if1 .left)) (l .list-fits .result) (λ x e. l .list-fits .ensures (u k) x (here-is k) e) (not-true _ (c .before .if2 .taken)), λ z. absurd (omega arith))
 
 commit-room-requires : tie.Need-commit-room-requires
 commit-room-requires c κs = there (c .before .before .before)
@@ -105,7 +105,7 @@ module _ (c : tie.After-commit-room) where
   judged =
       let f = found known .find-upload in
       let l = c .before .before .list-fits in
-      room-judged (t known) (a known) (u known) (start known .args .list .now) (f .result) (f .ensures) (bytes known) (start known .pre) (not-false _ (known .before .if1 .left)) (l .result) (λ x e. l .ensures (u known) x (here-is known) e) (not-false _ (c .before .if2 .left))
+      room-judged (t known) (a known) (u known) (start known .args .list .now) (f .result) (f .ensures) (bytes known) (start known .pre .0) (not-false _ (known .before .if1 .left)) (l .result) (λ x e. l .ensures (u known) x (here-is known) e) (not-false _ (c .before .if2 .left))
       (c .commit-room .result .refusal) (λ x e. c .commit-room .ensures (u known) x (here-is known) e .0)
 
 refused-requires-3 : tie.Need-refused-requires-3
@@ -122,7 +122,7 @@ rows-end-after-requires c κs =
     let p = c .before .before .before .before .before .before in
     let k = p .before in
     let x = is-some _ (is-open k) in
-    (start k .pre, next-row-place (s k) (u k) (x .0) (p .pass-parts .result) (x .1) (p .pass-parts .ensures (u k) (x .0) (here-is k) (x .1)))
+    (start k .pre .0, next-row-place (s k) (u k) (x .0) (p .pass-parts .result) (x .1) (p .pass-parts .ensures (u k) (x .0) (here-is k) (x .1)))
 
 upload-bounds-requires : tie.Need-upload-bounds-requires
 upload-bounds-requires c κs =

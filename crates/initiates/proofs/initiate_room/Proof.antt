@@ -44,7 +44,7 @@ returns : tie.Need-returns
 returns c =
     let k = c .before .before in
     let r = c .refused .ensures in (
-      λ stamp p. r ∙ full (t k) (a k) (bytes k) (start k .pre .0) (m k) (k .read-counts .result .uploads) (k .read-counts .ensures .uploads) (c .before .if1 .taken) stamp p,
+      λ stamp p. r ∙ full (t k) (a k) (bytes k) (start k .pre .0 .0) (m k) (k .read-counts .result .uploads) (k .read-counts .ensures .uploads) (c .before .if1 .taken) stamp p,
       λ z. absurd (omega arith),
     )
 
@@ -69,7 +69,7 @@ module _ (h : tie.After-held) where
   pairs-are = h .held .ensures ∙ sym (pairs.held-is (pairList (start k .args .pairs .now)) (start k .pre .1))
 
 arena-judge-requires : tie.Need-arena-judge-requires
-arena-judge-requires c κs = let j = k c in held-inside (t j) (a j) (bytes j) (start j .pre .0) (end c .base) (held-is c)
+arena-judge-requires c κs = let j = k c in held-inside (t j) (a j) (bytes j) (start j .pre .0 .0) (end c .base) (held-is c)
 
 refused-requires-2 : tie.Need-refused-requires-2
 refused-requires-2 c κs = search needs
@@ -83,13 +83,13 @@ returns-2 c =
     let r = c .refused2 .ensures in (
       λ stamp p.
           r
-          ∙ no-room (t j) (a j) (bytes j) (start j .pre .0) (m j) (n .result .uploads) (n .ensures .uploads) (h .before .before .if1 .left)
+          ∙ no-room (t j) (a j) (bytes j) (start j .pre .0 .0) (m j) (n .result .uploads) (n .ensures .uploads) (h .before .before .if1 .left)
           (end h .base) (h .held .result) (full .result) (held-is h) (pairs-are h) (full .ensures) (c .before .if2 .taken) stamp p,
       λ z. absurd (c .before .if2 .taken (sym r ∙ z)),
     )
 
 read-header-requires : tie.Need-read-header-requires
-read-header-requires c κs = let j = k (c .before .before) in header-inside (t j) (a j) (bytes j) (start j .pre .0)
+read-header-requires c κs = let j = k (c .before .before) in header-inside (t j) (a j) (bytes j) (start j .pre .0 .0)
 
 refused-requires-3 : tie.Need-refused-requires-3
 refused-requires-3 c κs = search needs
@@ -104,7 +104,7 @@ returns-3 c =
     let r = c .refused3 .ensures in (
       λ stamp p.
           r
-          ∙ used-up (t j) (a j) (bytes j) (start j .pre .0) (m j) (n .result .uploads) (n .ensures .uploads) (h .before .before .if1 .left)
+          ∙ used-up (t j) (a j) (bytes j) (start j .pre .0 .0) (m j) (n .result .uploads) (n .ensures .uploads) (h .before .before .if1 .left)
           (end h .base) (h .held .result) (full .result) (held-is h) (pairs-are h) (full .ensures) (c .before .before .before .before .if2 .left)
           (header .result) (header .ensures) (c .before .if3 .taken) stamp p,
       λ z. absurd (omega arith),
@@ -117,7 +117,7 @@ returns-4 c =
     let n = j .read-counts in
     let full = c .before .before .before .before .arena-judge in
     let header = c .before .before .read-header in (
-      opened (t j) (a j) (bytes j) (start j .pre .0) (m j) (n .result .uploads) (n .ensures .uploads) (h .before .before .if1 .left)
+      opened (t j) (a j) (bytes j) (start j .pre .0 .0) (m j) (n .result .uploads) (n .ensures .uploads) (h .before .before .if1 .left)
           (end h .base) (h .held .result) (full .result) (held-is h) (pairs-are h) (full .ensures) (c .before .before .before .if2 .left)
           (header .result) (header .ensures) (c .if3 .left),
       λ _. h .before .rows-end .ensures,

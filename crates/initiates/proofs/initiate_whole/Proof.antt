@@ -51,21 +51,21 @@ module _ (c : tie.Else1) where
   zero-result = sym (c .before .before .initiate-judge .ensures .0) ∙ c .if1 .left
 
 read-header-requires : tie.Need-read-header-requires
-read-header-requires c κs = let k = c .before in header-inside (t k) (a k) (bytes k) (start k .pre)
+read-header-requires c κs = let k = c .before in header-inside (t k) (a k) (bytes k) (start k .pre .0)
 
 open-upload-requires : tie.Need-open-upload-requires
 open-upload-requires c κs =
     let k = c .before .before .before .before in
     let m = memory (t k) (a k) in
     let stamp = start k .args .stamp .0 in
-    let valid = target-valid m stamp (p k) (ps k) (zero-result k) (whole-stands (t k) (a k) (bytes k) (start k .pre) .valid) in
-    (pairs-taken m stamp (p k) (ps k) (zero-result k), k .before .before .initiate-judge .ensures .1 (k .if1 .left), (start k .pre, valid))
+    let valid = target-valid m stamp (p k) (ps k) (zero-result k) (whole-stands (t k) (a k) (bytes k) (start k .pre .0) .valid) in
+    (pairs-taken m stamp (p k) (ps k) (zero-result k), k .before .before .initiate-judge .ensures .1 (k .if1 .left), (start k .pre .0, valid))
 
-cast-t20 : tie.Need-cast-t20
-cast-t20 c =
+cast-t21 : tie.Need-cast-t21
+cast-t21 c =
     let k = c .before .before .before .before .before .before .before .before .before .before in
     let h = c .before .before .before .before .before .before .before .before .read-header in
-    omega (arith, last-number (memory (t k) (a k)) (start k .args .stamp .0) (p k) (ps k) (zero-result k), next-is (t k) (a k) (bytes k) (start k .pre) (h .result) (h .ensures))
+    omega (arith, last-number (memory (t k) (a k)) (start k .args .stamp .0) (p k) (ps k) (zero-result k), next-is (t k) (a k) (bytes k) (start k .pre .0) (h .result) (h .ensures))
 
 same-length-3 : tie.Need-same-length-3
 same-length-3 c = search needs
@@ -78,7 +78,7 @@ returns-2 c =
     let k = c .before .before .before .before .before .before .before .before .before .before in
     let h = c .before .before .before .before .before .before .before .before .read-header in
     let o = c .before .before .before .before .before .open-upload in
-    let n = next-is (t k) (a k) (bytes k) (start k .pre) (h .result) (h .ensures) in
+    let n = next-is (t k) (a k) (bytes k) (start k .pre .0) (h .result) (h .ensures) in
     let accepted = initiate-accepted (memory (t k) (a k)) (start k .args .stamp .0) (p k) (ps k) (zero-result k) in
     done _ noBuffers _ accepted (ap (λ (i : ℕ). success (number i) noBuffers) n) (o .ensures) (o .kept .0) (o .kept .1 .0)
 
@@ -92,7 +92,7 @@ initiate-whole-spec =
     returns
     read-header-requires
     open-upload-requires
-    cast-t20
+    cast-t21
     same-length-3
     same-length-4
     returns-2)

@@ -37,7 +37,7 @@ put-part-requires c κs =
     let d = c .before .before .digest in
     let r = k .before .before .part-judge .ensures in (
       r .1 (k .if1 .left),
-      part-ready (a .tables .now) (a .arena .now) (a .content .now) (a .upload .0) (a .number .0) (d .result) (sym (r .0) ∙ k .if1 .left) (d .ensures) b (s .pre),
+      part-ready (a .tables .now) (a .arena .now) (a .content .now) (a .upload .0) (a .number .0) (d .result) (sym (r .0) ∙ k .if1 .left) (d .ensures) b (s .pre .0),
     )
 
 same-length-3 : tie.Need-same-length-3

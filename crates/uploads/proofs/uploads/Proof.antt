@@ -1,38 +1,36 @@
 -- `uploads::uploads` meets its contract: refused by 1, or over whole memory. Assumes nothing.
-use mathlib.Core.Path.{_≡_}
-use mathlib.Core.Bool.{true}
 use borrow.Author.Needs.{needs}
-use Rattle.machine.proofs.Tests.{said-no, said-yes}
-use Rattle.layout.specs.Memory.{whole}
+use Rattle.scan.proofs.Ends.{found-bad, found-good}
 use Rattle.contract.proofs.MadeLaws.{not-whole}
 use Rattle.uploads.proofs.Replies.{made-uploads}
 use Rattle.uploads.proofs.uploads.Statement.{statement}
 use Rattle.uploads.proofs.uploads.Tie as tie
 
-whole-requires : tie.Need-whole-requires
-whole-requires c κs = search needs
+scan-store-requires : tie.Need-scan-store-requires
+scan-store-requires c κs = search needs
+
+enum-known-uploads : tie.Need-enum-known-uploads
+enum-known-uploads c = search needs
+
+enum-told : tie.Need-enum-told
+enum-told c = search needs
 
 returns : tie.Need-returns
-returns c = not-whole (said-no (c .before .whole .ensures) (c .if1 .taken))
-
--- where memory is whole
-module _ (c : tie.Else1) where
-  abbrev start : tie.Start
-  start = c .before .before .before .before .before .before
-
-  is-whole : whole (start .args .tables .now) (start .args .arena .now) ≡ true
-  is-whole = said-yes (c .before .whole .ensures) (c .if1 .left)
+returns c = not-whole (found-bad _ (c .before .before .scan-store .ensures) (c .enum-told .given .1))
 
 uploads-whole-requires : tie.Need-uploads-whole-requires
-uploads-whole-requires c κs = is-whole (c .before)
+uploads-whole-requires c κs = found-good (c .before .before .before .before .scan-store .ensures) (c .before .before .uploads .given .1)
 
 same-length : tie.Need-same-length
 same-length c = search needs
 
 returns-2 : tie.Need-returns-2
 returns-2 c =
-    let k = c .before .before .before .before in
-    made-uploads _ _ _ _ (λ j. k .before .before .before .before .before .shared-slice-known .given j .fits) (is-whole k) _ (c .before .before .uploads-whole .ensures)
+    let k = c .before .before .before .before .before in
+    made-uploads _ _ _ _ (λ j. k .before .before .before .before .before .before .shared-slice-known .given j .fits)
+    (found-good (k .before .before .scan-store .ensures) (k .uploads .given .1) .0) _ (c .before .before .uploads-whole .ensures)
 
 pub uploads-spec : {M : Type 1} → statement M
-uploads-spec = tie.close (tie.spec whole-requires returns uploads-whole-requires same-length returns-2)
+uploads-spec =
+    tie.close
+    (tie.spec scan-store-requires enum-known-uploads enum-told returns uploads-whole-requires same-length returns-2)

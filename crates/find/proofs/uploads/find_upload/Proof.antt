@@ -2,18 +2,18 @@
 use mathlib.Core.Path.{_∙_}
 use borrow.Author.Needs.{needs}
 use Rattle.layout.specs.Memory.{stateOf, rowsOf}
-use Rattle.find.proofs.Answers.{is-row-place, upload-within, found-upload}
+use Rattle.find.proofs.Answers.{sought-row-place, uploads-within, upload-answer, found-upload}
 use Rattle.find.proofs.uploads.find_upload.Statement.{statement}
 use Rattle.find.proofs.uploads.find_upload.Tie as tie
 
-upload-row-requires : tie.Need-upload-row-requires
-upload-row-requires c κs = search needs
+seek-uploads-requires : tie.Need-seek-uploads-requires
+seek-uploads-requires c κs = search needs
 
 stands-requires : tie.Need-stands-requires
 stands-requires c κs =
     let k = c .before .before .before in
     let s = stateOf (k .args .tables .now) (k .args .arena .now) in
-    (k .pre, is-row-place (rowsOf s) (c .upload-row .result) _ (c .upload-row .ensures) (upload-within s (k .args .upload)))
+    (k .pre .0, sought-row-place _ (rowsOf s) (c .seek-uploads .result) _ (c .seek-uploads .ensures) (uploads-within s))
 
 lookup-at-requires : tie.Need-lookup-at-requires
 lookup-at-requires c κs = search needs
@@ -24,7 +24,8 @@ returns c =
     let r = c .before .before in
     let k = r .before .before .before in
     let s = stateOf (k .args .tables .now) (k .args .arena .now) in
-    c .lookup-at .ensures ∙ found-upload s (k .args .upload) (r .upload-row .result) (d .result) (r .upload-row .ensures) (d .ensures)
+    let here = r .seek-uploads .result in
+    c .lookup-at .ensures ∙ found-upload s (k .args .upload) here (d .result) (upload-answer s (k .args .upload) here (r .seek-uploads .ensures)) (d .ensures)
 
 pub find-upload-spec : {M : Type 1} → statement M
-find-upload-spec = tie.close (tie.spec upload-row-requires stands-requires lookup-at-requires returns)
+find-upload-spec = tie.close (tie.spec seek-uploads-requires stands-requires lookup-at-requires returns)

@@ -1,14 +1,15 @@
 -- The search for a path, row by row. Assumes nothing.
 use Prim.Native.Nat.{ℕ, suc, _+_, _≤_, _<_, Ordering, Ordering·lt, Ordering·eq, Ordering·gt}
 use mathlib.Core.Path.{_≡_, refl, sym, ap, _∙_}
-use mathlib.Core.Bool.{Bool, true, false}
+use mathlib.Core.Bool.{Bool, true, false, false≢true}
 use mathlib.Core.List.{List, []}
 use mathlib.Core.Option.{none, some}
 use native.Mathlib.Numerals.{add-one}
 use native.Mathlib.Omega.{arith}
 use lib.ListN.{length, take, drop, drop-of-length-le}
 use lib.Seq.{drop-cons, length-take-le}
-use Rattle.order.specs.Order.{by, byBytes}
+use Rattle.order.specs.Order.{by, byBytes, isBelow, same}
+use Rattle.order.proofs.OrderLaws.{cases, bytes, below-lt}
 use Rattle.machine.specs.Map.{isSome, lookup, place}
 use Rattle.machine.specs.Names.{Bytes}
 use Rattle.machine.specs.State.{State}
@@ -43,13 +44,13 @@ passed-all s p i at base k l =
     let e : drop i (s .O) ≡ [] = drop-of-length-le (s .O) l in
     here s p i at base false k (rw e) (rw e)
 
--- what the code knows at the row of object i, by the head that it read there and the comparison of the paths
+-- what the code knows at the row of object i, by the head that it read there and whether its path is below p
 pub record Turn (t a : List ℕ) (s : State) (p : Bytes) (i at base : ℕ) (head : Head) : Type 0 where
   pub inside : at + span head ≤ length t
   pub arena-inside : base + head .size ≤ length a
-  pub less : byBytes p (take (head .pathlen) (drop (at + headLength) t)) ≡ Ordering·lt → placed false i at base ≡ objectPlace s p
-  pub equal : byBytes p (take (head .pathlen) (drop (at + headLength) t)) ≡ Ordering·eq → placed true i at base ≡ objectPlace s p
-  pub greater : byBytes p (take (head .pathlen) (drop (at + headLength) t)) ≡ Ordering·gt → Passed s p (i + 1) (at + span head) (base + head .size)
+  pub here : (b : Bool) → isBelow (take (head .pathlen) (drop (at + headLength) t)) p ≡ false → b ≡ same p (take (head .pathlen) (drop (at + headLength) t))
+      → placed b i at base ≡ objectPlace s p
+  pub on : isBelow (take (head .pathlen) (drop (at + headLength) t)) p ≡ true → Passed s p (i + 1) (at + span head) (base + head .size)
 
 module _ (t a : List ℕ) (s : State) (h : Stands t a s) (p : Bytes) (i at base : ℕ) (k : Passed s p i at base) (l : i < length (s .O)) where
   here-at : At t a s h (front s i) (row s i) (rest s i)
@@ -71,6 +72,20 @@ module _ (t a : List ℕ) (s : State) (h : Stands t a s) (p : Bytes) (i at base 
         let f : byBytes p (entry s i .0) ≡ o = ap (byBytes p) (sym (here-read .path)) ∙ e in
         (rw (drop-cons (s .O) i blank l, f), rw (drop-cons (s .O) i blank l, f))
 
+    -- the path in the row
+    abbrev path : Bytes
+    path = take (head .pathlen) (drop (at + headLength) t)
+
+    above : isBelow path p ≡ true → byBytes p path ≡ Ordering·gt
+    above e = bytes .under path p (below-lt path p e)
+
+    not-below : (b : Bool) → isBelow path p ≡ false → b ≡ same p path → placed b i at base ≡ objectPlace s p
+    not-below b e q =
+        cases (byBytes p path)
+        (λ o. here s p i at base b k (answer _ o .1) (ap isSome (answer _ o .0) ∙ sym (rw o at q)))
+        (λ o. here s p i at base b k (answer _ o .1) (ap isSome (answer _ o .0) ∙ sym (rw o at q)))
+        (λ o. let below : isBelow path p ≡ true = rw (bytes .over p path o) in absurd (false≢true (sym e ∙ below)))
+
     pub object-turn : Turn t a s p i at base head
     unfolding front
     object-turn =
@@ -78,9 +93,9 @@ module _ (t a : List ℕ) (s : State) (h : Stands t a s) (p : Bytes) (i at base 
         record {
           inside = r .inside;
           arena-inside = r .arena-inside;
-          less = λ e. here s p i at base false k (answer _ e .1) (ap isSome (answer _ e .0));
-          equal = λ e. here s p i at base true k (answer _ e .1) (ap isSome (answer _ e .0));
-          greater = λ e.
+          here = λ b. not-below b;
+          on = λ below.
+              let e = above below in
               record {
                 within = omega arith;
                 rows = omega (arith, r .next, ap (λ (rs : List Row). headerLength + length (encodeRows rs)) (sym (next-front s i l)));

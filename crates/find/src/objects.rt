@@ -29,15 +29,9 @@ pub fn find_object(tables: &[u8], arena: &[u8], path: &[u8]) -> Lookup
         }
         let from = at + row::HEAD_LENGTH;
         let to = from + h.pathlen as usize;
-        let o = order::compare(path, &tables[from..to]);
-        match o {
-            Order::Greater => {}
-            Order::Equal => {
-                return lookup_at(true, RowPlace { row: i, at, base });
-            }
-            Order::Less => {
-                return lookup_at(false, RowPlace { row: i, at, base });
-            }
+        if !order::is_below(&tables[from..to], path) {
+            let found = order::equal(path, &tables[from..to]);
+            return lookup_at(found, RowPlace { row: i, at, base });
         }
         at = to;
         base += h.size as usize;
@@ -61,15 +55,9 @@ fn find_from(tables: &[u8], arena: &[u8], path: &[u8], start: RowPlace) -> Looku
         let h = row::read_head(tables, at);
         let from = at + row::HEAD_LENGTH;
         let to = from + h.pathlen as usize;
-        let o = order::compare(path, &tables[from..to]);
-        match o {
-            Order::Greater => {}
-            Order::Equal => {
-                return lookup_at(true, RowPlace { row: i, at, base });
-            }
-            Order::Less => {
-                return lookup_at(false, RowPlace { row: i, at, base });
-            }
+        if !order::is_below(&tables[from..to], path) {
+            let found = order::equal(path, &tables[from..to]);
+            return lookup_at(found, RowPlace { row: i, at, base });
         }
         at += row::span(h);
         base += h.size as usize;

@@ -4,13 +4,13 @@ use mathlib.Core.Bool.{Bool, cond}
 use mathlib.Core.List.{List, [], _∷_}
 use lib.Dec.{leb, ltb, eqb}
 use lib.ListN.{length, drop}
-use Rattle.order.specs.Order.{byBytes, same}
+use Rattle.order.specs.Order.{isBelow, same}
 use Rattle.machine.specs.Names.{Bytes, formerPathOk, numberOk}
 use Rattle.row.specs.declared.Head.{Head}
 use Rattle.row.specs.Row.{Row, headOf, good}
 use Rattle.layout.specs.declared.Mark.{Mark}
 use Rattle.layout.specs.Header.{headerLength, headerAt}
-use Rattle.layout.specs.Rules.{plainKind, joinedKind, uploadKind, partKind, partsMost, all, isLess, noDigest, uploadRule, objectNext, entryNext, start}
+use Rattle.layout.specs.Rules.{plainKind, joinedKind, uploadKind, partKind, partsMost, all, noDigest, uploadRule, objectNext, entryNext, start}
 use Rattle.layout.specs.Memory.{formerTablesLength, headerOk, objectsGood, uploadsAmong, uploadRowsAt, uploadTables, uploadArena}
 
 -- a part's row before E7, by document 01's rule of part numbers, which was PART's too
@@ -51,7 +51,7 @@ module _ (pathIs : Bytes → Bool) where
       ∷ leb (h .kind) joinedKind
       ∷ leb (h .count) (cond (eqb (h .kind) plainKind) 0 partsMost)
       ∷ pathIs path
-      ∷ isLess (byBytes last path)
+      ∷ isBelow last path
       ∷ eqb (h .pairs) 0
       ∷ [])
 

@@ -8,6 +8,7 @@ use borrow.Author.Tests.{leb-true, le-leb, eqb-true, eqb-false, eq-eqb}
 use lib.Dec.{eqb}
 use lib.ListN.{length, length-append}
 use Rattle.order.specs.Order.{byBytes}
+use Rattle.order.proofs.OrderLaws.{below-lt}
 use Rattle.machine.specs.Map.{Map, Above, Ascending, Every}
 use Rattle.machine.specs.Names.{Bytes, storedPathOk}
 use Rattle.machine.specs.Etags.{Etag, absent, plain, joined, countOf, digestOf}
@@ -19,15 +20,10 @@ use Rattle.stored_pairs.proofs.StoredLaws.{length-lengths, stored-decode}
 use Rattle.stored_pairs.proofs.Blocks.{data-back}
 use Rattle.row.specs.Row.{Row, headOf, contentsOf, Encodable, EncodableAll}
 use Rattle.row.proofs.RowLaws.{Follows}
-use Rattle.layout.specs.Rules.{plainKind, joinedKind, partsMost, isLess, pairsRule, objectRule, objectOk, objectNext}
+use Rattle.layout.specs.Rules.{plainKind, joinedKind, partsMost, pairsRule, objectRule, objectOk, objectNext}
 use Rattle.layout.specs.Memory.{objectRow, objectRows, objectOf, objectsOf, rowEtag, rowKind}
 use Rattle.layout.proofs.TestLaws.{all-true, true-all, stored-path-length, stamp-range, stamp-ok}
 use Rattle.layout.proofs.PairRows.{Paired, paired, pairs-ok}
-
-is-less : (o : Ordering) → isLess o ≡ true → o ≡ Ordering·lt
-is-less Ordering·lt e = refl
-is-less Ordering·eq e = absurd (false≢true e)
-is-less Ordering·gt e = absurd (false≢true e)
 
 -- Sound ------------------------------------------------------------------------------------------------------------------
 
@@ -72,7 +68,7 @@ module _ (most : ℕ) where
         stamp = leb-true _ _ (h .1 .0);
         etag = etagged (r .kind) (r .count) (r .digest) (leb-true _ _ (h .1 .1 .0)) (leb-true _ _ (h .1 .1 .1 .0));
         path = h .1 .1 .1 .1 .0;
-        later = is-less _ (h .1 .1 .1 .1 .1 .0);
+        later = below-lt last (r .path) (h .1 .1 .1 .1 .1 .0);
       }
 
   -- the pairs of an object's row keep their rule
@@ -198,7 +194,7 @@ object-rows-follow last (e ∷ m) h a v =
               le-leb _ _ (g .count),
               (
                 v .0 .path,
-                (ap isLess h, (pairs-ok (e .1 .pairs) (headOf (objectRow (e .0) (e .1))) _ (e .1 .content) (v .0 .pairs) refl refl, tt)),
+                (rw h, (pairs-ok (e .1 .pairs) (headOf (objectRow (e .0) (e .1))) _ (e .1 .content) (v .0 .pairs) refl refl, tt)),
               ),
             ),
           ),

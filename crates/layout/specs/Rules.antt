@@ -1,11 +1,11 @@
 -- The rules by which rows follow one another: objects ascend by path; uploads ascend by number, each with its parts after it,
 -- ascending by part number. A field that a kind of row does not use is 0. `most` is how many pairs a row may have, by the layout. Assumes nothing.
-use Prim.Native.Nat.{ℕ, Ordering, Ordering·lt, Ordering·eq, Ordering·gt}
+use Prim.Native.Nat.{ℕ}
 use mathlib.Core.Bool.{Bool, true, false, _&&_, cond}
 use mathlib.Core.List.{List, [], _∷_}
 use lib.Dec.{leb, ltb, eqb}
 use lib.ListN.{replicate}
-use Rattle.order.specs.Order.{byBytes, same}
+use Rattle.order.specs.Order.{isBelow, same}
 use Rattle.machine.specs.Names.{storedPathOk, storedPartOk}
 use Rattle.stored_pairs.specs.Stored.{sumOf, blockOk}
 use Rattle.row.specs.declared.Head.{Head}
@@ -40,11 +40,6 @@ unfoldable pub all : List Bool → Bool
 all [] = true
 all (b ∷ bs) = b && all bs
 
-abbrev pub isLess : Ordering → Bool
-isLess Ordering·lt = true
-isLess Ordering·eq = false
-isLess Ordering·gt = false
-
 -- a digest that is not used
 abbrev pub noDigest : List ℕ
 noDigest = replicate 16 0
@@ -62,7 +57,7 @@ objectRule most last h path lengths content =
     ∷ leb (h .kind) joinedKind
     ∷ leb (h .count) (cond (eqb (h .kind) plainKind) 0 partsMost)
     ∷ storedPathOk path
-    ∷ isLess (byBytes last path)
+    ∷ isBelow last path
     ∷ pairsRule most h lengths content
     ∷ [])
 

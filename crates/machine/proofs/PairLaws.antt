@@ -10,11 +10,11 @@ use native.Mathlib.Omega.{arith}
 use borrow.Author.Tests.{le-leb, leb-true, not-true}
 use lib.Dec.{leb}
 use lib.ListN.{length}
-use Rattle.order.specs.Order.{byBytes, same}
-use Rattle.order.proofs.OrderLaws.{cases, same-self, bytes}
+use Rattle.order.specs.Order.{byBytes, isBelow, same}
+use Rattle.order.proofs.OrderLaws.{cases, same-self, bytes, below-lt}
 use Rattle.machine.specs.Map.{Map, lookup, insert, Above, Ascending, Every}
 use Rattle.machine.specs.Names.{Bytes}
-use Rattle.machine.specs.Pairs.{Pair, every, keyByte, valueByte, keyOk, valueOk, pairOk, systemKey, kept, hasKey, distinctKeys, pairsMost, pairsOk, arranged, pairMap, isBelow, keptAfter, keptFrom, keptOk, pairsHeld, encodePairs}
+use Rattle.machine.specs.Pairs.{Pair, every, keyByte, valueByte, keyOk, valueOk, pairOk, systemKey, kept, hasKey, distinctKeys, pairsMost, pairsOk, arranged, pairMap, keptAfter, keptFrom, keptOk, pairsHeld, encodePairs}
 use Rattle.machine.proofs.Options.{both, none-some}
 use Rattle.machine.proofs.MapLaws.{lookup-insert-other, ascending-insert, every-insert}
 use Rattle.machine.proofs.PairBytes.{length-encode}
@@ -149,9 +149,6 @@ module _ (l : List Pair) (ok : pairsOk l ≡ true) where
 
 -- The pairs of an object or an upload --------------------------------------------------------------------------------------
 
-below-is : (a b : Bytes) → isBelow a b ≡ true → byBytes a b ≡ Ordering·lt
-below-is a b e = cases (byBytes a b) (λ q. q) (λ q. absurd (false≢true (simp q at e))) (λ q. absurd (false≢true (simp q at e)))
-
 module _ (last : Bytes) (e : Pair) (k : keptAfter last e ≡ true) where
   after-tests : (pairOk e ≡ true) × (not (systemKey (e .0)) && isBelow last (e .0) ≡ true)
   unfolding keptAfter
@@ -161,7 +158,7 @@ module _ (last : Bytes) (e : Pair) (k : keptAfter last e ≡ true) where
   after-ok = after-tests .0
 
   pub after-below : byBytes last (e .0) ≡ Ordering·lt
-  after-below = below-is last (e .0) (both (not (systemKey (e .0))) (isBelow last (e .0)) (after-tests .1) .1)
+  after-below = below-lt last (e .0) (both (not (systemKey (e .0))) (isBelow last (e .0)) (after-tests .1) .1)
 
 -- each keeps its rule
 from-passes : (last : Bytes) (m : Map Bytes Bytes) → keptFrom last m ≡ true → Passes pairOk m

@@ -4,7 +4,7 @@ use mathlib.Core.Bool.{Bool, true, false, not, _&&_, _||_, cond}
 use mathlib.Core.List.{List, [], _∷_, _++_}
 use lib.Dec.{leb, ltb, eqb}
 use lib.ListN.{length, take, drop, getD}
-use Rattle.order.specs.Order.{by, byBytes, same}
+use Rattle.order.specs.Order.{byBytes, isBelow, same}
 use Rattle.machine.specs.Map.{Map, insert, keep, records}
 use Rattle.machine.specs.Names.{Bytes}
 
@@ -85,9 +85,6 @@ unfoldable pub pairMap : List Pair → Map Bytes Bytes
 pairMap l = arranged [] (kept l)
 
 -- The pairs of an object or an upload --------------------------------------------------------------------------------------
-
-abbrev pub isBelow : Bytes → Bytes → Bool
-isBelow a b = by (byBytes a b) true false false
 
 -- the pair may stand after one with the key `last`: a store holds no pair of another form, and no system key
 unfoldable pub keptAfter : (last : Bytes) → Pair → Bool

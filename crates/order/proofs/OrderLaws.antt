@@ -1,12 +1,12 @@
 -- The laws of the two comparisons, of numbers and of byte strings. Assumes nothing.
 use Prim.Native.Nat.{ℕ, zero, suc, _<_, zero-le, suc-le-suc, compare, Ordering, Ordering·lt, Ordering·eq, Ordering·gt, compare·zero-zero, compare·zero-suc, compare·suc-zero, compare·suc-suc}
 use mathlib.Core.Path.{_≡_, refl, sym, ap, ap₂, _∙_}
-use mathlib.Core.Bool.{true, false}
+use mathlib.Core.Bool.{true, false, false≢true}
 use mathlib.Core.List.{List, [], _∷_, _++_}
 use native.Mathlib.Nat.{le-of-suc-le-suc, not-suc-le-zero}
 use native.Mathlib.Omega.{arith}
 use lib.Dec.{isEq}
-use Rattle.order.specs.Order.{byBytes, same}
+use Rattle.order.specs.Order.{byBytes, isBelow, same}
 
 -- a comparison is one of three
 pub cases : {B : Type 0} (o : Ordering) → (o ≡ Ordering·lt → B) → (o ≡ Ordering·eq → B) → (o ≡ Ordering·gt → B) → B
@@ -143,3 +143,6 @@ same-false a b d =
     (λ p. simp p)
     (λ p. absurd (d (bytes-alike a b p)))
     (λ p. simp p)
+
+pub below-lt : (a b : List ℕ) → isBelow a b ≡ true → byBytes a b ≡ Ordering·lt
+below-lt a b e = cases (byBytes a b) (λ q. q) (λ q. absurd (false≢true (simp q at e))) (λ q. absurd (false≢true (simp q at e)))

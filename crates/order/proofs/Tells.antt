@@ -8,17 +8,10 @@ use native.Mathlib.Omega.{arith}
 use lib.ListN.{length, take, getD}
 use Rattle.number.specs.Number.{AreBytes}
 use Rattle.order.specs.Order.{byBytes}
-use Rattle.order.specs.Compared.{Common, DecidingWord, orderOf}
-use Rattle.order.specs.declared.Order.the-variants.{Less, Greater}
+use Rattle.order.specs.Compared.{Common, DecidingWord, Tells, orderOf}
 use Rattle.order.proofs.OrderLaws.{cases, alike, below, above, bytes-under}
 use Rattle.order.proofs.Strings.{same-more, same-fewer, next-less, next-greater}
 use Rattle.order.proofs.BigLaws.{word, word-below, word-lt, word-same}
-
--- x and y stand as a and b do; where they are the same, so are the first n bytes
-pub record Tells (a b : List ℕ) (n x y : ℕ) : Type 0 where
-  pub less : x < y → Less ≡ orderOf (byBytes a b)
-  pub greater : y < x → Greater ≡ orderOf (byBytes a b)
-  pub same : x ≡ y → take n a ≡ take n b
 
 -- equal numbers tell the same
 pub tells-as : {a b : List ℕ} {n x y x' y' : ℕ} → x ≡ x' → y ≡ y' → Tells a b n x' y' → Tells a b n x y

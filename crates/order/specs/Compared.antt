@@ -3,6 +3,7 @@ use Prim.Native.Nat.{ℕ, _+_, Ordering, Ordering·lt, Ordering·eq, Ordering·g
 use mathlib.Core.Path.{_≡_}
 use mathlib.Core.List.{List}
 use lib.ListN.{length, take, drop, getD}
+use Rattle.order.specs.Order.{byBytes}
 use Rattle.order.specs.declared.Order.{Order}
 use Rattle.order.specs.declared.Order.the-variants.{Less, Equal, Greater}
 
@@ -23,6 +24,12 @@ pub record DecidingWord (a b : List ℕ) (n r : ℕ) : Type 0 where
   pub inside : r + 8 ≤ n
   pub alike : take r a ≡ take r b
   pub differ : r + 8 < n → take 8 (drop r a) ≡ take 8 (drop r b) → ⊥
+
+-- x and y stand as a and b do; where they are the same, so are the first n bytes
+pub record Tells (a b : List ℕ) (n x y : ℕ) : Type 0 where
+  pub less : x < y → Less ≡ orderOf (byBytes a b)
+  pub greater : y < x → Greater ≡ orderOf (byBytes a b)
+  pub same : x ≡ y → take n a ≡ take n b
 
 -- a and b agree on the first n bytes, and one has no more
 pub record SameStart (a b : List ℕ) (n : ℕ) : Type 0 where

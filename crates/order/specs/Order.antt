@@ -1,6 +1,6 @@
 -- Byte strings compared. Assumes nothing.
 use Prim.Native.Nat.{ℕ, _-_, compare, Ordering, Ordering·lt, Ordering·eq, Ordering·gt}
-use mathlib.Core.Bool.{Bool}
+use mathlib.Core.Bool.{Bool, true, false}
 use mathlib.Core.List.{List, [], _∷_}
 use lib.Dec.{isEq}
 use lib.ListN.{length, take, drop}
@@ -18,6 +18,10 @@ byBytes [] [] = Ordering·eq
 byBytes [] (y ∷ ys) = Ordering·lt
 byBytes (x ∷ xs) [] = Ordering·gt
 byBytes (x ∷ xs) (y ∷ ys) = by (compare x y) Ordering·lt (byBytes xs ys) Ordering·gt
+
+-- a is before b
+abbrev pub isBelow : List ℕ → List ℕ → Bool
+isBelow a b = by (byBytes a b) true false false
 
 abbrev pub same : List ℕ → List ℕ → Bool
 same a b = isEq (byBytes a b)

@@ -1,9 +1,9 @@
 // Byte strings compared.
 ghost use mathlib.Core.Path.{_≡_};
-ghost use Prim.Native.Nat.{_+_, _≤_, min};
+ghost use Prim.Native.Nat.{_+_, _≤_, _<_, min};
 ghost use lib.ListN.{length, take, drop};
-ghost use Rattle.order.specs.Order.{byBytes, same, begins, ends};
-ghost use Rattle.order.specs.Compared.{Common, DecidingWord, SameStart, orderOf};
+ghost use Rattle.order.specs.Order.{byBytes, isBelow, same, begins, ends};
+ghost use Rattle.order.specs.Compared.{Common, DecidingWord, SameStart, Tells, orderOf};
 ghost use Rattle.order.specs.Big.{fromBe};
 ghost use Rattle.number.specs.Number.{le};
 
@@ -70,14 +70,15 @@ fn common_bytes(a: &[u8], b: &[u8], n: usize) -> usize
     i
 }
 
-// The place of the first word of eight bytes that differs; where none before the last does, that of the last, which may overlap the one
-// before it. Two words a turn: turns of one are so short that their time depends on where the linker puts them.
-fn deciding_word(a: &[u8], b: &[u8], n: usize) -> usize
-    requires { ⌜ (8 ≤ n) × (n ≤ length (now a)) × (n ≤ length (now b)) ⌝ }
+// The place of the first word of eight bytes that differs, where the first `from` bytes are the same; where none before the
+// last does, that of the last, which may overlap the one before it. Two words a turn: turns of one are so short that their
+// time depends on where the linker puts them.
+fn deciding_word(a: &[u8], b: &[u8], from: usize, n: usize) -> usize
+    requires { ⌜ (8 ≤ n) × (n ≤ length (now a)) × (n ≤ length (now b)) × (from ≤ n) × (take from (now a) ≡ take from (now b)) ⌝ }
     ensures { λ r. ⌜ DecidingWord (now (a .entry)) (now (b .entry)) n r ⌝ }
 {
     let last = n - 8;
-    let mut i = 0;
+    let mut i = from;
     while i < last {
         if number::get_u64(a, i) != number::get_u64(b, i) {
             return i;
@@ -94,6 +95,87 @@ fn deciding_word(a: &[u8], b: &[u8], n: usize) -> usize
     last
 }
 
+// Two numbers that tell how a stands to b.
+struct Numbers {
+    x: u64,
+    y: u64,
+}
+
+// The bytes that decide as two numbers, high byte first, where n is less than eight.
+fn short_numbers(a: &[u8], b: &[u8], n: usize) -> Numbers
+    requires { ⌜ (n < 8) × (n ≤ length (now a)) × (n ≤ length (now b)) ⌝ }
+    ensures { λ r. ⌜ Tells (now (a .entry)) (now (b .entry)) n (r .x) (r .y) ⌝ }
+{
+    if 4 <= n {
+        let x = 4294967296 * (big_u32(a, 0) as u64) + big_u32(a, n - 4) as u64;
+        let y = 4294967296 * (big_u32(b, 0) as u64) + big_u32(b, n - 4) as u64;
+        return Numbers { x, y };
+    }
+    let i = common_bytes(a, b, n);
+    if i < n {
+        let x = a[i] as u64;
+        let y = b[i] as u64;
+        return Numbers { x, y };
+    }
+    Numbers { x: 0, y: 0 }
+}
+
+// The same of any n, where the first `from` bytes are the same.
+fn deciding_numbers(a: &[u8], b: &[u8], from: usize, n: usize) -> Numbers
+    requires { ⌜ (n ≤ length (now a)) × (n ≤ length (now b)) × (from ≤ n) × (take from (now a) ≡ take from (now b)) ⌝ }
+    ensures { λ r. ⌜ Tells (now (a .entry)) (now (b .entry)) n (r .x) (r .y) ⌝ }
+{
+    if n < 8 {
+        return short_numbers(a, b, n);
+    }
+    let k = deciding_word(a, b, from, n);
+    let x = big_u64(a, k);
+    let y = big_u64(b, k);
+    Numbers { x, y }
+}
+
+// Passes two words from i on while they are the same; the first i bytes are.
+fn pass_two(a: &[u8], b: &[u8], i: usize) -> usize
+    requires { ⌜ (i + 16 ≤ length (now a)) × (i + 16 ≤ length (now b)) × (take i (now a) ≡ take i (now b)) ⌝ }
+    ensures { λ r. ⌜ (i ≤ r) × (r ≤ i + 16) × (take r (now (a .entry)) ≡ take r (now (b .entry))) ⌝ }
+{
+    if number::get_u64(a, i) != number::get_u64(b, i) {
+        return i;
+    }
+    if number::get_u64(a, i + 8) != number::get_u64(b, i + 8) {
+        return i + 8;
+    }
+    i + 16
+}
+
+// The same of four words.
+fn pass_four(a: &[u8], b: &[u8], i: usize) -> usize
+    requires { ⌜ (i + 32 ≤ length (now a)) × (i + 32 ≤ length (now b)) × (take i (now a) ≡ take i (now b)) ⌝ }
+    ensures { λ r. ⌜ (i ≤ r) × (r ≤ i + 32) × (take r (now (a .entry)) ≡ take r (now (b .entry))) ⌝ }
+{
+    let r = pass_two(a, b, i);
+    if r < i + 16 {
+        return r;
+    }
+    pass_two(a, b, r)
+}
+
+// Passes words that are the same, four a turn, up to the first that differs or fewer than 32 bytes before n.
+fn pass_words(a: &[u8], b: &[u8], n: usize) -> usize
+    requires { ⌜ (n ≤ length (now a)) × (n ≤ length (now b)) ⌝ }
+    ensures { λ r. ⌜ (r ≤ n) × (take r (now (a .entry)) ≡ take r (now (b .entry))) ⌝ }
+{
+    let mut i = 0;
+    while 32 <= n - i {
+        let r = pass_four(a, b, i);
+        if r < i + 32 {
+            return r;
+        }
+        i = r;
+    }
+    i
+}
+
 // How a stands to b, where their first n bytes are the same and one has no more.
 fn by_length(a: &[u8], b: &[u8], n: usize) -> Order
     requires { ⌜ SameStart (now a) (now b) n ⌝ }
@@ -108,52 +190,50 @@ fn by_length(a: &[u8], b: &[u8], n: usize) -> Order
     Order::Equal
 }
 
-// Which of a and b is first, byte by byte; a string is before those that it begins. The bytes that decide are read as two numbers,
-// high byte first.
+// Which of a and b is first, byte by byte; a string is before those that it begins.
 pub fn compare(a: &[u8], b: &[u8]) -> Order
     ensures { λ r. ⌜ r ≡ orderOf (byBytes (now (a .entry)) (now (b .entry))) ⌝ }
 {
     let n = least(a.len(), b.len());
-    let mut x: u64 = 0;
-    let mut y: u64 = 0;
-    if 8 <= n {
-        let k = deciding_word(a, b, n);
-        x = big_u64(a, k);
-        y = big_u64(b, k);
-    } else if 4 <= n {
-        x = 4294967296 * (big_u32(a, 0) as u64) + big_u32(a, n - 4) as u64;
-        y = 4294967296 * (big_u32(b, 0) as u64) + big_u32(b, n - 4) as u64;
-    } else {
-        let i = common_bytes(a, b, n);
-        if i < n {
-            x = a[i] as u64;
-            y = b[i] as u64;
-        }
-    }
-    if x < y {
+    let from = pass_words(a, b, n);
+    let t = deciding_numbers(a, b, from, n);
+    if t.x < t.y {
         return Order::Less;
     }
-    if y < x {
+    if t.y < t.x {
         return Order::Greater;
     }
     by_length(a, b, n)
+}
+
+// Whether a is before b: the comparison of the loops over rows, short enough that the compiler puts it into them.
+pub fn is_below(a: &[u8], b: &[u8]) -> bool
+    ensures { λ r. ⌜ r ≡ isBelow (now (a .entry)) (now (b .entry)) ⌝ }
+{
+    let n = least(a.len(), b.len());
+    let t = deciding_numbers(a, b, 0, n);
+    if t.x < t.y {
+        return true;
+    }
+    if t.y < t.x {
+        return false;
+    }
+    a.len() < b.len()
 }
 
 // Whether they are the same bytes. Empty ones are seen first: most listings have an empty suffix.
 pub fn equal(a: &[u8], b: &[u8]) -> bool
     ensures { λ r. ⌜ r ≡ same (now (a .entry)) (now (b .entry)) ⌝ }
 {
-    if a.len() != b.len() {
+    let n = a.len();
+    if n != b.len() {
         return false;
     }
-    if a.len() == 0 {
+    if n == 0 {
         return true;
     }
-    match compare(a, b) {
-        Order::Less => false,
-        Order::Equal => true,
-        Order::Greater => false,
-    }
+    let t = deciding_numbers(a, b, 0, n);
+    t.x == t.y
 }
 
 // Whether s begins with the prefix.

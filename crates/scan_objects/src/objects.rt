@@ -5,14 +5,12 @@ ghost use mathlib.Core.List.{[]};
 ghost use Prim.Native.Nat.{_+_, _-_, _*_, _≤_};
 ghost use lib.Dec.{eqb};
 ghost use lib.ListN.{length, take, drop};
-ghost use Rattle.order.specs.Order.{byBytes};
-ghost use Rattle.layout.specs.Rules.{plainKind, partsMost, isLess, objectRule};
+ghost use Rattle.layout.specs.Rules.{plainKind, partsMost, objectRule};
 ghost use Rattle.scan_objects.specs.Scan.{objectScan};
 use crate::Offset;
 use crate::Reading;
 use crate::Scan;
 use crate::rows;
-use order::Order;
 use row::Head;
 
 // The most parts that an etag of this kind can count.
@@ -23,17 +21,6 @@ fn most_parts(kind: u8) -> u16
         0
     } else {
         layout::PARTS_MOST as u16
-    }
-}
-
-// Whether a stands before b.
-fn ascend(a: &[u8], b: &[u8]) -> bool
-    ensures { λ r. ⌜ r ≡ isLess (byBytes (now (a .entry)) (now (b .entry))) ⌝ }
-{
-    match order::compare(a, b) {
-        Order::Less => true,
-        Order::Equal => false,
-        Order::Greater => false,
     }
 }
 
@@ -68,7 +55,7 @@ fn object_ok(
     if h.stamp < 1 {
         return false;
     }
-    if !ascend(last, &t[path..end]) {
+    if !order::is_below(last, &t[path..end]) {
         return false;
     }
     if !names::stored_path_ok_at(t, path, end) {

@@ -6,11 +6,11 @@ use mathlib.Core.List.{List, [], _∷_, _++_}
 use mathlib.Core.Option.{Option, none, some}
 use native.Mathlib.Omega.{arith}
 use lib.ListN.{length, drop}
-use Rattle.order.specs.Order.{byBytes}
+use Rattle.order.specs.Order.{byBytes, isBelow}
 use Rattle.order.proofs.OrderLaws.{cases, bytes}
 use Rattle.machine.specs.Map.{Map, insert, Above, Ascending, keep}
 use Rattle.machine.specs.Names.{Bytes}
-use Rattle.machine.specs.Pairs.{Pair, systemKey, kept, arranged, isBelow, frontSize, frontKey, frontFits, frontPair, pairList}
+use Rattle.machine.specs.Pairs.{Pair, systemKey, kept, arranged, frontSize, frontKey, frontFits, frontPair, pairList}
 use Rattle.machine.proofs.MapLaws.{above-chain, ascending-insert}
 use Rattle.machine.proofs.MapSplits.{Below, below-middle}
 use Rattle.machine.proofs.MapKeep.{keep-append}

@@ -1,5 +1,5 @@
 -- The test of pairs in memory, pair by pair and in the order of the code's tests. Assumes nothing.
-use Prim.Native.Nat.{ℕ, suc, _+_, _-_, _*_, _≤_, _<_, Ordering, Ordering·lt, Ordering·eq, Ordering·gt}
+use Prim.Native.Nat.{ℕ, suc, _+_, _-_, _*_, _≤_, _<_}
 use mathlib.Core.Path.{_≡_, refl, sym, ap, _∙_}
 use mathlib.Core.Bool.{Bool, true, false, _&&_}
 use mathlib.Core.List.{[], _∷_}
@@ -9,28 +9,11 @@ use borrow.Author.Tests.{ne-eqb, eq-eqb, le-leb, lt-leb}
 use lib.Dec.{eqb}
 use lib.ListN.{length, take, drop, getD, length-drop, drop-of-length-le}
 use lib.Seq.{drop-cons, drop-drop}
-use Rattle.order.specs.declared.Order.{Order}
-use Rattle.order.specs.declared.Order.the-variants.{Less, Equal, Greater}
-use Rattle.order.specs.Order.{by, byBytes}
-use Rattle.order.specs.Compared.{orderOf}
+use Rattle.order.specs.Order.{isBelow}
 use Rattle.machine.specs.Names.{Bytes}
-use Rattle.machine.specs.Pairs.{badPair, keyOk, valueOk, pairOk, systemKey, pairsMost, isBelow, keptAfter, keptFrom, keptOk}
+use Rattle.machine.specs.Pairs.{badPair, keyOk, valueOk, pairOk, systemKey, pairsMost, keptAfter, keptFrom, keptOk}
 use Rattle.pairs.proofs.Passing.{bad-is-bad}
 use Rattle.stored_pairs.specs.Stored.{sumOf, pairsAt, storedOk}
-
--- what the code's comparison says of the order
-abbrev pub isLess : Order → Bool
-isLess Less = true
-isLess Equal = false
-isLess Greater = false
-
-less-is : (o : Ordering) → isLess (orderOf o) ≡ by o true false false
-less-is Ordering·lt = refl
-less-is Ordering·eq = refl
-less-is Ordering·gt = refl
-
-pub below-is : (a b : Bytes) (o x : Order) → o ≡ orderOf (byBytes a b) → o ≡ x → isLess x ≡ isBelow a b
-below-is a b o x e w = sym (ap isLess w) ∙ ap isLess e ∙ less-is (byBytes a b)
 
 -- the sum of lengths, length by length
 module _ (ls : Bytes) (i : ℕ) where

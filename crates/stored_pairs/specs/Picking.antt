@@ -5,8 +5,9 @@ use mathlib.Core.Bool.{Bool, true, not, _&&_, cond}
 use mathlib.Core.List.{List, [], _∷_}
 use mathlib.Core.Option.{Option, none, some}
 use lib.ListN.{length, drop}
+use Rattle.order.specs.Order.{isBelow}
 use Rattle.machine.specs.Names.{Bytes}
-use Rattle.machine.specs.Pairs.{Pair, systemKey, kept, isBelow, frontKey, frontFits, frontPair, pairList}
+use Rattle.machine.specs.Pairs.{Pair, systemKey, kept, frontKey, frontFits, frontPair, pairList}
 use Rattle.stored_pairs.specs.declared.sorting.Pick.{Pick}
 
 -- the key is not above that of the pair that is picked

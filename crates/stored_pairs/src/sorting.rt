@@ -24,13 +24,13 @@ fn is_better(rest: &[u8], last: &[u8], found: bool, best: &[u8]) -> bool
     if pairs::rules::system_key(key) {
         return false;
     }
-    if !crate::stored::is_below(last, key) {
+    if !order::is_below(last, key) {
         return false;
     }
     if !found {
         return true;
     }
-    !crate::stored::is_below(pairs::front::key(best), key)
+    !order::is_below(pairs::front::key(best), key)
 }
 
 // The pair at `at` where it is better than the one that is picked, else that one.

@@ -1,22 +1,10 @@
 // The test of pairs in memory.
-use order::Order;
 ghost use mathlib.Core.Path.{_≡_};
 ghost use mathlib.Core.List.{[]};
 ghost use Prim.Native.Nat.{_+_, _≤_, _<_};
 ghost use lib.ListN.{length, getD};
-ghost use Rattle.machine.specs.Pairs.{isBelow, keptAfter, keptFrom};
+ghost use Rattle.machine.specs.Pairs.{keptAfter, keptFrom};
 ghost use Rattle.stored_pairs.specs.Stored.{sumOf, pairsAt, storedOk};
-
-// Whether a is before b.
-pub(crate) fn is_below(a: &[u8], b: &[u8]) -> bool
-    ensures { λ r. ⌜ r ≡ isBelow (now (a .entry)) (now (b .entry)) ⌝ }
-{
-    match order::compare(a, b) {
-        Order::Less => true,
-        Order::Equal => false,
-        Order::Greater => false,
-    }
-}
 
 // Whether a pair may stand after one with the key `last`.
 fn kept_after(last: &[u8], key: &[u8], value: &[u8]) -> bool
@@ -31,7 +19,7 @@ fn kept_after(last: &[u8], key: &[u8], value: &[u8]) -> bool
     if pairs::rules::system_key(key) {
         return false;
     }
-    is_below(last, key)
+    order::is_below(last, key)
 }
 
 // Where the key or value ends that begins at `at` and has the length at i.

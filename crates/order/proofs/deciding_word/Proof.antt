@@ -1,6 +1,6 @@
 -- `order::deciding_word` meets its contract. The invariant: the first i bytes are the same. Assumes nothing.
 use mathlib.Core.Path.{_≡_, refl, sym, ap, _∙_}
-use Prim.Native.Nat.{ℕ, _+_, _-_, _<_}
+use Prim.Native.Nat.{ℕ, _+_, _-_, _≤_}
 use lib.ListN.{take}
 use Rattle.order.proofs.Strings.{same-word, same-fewer}
 use Rattle.number.specs.Number.{fromLe}
@@ -12,16 +12,16 @@ use Rattle.order.proofs.deciding_word.Lts as lts
 use Rattle.number.proofs.get_u64.Reads as get-u64-reads
 
 abbrev Inv-loop : tie.InvT-loop
-Inv-loop a b n last i₀ i = (i < n) × (take i a ≡ take i b)
+Inv-loop a b from n last i₀ i = (i ≤ n) × (take i a ≡ take i b)
 
 abbrev μ-loop : tie.MeasureT-loop
-μ-loop a b n last i₀ i = n - i
+μ-loop a b from n last i₀ i = n - i
 
 sub-last : tie.Need-sub-last Inv-loop μ-loop
 sub-last c = omega arith
 
 loop-holds : tie.Need-loop-holds Inv-loop μ-loop
-loop-holds c = (omega arith, refl)
+loop-holds c = let p = c .before .before .pre in (p .3, p .4)
 
 get-u64-requires : tie.Need-get-u64-requires Inv-loop μ-loop
 get-u64-requires c κs = omega arith

@@ -5,10 +5,10 @@ use mathlib.Core.Logic.{⊎-elim}
 use mathlib.Core.Bool.{_&&_, and-false, cond}
 use lib.Dec.{eqb}
 use lib.ListN.{take, drop}
-use Rattle.order.specs.Order.{byBytes}
+use Rattle.order.specs.Order.{isBelow}
 use Rattle.machine.specs.Names.{storedPathOk}
 use Rattle.machine.proofs.Tests.{tests, said-no, said-yes}
-use Rattle.layout.specs.Rules.{all, isLess, pairsRule, objectRule, plainKind, partsMost}
+use Rattle.layout.specs.Rules.{all, pairsRule, objectRule, plainKind, partsMost}
 use borrow.Author.Tests.{lt-leb}
 use borrow.Author.Needs.{needs}
 use native.Mathlib.Omega.{arith}
@@ -44,27 +44,27 @@ passed : (c : tie.Else5)
     let lengths = take (2 * a .h .pairs) (drop (a .end) (a .t .now)) in
     let content = take (a .h .size) (drop (a .base) (a .arena .now)) in
     objectRule (a .most) (a .last .now) (a .h) path lengths content
-    ≡ (storedPathOk path && (isLess (byBytes (a .last .now) path) && pairsRule (a .most) (a .h) lengths content))
+    ≡ (storedPathOk path && (isBelow (a .last .now) path && pairsRule (a .most) (a .h) lengths content))
 unfolding all objectRule
 passed c =
     let h = c .before .before .before .before .before .before .before .before .before .before .before .args .h in
     let m : h .count ≤ cond (eqb (h .kind) plainKind) 0 partsMost = ⊎-elim (λ w. rw (w .1 .ensures) at (w .3 .left)) (λ w. omega arith) (c .before .before .before .before .if2 .came) in
     search tests
 
-sub-ascend : tie.Need-sub-ascend
-sub-ascend c = search needs
+sub-is-below : tie.Need-sub-is-below
+sub-is-below c = search needs
 
-part-ascend-start : tie.Need-part-ascend-start
-part-ascend-start c = search needs
+part-is-below-start : tie.Need-part-is-below-start
+part-is-below-start c = search needs
 
-part-ascend-end : tie.Need-part-ascend-end
-part-ascend-end c = search needs
+part-is-below-end : tie.Need-part-is-below-end
+part-is-below-end c = search needs
 
-ascend-requires : tie.Need-ascend-requires
-ascend-requires c κs = search needs
+is-below-requires : tie.Need-is-below-requires
+is-below-requires c κs = search needs
 
 returns-5 : tie.Need-returns-5
-returns-5 c = sym (passed (c .before .before .before) ∙ simp (said-no (c .before .ascend .ensures) (c .if6 .taken), and-false))
+returns-5 c = sym (passed (c .before .before .before) ∙ simp (said-no (c .before .is-below .ensures) (c .if6 .taken), and-false))
 
 stored-path-ok-at-requires : tie.Need-stored-path-ok-at-requires
 stored-path-ok-at-requires c κs = search needs
@@ -79,7 +79,7 @@ returns-7 : tie.Need-returns-7
 returns-7 c =
     c .pairs-ok-at .ensures
     ∙ sym (passed (c .before .before .before .before .before .before)
-    ∙ rw (said-yes (c .before .before .stored-path-ok-at .ensures) (c .before .if7 .left), said-yes (c .before .before .before .before .ascend .ensures) (c .before .before .before .if6 .left)))
+    ∙ rw (said-yes (c .before .before .stored-path-ok-at .ensures) (c .before .if7 .left), said-yes (c .before .before .before .before .is-below .ensures) (c .before .before .before .if6 .left)))
 
 pub object-ok-spec : {M : Type 1} → statement M
 object-ok-spec =
@@ -90,10 +90,10 @@ object-ok-spec =
     returns-2
     returns-3
     returns-4
-    sub-ascend
-    part-ascend-start
-    part-ascend-end
-    ascend-requires
+    sub-is-below
+    part-is-below-start
+    part-is-below-end
+    is-below-requires
     returns-5
     stored-path-ok-at-requires
     returns-6

@@ -2,5 +2,5 @@ pub mod RowLengths
 pub mod ObjectRows
 pub mod Front
 pub mod RecordBytes
-pub mod RowsWritten
+pub mod Places
 pub mod Replies

@@ -14,7 +14,8 @@ ghost use Rattle.layout.specs.Memory.{whole};
 ghost use Rattle.contract.specs.Answers.{listReply};
 ghost use Rattle.contract.specs.Made.{memory, outcome, Made};
 
-// LIST over whole memory.
+// LIST over whole memory. Where the rows stand that have a record is handed from the pass that measures to that which writes: two bytes for
+// each of at most 256.
 fn list_whole(
     tables: &[u8],
     arena: &[u8],
@@ -27,11 +28,20 @@ fn list_whole(
         (outcome (LIST (now (prefix .entry)) (now (suffix .entry)) (now (answer .entry)))
         (memory (now (tables .entry)) (now (arena .entry)))) ⌝ }
 {
-    let counts = measuring::measure_rows(tables, arena, prefix, suffix);
+    let mut places = [0u8; 512];
+    let counts = measuring::measure_rows(tables, arena, prefix, suffix, &mut places);
     if answer.len() < counts.bytes as usize {
         return ListAnswer::Refused(types::BUFFER_SHORT);
     }
-    writing::write_rows(tables, arena, prefix, suffix, answer);
+    writing::write_rows(
+        tables,
+        arena,
+        prefix,
+        suffix,
+        &places,
+        counts.records,
+        answer,
+    );
     ListAnswer::Written(counts)
 }
 

@@ -1,33 +1,27 @@
--- `listing::writing::write_rows` meets its contract. The invariant: the records of the objects passed stand at the front. Assumes nothing.
-use Prim.Native.Nat.{ℕ, _+_, _-_, _≤_, _<_}
-use mathlib.Core.Path.{_≡_, ap, _∙_}
+-- `listing::writing::write_rows` meets its contract. The invariant: the first i records stand at the front. Assumes nothing.
+use Prim.Native.Nat.{ℕ, _-_, _<_}
+use mathlib.Core.Path.{_≡_, _∙_}
 use mathlib.Core.List.{List}
 use native.Mathlib.Omega.{arith}
 use borrow.Author.Needs.{needs}
-use lib.ListN.{length, drop}
 use Rattle.machine.specs.State.{State}
-use Rattle.row.specs.declared.Head.{Head}
-use Rattle.row.specs.Row.{headAt, span}
 use Rattle.layout.specs.Memory.{stateOf, Stands}
 use Rattle.layout.proofs.WholeLaws.{whole-stands}
-use Rattle.listing.proofs.ObjectRows.{row-inside, pairs-inside}
-use Rattle.listing.proofs.RowsWritten.{Written, written-none, written-room, written-next, written-all}
+use Rattle.listing.specs.Rows.{ListedAt}
+use Rattle.listing.proofs.Places.{Put, put-none, put-room, put-next, put-all, place-inside, place-pairs}
 use Rattle.listing.proofs.writing.write_rows.Statement.{statement}
 use Rattle.listing.proofs.writing.write_rows.Tie as tie
 
 abbrev Inv-loop : tie.InvT-loop
-Inv-loop tables arena prefix suffix answer₀ objects at₀ to₀ i₀ answer at to i = Written (stateOf tables arena) prefix suffix answer₀ answer i at to
+Inv-loop tables arena prefix suffix places records answer₀ to₀ i₀ answer to i = Put (stateOf tables arena) prefix suffix answer₀ answer i to
 
 abbrev μ-loop : tie.MeasureT-loop
-μ-loop tables arena prefix suffix answer₀ objects at₀ to₀ i₀ answer at to i = objects - i
-
-read-counts-requires : tie.Need-read-counts-requires Inv-loop μ-loop
-read-counts-requires c κs = search needs
+μ-loop tables arena prefix suffix places records answer₀ to₀ i₀ answer to i = records - i
 
 loop-holds : tie.Need-loop-holds Inv-loop μ-loop
-loop-holds c = let x = c .before .before .before .before .before .before .args in written-none (stateOf (x .tables .now) (x .arena .now)) (x .prefix .now) (x .suffix .now) (x .answer .now)
+loop-holds c = let x = c .before .before .before .before .before .before .args in put-none (stateOf (x .tables .now) (x .arena .now)) (x .prefix .now) (x .suffix .now) (x .answer .now)
 
--- in the loop: memory stands for its state, and the counts are its own
+-- in the loop: memory stands for its state
 module _ (c : tie.At-loop Inv-loop μ-loop) where
   abbrev start : tie.Start Inv-loop μ-loop
   start = c .before .before .before .before .before .before .before
@@ -44,35 +38,37 @@ module _ (c : tie.At-loop Inv-loop μ-loop) where
   stands : Stands t a s
   stands = whole-stands t a (λ j. c .before .before .before .before .before .before .shared-slice-known .given j .fits) (start .pre .0)
 
-  counted : c .before .read-counts .result .objects ≡ length (s .O)
-  counted = c .before .read-counts .ensures .objects
+-- the row of record i
+here : (c : tie.In-loop Inv-loop μ-loop) → let k = c .before in ListedAt (s k) (start k .args .prefix .now) (start k .args .suffix .now) (start k .args .places .now) (k .loop .i)
+here c = start (c .before) .pre .4 (c .before .loop .i) (c .loop-test .taken)
 
--- the row at hand
-module _ (c : tie.In-loop Inv-loop μ-loop) where
-  abbrev l : tie.At-loop Inv-loop μ-loop
-  l = c .before
+cast-get-u16 : tie.Need-cast-get-u16 Inv-loop μ-loop
+cast-get-u16 c = search needs
 
-  more : l .loop .i < length (s l .O)
-  more = let k = c .loop-test .taken in omega (arith, counted l)
+mul-get-u16 : tie.Need-mul-get-u16 Inv-loop μ-loop
+mul-get-u16 c = let n = start (c .before) .pre .2 in omega arith
 
-  inside : l .loop .at + span (headAt (drop (l .loop .at) (t l))) ≤ length (t l)
-  inside = row-inside (t l) (a l) (s l) (stands l) (l .loop .i) (l .loop .at) (l .loop .inv .rows) more
+get-u16-requires : tie.Need-get-u16-requires Inv-loop μ-loop
+get-u16-requires c κs = let n = start (c .before) .pre .2 in let m = start (c .before) .pre .1 in omega arith
 
--- its path, by the head that was read
-path-inside : (c : tie.After-read-head Inv-loop μ-loop) → c .before .before .loop .at + span (c .read-head .result) ≤ length (t (c .before .before))
-path-inside c = omega (arith, inside (c .before), ap (λ (x : Head). span x) (c .read-head .ensures))
+cast-at : tie.Need-cast-at Inv-loop μ-loop
+cast-at c = search needs
 
-read-head-requires : tie.Need-read-head-requires Inv-loop μ-loop
-read-head-requires c κs = let z = inside c in omega arith
-
-write-row-requires : tie.Need-write-row-requires Inv-loop μ-loop
-write-row-requires c κs = let k = c .before .before in let g = k .before in (inside k, written-room (t g) (a g) (s g) (stands g) (start g .args .prefix .now) (start g .args .suffix .now) (start g .args .answer .now) (g .loop .answer) (g .loop .i) (g .loop .at) (g .loop .to) (g .loop .inv) (more k) (start g .pre .1), pairs-inside (t g) (a g) (s g) (stands g) (g .loop .i) (g .loop .at) (g .loop .inv .rows) (more k))
-
-span-requires : tie.Need-span-requires Inv-loop μ-loop
-span-requires c κs = search needs
-
-add-at : tie.Need-add-at Inv-loop μ-loop
-add-at c = omega (arith, path-inside (c .before .before .before .before .before), c .span .ensures)
+write-record-requires : tie.Need-write-record-requires Inv-loop μ-loop
+write-record-requires c κs =
+    let i = c .before .before in
+    let k = i .before in
+    let g = c .before .get-u16 in
+    let x = here i in
+    let e = g .ensures ∙ x .place in
+    let p = start k .args .prefix .now in
+    let q = start k .args .suffix .now in
+    let places = start k .args .places .now in
+    let b₀ = start k .args .answer .now in (
+      place-inside (t k) (a k) (s k) (stands k) p q places b₀ (k .loop .answer) (k .loop .i) (k .loop .to) (g .result) (k .loop .inv) x e,
+      put-room (t k) (a k) (s k) (stands k) p q places b₀ (k .loop .answer) (k .loop .i) (k .loop .to) (g .result) (k .loop .inv) x e (start k .pre .5),
+      place-pairs (t k) (a k) (s k) (stands k) p q places b₀ (k .loop .answer) (k .loop .i) (k .loop .to) (g .result) (k .loop .inv) x e,
+    )
 
 add-i : tie.Need-add-i Inv-loop μ-loop
 add-i c = omega arith
@@ -82,16 +78,24 @@ loop-less c = omega arith
 
 loop-again : tie.Need-loop-again Inv-loop μ-loop
 loop-again c =
-    let k = c .before .before .before .before .before .before in
-    let g = k .before in
-    let w = c .before .before .before .write-row in
-    written-next (t g) (a g) (s g) (stands g) (start g .args .prefix .now) (start g .args .suffix .now) (start g .args .answer .now) (g .loop .answer) (g .loop .i) (g .loop .at) (g .loop .to) (g .loop .inv) (more k) _ _ _ (c .span .ensures ∙ ap (λ (x : Head). span x) (c .before .before .before .before .before .read-head .ensures)) (w .ensures) (w .kept .1 .1 .1 .1 .0)
+    let i = c .before .before .before .before .before in
+    let k = i .before in
+    let g = c .before .before .before .before .get-u16 in
+    let w = c .before .before .write-record in
+    let x = here i in
+    let n = start k .pre .3 in
+    put-next (t k) (a k) (s k) (stands k) (start k .args .prefix .now) (start k .args .suffix .now) (start k .args .places .now) (start k .args .answer .now) (k .loop .answer) (k .loop .i) (k .loop .to)
+    (g .result) (k .loop .inv) x (g .ensures ∙ x .place) _ _ (let l = i .loop-test .taken in omega arith) (w .ensures) (w .kept .1 .1 .0)
 
 same-length : tie.Need-same-length Inv-loop μ-loop
 same-length c = c .before .loop .inv .same
 
 returns : tie.Need-returns Inv-loop μ-loop
-returns c = let k = c .before in let n = c .loop-test .left in written-all (s k) (start k .args .prefix .now) (start k .args .suffix .now) (start k .args .answer .now) (k .loop .answer) (k .loop .i) (k .loop .at) (k .loop .to) (k .loop .inv) (omega (arith, counted k))
+returns c =
+    let k = c .before in
+    let n = c .loop-test .left in
+    let m = start k .pre .3 in
+    put-all (s k) (start k .args .prefix .now) (start k .args .suffix .now) (start k .args .answer .now) (k .loop .answer) (k .loop .i) (k .loop .to) (k .loop .inv) (omega arith)
 
 pub write-rows-spec : {M : Type 1} → statement M
 write-rows-spec =
@@ -99,12 +103,12 @@ write-rows-spec =
     (tie.spec
     Inv-loop
     μ-loop
-    read-counts-requires
     loop-holds
-    read-head-requires
-    write-row-requires
-    span-requires
-    add-at
+    cast-get-u16
+    mul-get-u16
+    get-u16-requires
+    cast-at
+    write-record-requires
     add-i
     loop-less
     loop-again

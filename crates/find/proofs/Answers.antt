@@ -24,7 +24,6 @@ use Rattle.find.specs.declared.search.Goal.the-variants as goal
 use Rattle.find.specs.Places.{placeAfter, lookupAfter, placeOf, beforeObject, fromObject, objectPlace, beforeUpload, beforeParts, beforePart, throughParts, fromUpload, afterUpload, fromPart, uploadPlace, partPlace, uploadRowOf, partsRowOf, passedParts, firstDue}
 use Rattle.find.specs.Search.{reach, stopsOf, rowPlaceAt, IsRow, IsRowPlace, sought, leads, leader}
 use Rattle.find.proofs.Splits.{object-place, upload-place, upload-found, parts-place, parts-after, part-place}
-use Rattle.find.proofs.Walk.{rowPlace}
 use Rattle.find.proofs.Searches.{reach-end, reach-uploads, upload-leads, reach-part, part-leads, reach-next, due-uploads}
 use Rattle.find.proofs.Found.{is-some}
 
@@ -36,10 +35,6 @@ place-row rs p i e = ap (λ (q : RowPlace). q .row) e
 
 pub is-row-place : (rs : List Row) (p : RowPlace) (i : ℕ) → p ≡ rowPlaceAt rs i → i ≤ length rs → IsRowPlace rs p
 is-row-place rs p i e l = let n = place-row rs p i e in (e ∙ ap (rowPlaceAt rs) (sym n), omega arith)
-
-pub first-row-place : (rs : List Row) → IsRowPlace rs (rowPlace 0 headerLength 0)
-unfolding rowPlaceAt encodeRows contentsOf
-first-row-place rs = (refl, omega arith)
 
 reach-length : (stop : Row → Bool) (rs : List Row) → reach stop rs ≤ length rs
 unfolding reach
@@ -117,9 +112,6 @@ upload-answer s u p e =
     let O = objectRows (s .O) in
     let U = s .U in
     e ∙ sought-passes (goal.Upload u) (rowsOf s) O (uploadRows U) (uploadRows (take (place byNumber u U) U)) (length O) refl refl (reach-uploads u U)
-
-pub upload-within : (s : State) (u : ℕ) → length (beforeUpload s u) ≤ length (rowsOf s)
-upload-within s u = omega (arith, ap length (upload-place s u), length-append (beforeUpload s u) (fromUpload s u))
 
 pub found-upload : (s : State) (u : ℕ) (p : RowPlace) (found : Bool) → p ≡ uploadRowOf s u → found ≡ leads uploadKind u (drop (p .row) (rowsOf s))
     → record { found = found; row = p .row; at = p .at; base = p .base } ≡ uploadPlace s u

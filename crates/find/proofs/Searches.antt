@@ -5,20 +5,17 @@ use mathlib.Core.Bool.{Bool, true, false}
 use mathlib.Core.List.{List, [], _∷_, _++_}
 use native.Mathlib.Omega.{arith}
 use borrow.Author.Tests.{eq-eqb, ne-eqb}
-use lib.Dec.{eqb}
 use lib.ListN.{length, take, drop, length-append}
 use Rattle.order.proofs.OrderLaws.{cases, alike, below}
 use Rattle.machine.specs.Map.{isSome, Map, byNumber, lookup, place}
-use Rattle.machine.specs.Names.{Bytes}
-use Rattle.machine.specs.Etags.{Etag, absent, plain, joined}
-use Rattle.machine.specs.State.{Object, Part, Upload, State}
+use Rattle.machine.specs.State.{Part, Upload}
 use Rattle.machine.specs.Steps.{isDue, due}
 use Rattle.row.specs.Row.{Row}
 use Rattle.layout.specs.Rules.{uploadKind, partKind}
-use Rattle.layout.specs.Memory.{rowKind, objectRow, objectRows, partRows, uploadRows, rowsOf}
+use Rattle.layout.specs.Memory.{partRows, uploadRows}
 use Rattle.find.specs.declared.search.Goal.the-variants as goal
 use Rattle.find.specs.Search.{reach, stopsAt, stopsOf, leads, leader}
-use Rattle.find.specs.Places.{firstOf, firstDue}
+use Rattle.find.specs.Places.{firstOf}
 
 -- to the end of the rows
 pub reach-end : (rs : List Row) → reach (stopsOf goal.End) rs ≡ length rs

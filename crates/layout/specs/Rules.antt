@@ -1,7 +1,7 @@
 -- The rules by which rows follow one another: objects ascend by path; uploads ascend by number, each with its parts after it,
 -- ascending by part number. A field that a kind of row does not use is 0. `most` is how many pairs a row may have, by the layout. Assumes nothing.
 use Prim.Native.Nat.{ℕ}
-use mathlib.Core.Bool.{Bool, true, false, _&&_, cond}
+use mathlib.Core.Bool.{Bool, true, _&&_, cond}
 use mathlib.Core.List.{List, [], _∷_}
 use lib.Dec.{leb, ltb, eqb}
 use lib.ListN.{replicate}

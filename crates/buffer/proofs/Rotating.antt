@@ -4,7 +4,7 @@ use mathlib.Core.List.{List, [], _∷_, _++_, append-assoc}
 use Prim.Native.Nat.{ℕ, _+_, _-_, _≤_}
 use native.Mathlib.Omega.{arith}
 use lib.ListN.{length, take, drop, length-append, length-drop, take-append-drop}
-use lib.Seq.{paste, take-at, drop-drop, length-take-le}
+use lib.Seq.{paste, drop-drop, length-take-le}
 use Rattle.number.proofs.Fields.{field-written}
 use Rattle.buffer.specs.Buffer.{rotated}
 use Rattle.buffer.proofs.Parts.{rotated-parts}

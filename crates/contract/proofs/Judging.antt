@@ -1,8 +1,6 @@
 -- A step through its checks: its outcome where each is passed or not, and what a result of 0 shows. Assumes nothing.
-use Prim.Native.Nat.{ℕ}
 use mathlib.Core.Path.{_≡_, refl, ap}
 use mathlib.Core.Bool.{Bool, true, false, cond}
-use mathlib.Core.List.{List}
 use mathlib.Core.Option.{Option, none, some}
 use Rattle.machine.specs.State.{State}
 use Rattle.machine.specs.Calls.{Answer, Buffers, Refusal, Outcome, refuse, accept, code, _else_then_, given}

@@ -1,7 +1,7 @@
 -- What the DELETE of one name place promises. Assumes nothing.
 use Prim.Native.Nat.{ℕ}
 use mathlib.Core.Path.{_≡_}
-use mathlib.Core.List.{List, []}
+use mathlib.Core.List.{List}
 use lib.ListN.{getD, set}
 use Rattle.types.specs.declared.Place.{Place}
 use Rattle.machine.specs.Names.{Bytes}

@@ -14,7 +14,6 @@ use Rattle.machine.specs.Map.{isSome, lookup}
 use Rattle.machine.specs.State.{Object, State, withoutObject}
 use Rattle.machine.proofs.MapSums.{length-remove}
 use Rattle.machine.proofs.KeepsValid.{without-object-valid}
-use Rattle.stored_pairs.proofs.Blocks as stored
 use Rattle.row.specs.declared.Head.{Head}
 use Rattle.row.specs.Row.{encodeRows, contentsOf, headAt, headLength, span}
 use Rattle.layout.specs.declared.Header.{Header}

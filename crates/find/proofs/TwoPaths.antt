@@ -1,8 +1,8 @@
 -- The search for one of two paths goes on where that for the lower one ended. Assumes nothing.
-use Prim.Native.Nat.{ℕ, suc, _+_, _≤_, Ordering, Ordering·lt, Ordering·eq, Ordering·gt}
+use Prim.Native.Nat.{ℕ, _+_, _≤_, Ordering, Ordering·lt, Ordering·eq, Ordering·gt}
 use mathlib.Core.Path.{_≡_, refl, sym, ap, _∙_}
 use mathlib.Core.Logic.{_⊎_, ⊎-elim}
-use mathlib.Core.List.{List, [], _∷_}
+use mathlib.Core.List.{[], _∷_}
 use native.Mathlib.Omega.{arith}
 use lib.ListN.{length, take, drop}
 use lib.Seq.{length-take-le}
@@ -11,7 +11,6 @@ use Rattle.order.proofs.OrderLaws.{cases, Lawful, bytes}
 use Rattle.machine.specs.Map.{Map, lookup, place}
 use Rattle.machine.specs.Names.{Bytes}
 use Rattle.machine.specs.State.{State}
-use Rattle.layout.specs.Memory.{objectRows}
 use Rattle.layout.proofs.ObjectLaws.{length-object-rows}
 use Rattle.find.specs.declared.Lookup.{Lookup}
 use Rattle.find.specs.Places.{beforeObject, objectPlace, Passed}

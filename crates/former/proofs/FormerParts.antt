@@ -1,12 +1,10 @@
 -- E7: "such a store is still whole": memory that was whole is whole, and stands for what it stood for. Assumes nothing.
 use Prim.Native.Nat.{ℕ, _≤_}
-use native.Mathlib.Omega.{arith}
 use mathlib.Core.Path.{_≡_, refl}
 use mathlib.Core.Bool.{true}
 use mathlib.Core.List.{List, _++_}
 use lib.ListN.{length}
 use Rattle.machine.specs.Names.{storedPartOk}
-use Rattle.machine.specs.Pairs.{pairsMost}
 use Rattle.machine.specs.State.{State}
 use Rattle.machine.specs.OlderParts.{Older}
 use Rattle.machine.proofs.OlderParts.{older-valid}

@@ -1,12 +1,11 @@
 -- Any other bytes in place of the free ones stand for the same state. Assumes nothing.
 use Prim.Native.Nat.{ℕ, _+_}
-use mathlib.Core.Path.{_≡_, refl, sym, ap, _∙_, subst}
+use mathlib.Core.Path.{_≡_, sym, ap, _∙_}
 use mathlib.Core.List.{List, _++_, append-assoc}
 use native.Mathlib.Omega.{arith}
 use lib.ListN.{length, take, drop, length-append, take-append-drop}
 use lib.Seq.{take-at}
 use Rattle.machine.specs.State.{State, held}
-use Rattle.machine.specs.Valid.{Valid}
 use Rattle.row.specs.Row.{encodeRows, contentsOf}
 use Rattle.layout.specs.Header.{encodeHeader}
 use Rattle.layout.specs.Memory.{rowsOf, Stands}

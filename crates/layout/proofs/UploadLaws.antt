@@ -15,7 +15,7 @@ use Rattle.machine.specs.State.{Part, Upload, partsIn}
 use Rattle.machine.specs.Valid.{PartOk, UploadOk}
 use Rattle.machine.specs.Pairs.{pairsMost}
 use Rattle.machine.proofs.PairLaws.{kept-few, kept-held}
-use Rattle.stored_pairs.specs.Stored.{pairLengths, pairBytes, sumOf}
+use Rattle.stored_pairs.specs.Stored.{pairBytes, sumOf}
 use Rattle.stored_pairs.proofs.StoredLaws.{length-lengths, length-bytes, sum-lengths}
 use Rattle.stored_pairs.proofs.Blocks.{pairs-alone}
 use Rattle.row.specs.Row.{Row, headOf, contentsOf, Encodable, EncodableAll}

@@ -2,12 +2,12 @@
 use Prim.Native.Nat.{ℕ}
 use mathlib.Core.Path.{_≡_, refl, sym, ap, _∙_}
 use mathlib.Core.Bool.{Bool, true, false, cond, false≢true}
-use mathlib.Core.List.{List, [], _∷_, _++_, map}
-use mathlib.Core.Option.{Option, none, some}
+use mathlib.Core.List.{List, [], _∷_, map}
+use mathlib.Core.Option.{some}
 use lib.ListN.{length}
 use Rattle.order.specs.Order.{begins}
 use Rattle.order.proofs.OrderLaws.{cases, numbers}
-use Rattle.machine.specs.Map.{Map, byNumber, lookup, insert, remove, keep, records, mapped, also}
+use Rattle.machine.specs.Map.{Map, byNumber, lookup, insert, remove, records}
 use Rattle.machine.specs.Names.{Bytes}
 use Rattle.machine.specs.State.{Part, Upload, State, withU, withUpload, withoutUpload}
 use Rattle.machine.specs.Calls.{COMMIT, ABORT, UPLOADS, Answer, nothing, Buffers, noBuffers, Refusal, Outcome, refuse, accept, given, _else_then_}

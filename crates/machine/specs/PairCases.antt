@@ -1,7 +1,7 @@
 -- Cases of document 02's E6: which pairs pass and what is kept of them, by computation. Assumes nothing.
 use mathlib.Core.Path.{_≡_, refl}
 use mathlib.Core.Bool.{true, false}
-use mathlib.Core.List.{List, [], _∷_, _++_, map}
+use mathlib.Core.List.{List, [], _∷_, map}
 use lib.ListN.{replicate}
 use Rattle.machine.specs.Pairs.{Pair, keyByte, valueByte, keyOk, valueOk, pairOk, systemKey, sizeKey, createdKey, etagKey, pairsOk, pairMap, frontSize, frontKey, frontValue, frontFits, encodePairs, readPairs, pairList}
 

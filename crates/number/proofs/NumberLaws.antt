@@ -6,7 +6,7 @@ use native.Mathlib.Nat.{pow-zero, pow-suc, pow-succ', mul-assoc, one-mul, zero-a
 use native.Mathlib.Omega.{arith}
 use lib.Dec.{lit<}
 use lib.Arith.{mod-mul, digits-div, digits-mod}
-use lib.ListN.{length, take, drop, getD}
+use lib.ListN.{length, take, drop}
 use lib.Seq.{getD-drop}
 use Rattle.number.specs.Number.{le, fromLe, AreBytes}
 

@@ -7,7 +7,7 @@ use lib.ListN.{length}
 use Rattle.machine.specs.Names.{Bytes}
 use Rattle.machine.specs.Pairs.{Pair}
 use Rattle.machine.specs.State.{State}
-use Rattle.machine.specs.Calls.{Call, GET, HEAD, LIST, INITIATE, PART, UPLOADS, SWEEP, Answer, Buffers, Outcome, refuse, accept, _else_then_, lent}
+use Rattle.machine.specs.Calls.{Call, GET, HEAD, LIST, INITIATE, PART, UPLOADS, SWEEP, Answer, Buffers, Outcome, refuse, accept, lent}
 use Rattle.machine.specs.Steps.{act, replyOf}
 use Rattle.machine.proofs.Outcome.{refused-not-accepted, Then, then-accept, then-else, then-given, then-object}
 use Rattle.contract.specs.Made.{Memory, wholeMemory, stateIn, meantReply}

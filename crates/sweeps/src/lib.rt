@@ -5,7 +5,6 @@ use types::Stamp;
 use types::Sweep;
 use types::SweepAnswer;
 use types::UploadNumber;
-ghost use mathlib.Core.Path.{_≡_};
 ghost use Rattle.machine.specs.Calls.{SWEEP};
 ghost use Rattle.find.specs.Known.{WholeFrom};
 ghost use Rattle.contract.specs.Answers.{sweepReply};

@@ -10,7 +10,7 @@ use native.Mathlib.Omega.{arith}
 use lib.ListN.{length, getD, take, drop}
 use lib.Seq.{take-suc}
 use Rattle.order.proofs.OrderLaws.{numbers}
-use Rattle.machine.specs.Map.{isSome, Map, byNumber, lookup, place}
+use Rattle.machine.specs.Map.{isSome, Map, byNumber, lookup}
 use Rattle.machine.specs.State.{Upload, State, partsIn}
 use Rattle.machine.specs.Valid.{UploadOk}
 use Rattle.machine.proofs.MapLaws.{every-lookup}

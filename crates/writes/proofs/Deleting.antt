@@ -3,7 +3,7 @@ use mathlib.Core.Path.{_≡_, sym, ap, _∙_}
 use mathlib.Core.Bool.{true, false}
 use mathlib.Core.Option.{some}
 use Rattle.order.specs.Order.{byBytes}
-use Rattle.machine.specs.Map.{isSome, lookup}
+use Rattle.machine.specs.Map.{lookup}
 use Rattle.machine.specs.Names.{Bytes, requestPathOk}
 use Rattle.machine.specs.State.{Object, State, withoutObject}
 use Rattle.machine.specs.Calls.{DELETE, nothing, noBuffers, Outcome, accept, badRequest, notFound, given}

@@ -12,7 +12,7 @@ use Rattle.machine.proofs.KeepsValid.{fresh-valid}
 use Rattle.row.specs.Row.{encodeRows, contentsOf}
 use Rattle.layout.specs.Memory.{objectRows, uploadRows, rowsOf, Stands, tablesLength, arenaMost}
 use Rattle.layout.proofs.StandsLaws.{stands-state, stands-whole}
-use Rattle.layout.specs.Header.{headerBytes, headed, encodeHeader, headerLength}
+use Rattle.layout.specs.Header.{headerBytes, headed, headerLength}
 use Rattle.contract.specs.Made.{memory, freshResult, MadeFresh}
 
 module _ (t a : List ℕ) where

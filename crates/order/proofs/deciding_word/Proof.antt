@@ -1,6 +1,6 @@
 -- `order::deciding_word` meets its contract. The invariant: the first i bytes are the same. Assumes nothing.
-use mathlib.Core.Path.{_≡_, refl, sym, ap, _∙_}
-use Prim.Native.Nat.{ℕ, _+_, _-_, _≤_}
+use mathlib.Core.Path.{_≡_, sym, ap, _∙_}
+use Prim.Native.Nat.{_+_, _-_, _≤_}
 use lib.ListN.{take}
 use Rattle.order.proofs.Strings.{same-word, same-fewer}
 use Rattle.number.specs.Number.{fromLe}

@@ -10,9 +10,6 @@ use Rattle.layout.proofs.StandsLaws.{header-back}
 use Rattle.layout.proofs.WholeLaws.{whole-stands}
 use Rattle.find.proofs.counts.read_counts.Statement.{statement}
 use Rattle.find.proofs.counts.read_counts.Tie as tie
-use Rattle.find.proofs.counts.read_counts.Reads as reads
-use Rattle.find.proofs.counts.read_counts.Lts as lts
-use Rattle.layout.proofs.headers.read_header.Reads as read-header-reads
 
 stands : (c : tie.After-shared-slice-known) → let x = c .before .args in Stands (x .tables .now) (x .arena .now) (stateOf (x .tables .now) (x .arena .now))
 stands c = whole-stands _ _ (λ j. c .shared-slice-known .given j .fits) (c .before .pre)

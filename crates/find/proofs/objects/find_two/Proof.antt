@@ -7,7 +7,7 @@ use Rattle.order.specs.Order.{byBytes}
 use Rattle.order.proofs.Answers.{answer-less, answer-equal, answer-greater}
 use Rattle.order.proofs.OrderLaws.{bytes}
 use Rattle.layout.specs.Memory.{stateOf}
-use Rattle.find.specs.Places.{objectPlace, Passed}
+use Rattle.find.specs.Places.{objectPlace}
 use Rattle.find.proofs.TwoPaths.{passed-lower}
 use Rattle.find.proofs.objects.find_two.Statement.{statement}
 use Rattle.find.proofs.objects.find_two.Tie as tie

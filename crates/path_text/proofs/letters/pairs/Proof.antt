@@ -1,5 +1,5 @@
 -- `path_text::letters::pairs` meets its contract. The invariant: from i to k stand such letters. Assumes nothing.
-use Prim.Native.Nat.{ℕ, _+_, _-_, _<_}
+use Prim.Native.Nat.{_+_, _-_, _<_}
 use mathlib.Core.Path.{_≡_}
 use lib.ListN.{length, getD}
 use borrow.Author.Tests.{not-false}

@@ -1,11 +1,11 @@
 -- `path_text::letters::path` meets its contract. The invariant: what is left, after `before`, is well formed and parted just where all is.
 -- Assumes nothing.
-use Prim.Native.Nat.{_+_, _-_, _≤_, _<_}
-use mathlib.Core.Path.{_≡_, refl, sym, ap, ap₂, _∙_}
-use mathlib.Core.Bool.{Bool, true, false, not, _&&_}
+use Prim.Native.Nat.{_-_, _≤_}
+use mathlib.Core.Path.{_≡_, refl, sym, _∙_}
+use mathlib.Core.Bool.{_&&_}
 use mathlib.Core.List.{[]}
 use native.Mathlib.Omega.{arith}
-use lib.ListN.{length, getD, drop}
+use lib.ListN.{length, drop}
 use Rattle.machine.specs.Names.{characters, apart}
 use Rattle.path_text.proofs.PathLaws.{by-parts, letter-none, letter-doubled, letter-passed, letters-end}
 use Rattle.path_text.proofs.letters.path.Statement.{statement}

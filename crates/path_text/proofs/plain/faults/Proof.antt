@@ -4,7 +4,7 @@ use mathlib.Core.Path.{_≡_, ap, _∙_}
 use mathlib.Core.Bool.{cond}
 use lib.Dec.{ltb}
 use native.Mathlib.Omega.{arith}
-use lib.ListN.{length, getD, drop}
+use lib.ListN.{getD, drop}
 use Rattle.path_text.specs.Faults.{faultOf, faultsBeside}
 use Rattle.path_text.proofs.BlockLaws.{place, turn, turn-small, beside-end}
 use Rattle.path_text.proofs.plain.faults.Statement.{statement}

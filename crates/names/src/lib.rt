@@ -2,6 +2,7 @@
 use path_text::letters;
 use path_text::plain;
 ghost use mathlib.Core.Path.{_≡_};
+ghost use mathlib.Core.Bool.{true};
 ghost use Prim.Native.Nat.{_-_, _≤_};
 ghost use lib.ListN.{length, take, drop};
 ghost use Rattle.machine.specs.Names.{pathOk, requestPathOk, newPathOk, storedPathOk, stampOk, requestPartOk, storedPartOk};
@@ -61,6 +62,21 @@ pub fn stored_path_ok_at(t: &[u8], from: usize, to: usize) -> bool
         return true;
     }
     letters::path(&t[from..to])
+}
+
+// Whether they are 1 to 32 bytes of visible ASCII that an object may have as its path. `false` says nothing of them.
+pub fn short_path_ok_at(t: &[u8], from: usize, to: usize) -> bool
+    requires { ⌜ (33 ≤ from) × (from ≤ to) × (to ≤ length (now t)) ⌝ }
+    ensures { λ r. ⌜ (r ≡ true → storedPathOk (take (to - from) (drop from (now (t .entry)))) ≡ true) ⌝ }
+{
+    let length = to - from;
+    if length < 1 {
+        return false;
+    }
+    if 32 < length {
+        return false;
+    }
+    plain::short_at(t, from, to)
 }
 
 // Whether it is a stamp: 0 is none.

@@ -73,21 +73,28 @@ fn block(t: &[u8], end: usize, n: usize) -> u8
     faults(&t[end - 33..end - 1], &t[end - 32..end], n)
 }
 
-// Whether the bytes of t from `from` to `to` are visible ASCII without "//" and a "/" first, in blocks of 32. A path of 4 to 32 bytes is
-// one, which begins before the path, with bytes that do not count. A longer one is the block at its start and those at its end.
+// Whether the bytes of t from `from` to `to`, at most 32, are visible ASCII without "//" and a "/" first: one block, which begins before
+// them, with bytes that do not count.
+pub fn short_at(t: &[u8], from: usize, to: usize) -> bool
+    requires { ⌜ (33 ≤ from) × (from < to) × (to - from ≤ 32) × (to ≤ length (now t)) ⌝ }
+    ensures { λ r. ⌜ r ≡ clean 47 (take (to - from) (drop from (now (t .entry)))) ⌝ }
+{
+    if t[from] == 47 {
+        return false;
+    }
+    block(t, to, to - from) == 0
+}
+
+// The same of at most 128 bytes: more than 32 are the block at their start and those at their end.
 pub fn plain_at(t: &[u8], from: usize, to: usize) -> bool
     requires { ⌜ (33 ≤ from) × (from < to) × (to - from ≤ 128) × (to ≤ length (now t)) ⌝ }
     ensures { λ r. ⌜ r ≡ clean 47 (take (to - from) (drop from (now (t .entry)))) ⌝ }
 {
-    let n = to - from;
-    if n < 4 {
-        return plain(&t[from..to]);
+    if to - from <= 32 {
+        return short_at(t, from, to);
     }
     if t[from] == 47 {
         return false;
-    }
-    if n <= 32 {
-        return block(t, to, n) == 0;
     }
     let first = from + 32;
     let mut bad = block(t, first, 32);

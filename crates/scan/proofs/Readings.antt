@@ -1,10 +1,10 @@
 -- What is read of an upload and of a part, on plain lists. Assumes nothing.
-use Prim.Native.Nat.{ℕ, zero, suc, _+_, _-_, _*_, _^_, _≤_}
+use Prim.Native.Nat.{ℕ, zero, suc, _+_, _*_, _^_, _≤_}
 use mathlib.Core.Path.{_≡_, refl, sym, ap, _∙_}
 use mathlib.Core.Bool.{Bool, true, false}
 use mathlib.Core.List.{List}
 use native.Mathlib.Omega.{arith}
-use borrow.Author.Tests.{eqb-true, eqb-false, le-leb}
+use borrow.Author.Tests.{eqb-true, eqb-false}
 use lib.Dec.{leb, eqb, lit<}
 use lib.ListN.{length, take, drop, replicate}
 use lib.Seq.{take-all}
@@ -17,13 +17,13 @@ use Rattle.machine.proofs.Options.{both}
 use Rattle.stored_pairs.specs.Stored.{blockOk}
 use Rattle.stored_pairs.proofs.Blocks.{block}
 use Rattle.row.specs.declared.Head.{Head}
-use Rattle.row.specs.Row.{headAt, headLength, span}
+use Rattle.row.specs.Row.{headAt, headLength}
 use Rattle.layout.specs.declared.Mark.{Mark}
 use Rattle.layout.specs.Rules.{noDigest, partKind, pairsRule, partRule}
 use Rattle.layout.proofs.TestLaws.{all-true}
 use Rattle.scan_objects.specs.declared.Reading.the-variants.{Fits}
 use Rattle.scan_objects.specs.Scan.{readingOf}
-use Rattle.scan_objects.proofs.Readings.{reading-is}
+use Rattle.scan_objects.proofs.Readings.{row-fits}
 
 -- sixteen bytes are 0 where the two numbers in them are
 bytes-zeros : (n : ℕ) → AreBytes (replicate n 0)
@@ -65,10 +65,7 @@ module _ (m : Mark) (h : Head) (e : partRule m h ≡ true) where
       let k = all-true _ e in
       (eqb-true _ _ (k .0), eqb-true _ _ (k .1 .1 .1 .0), eqb-true _ _ (k .1 .1 .1 .1 .0))
 
-  pub part-fits : (t : List ℕ) (at : ℕ) (a : List ℕ) (base : ℕ) → h ≡ headAt (drop at t) → headLength ≤ length t - at → h .size ≤ length a - base
+  pub part-fits : (t : List ℕ) (at : ℕ) (a : List ℕ) (base : ℕ) → h ≡ headAt (drop at t) → at + headLength ≤ length t → base + h .size ≤ length a
       → (k : Head) → Fits h ≡ Fits k → (readingOf (drop at t) (drop base a) ≡ Fits k) × (partRule m k ≡ true)
   part-fits t at a base q l n k f =
-      let reading : readingOf (drop at t) (drop base a) ≡ Fits h =
-      reading-is t at a base h (span h) q refl
-      ∙ rw (le-leb headLength (length t - at) l, le-leb (span h) (length t - at) (omega (arith, part-is)), le-leb (h .size) (length a - base) n) in
-      (reading ∙ f, cc)
+      (row-fits t at a base h q (omega (arith, part-is)) (omega arith) ∙ f, cc)

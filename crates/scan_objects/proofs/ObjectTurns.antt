@@ -1,9 +1,10 @@
 -- A turn of the scan of objects. Assumes nothing.
 use Prim.Native.Nat.{ℕ, _+_, _-_, _*_, _≤_, _<_}
-use mathlib.Core.Path.{_≡_, sym, _∙_}
+use mathlib.Core.Path.{_≡_, refl, sym, ap, _∙_}
 use mathlib.Core.Bool.{Bool, true, false, not}
 use mathlib.Core.List.{List}
 use native.Mathlib.Nat.{add-sub-cancel-left}
+use native.Mathlib.Omega.{arith}
 use lib.ListN.{take, drop}
 use Rattle.number.specs.Number.{AreBytes}
 use Rattle.row.specs.declared.Head.{Head}
@@ -43,3 +44,12 @@ module _ (t a : List ℕ) (most n i : ℕ) (last : List ℕ) (o : Offset) where
             past-next (List ℕ) (objectOk most) objectNext t a n i last o l h f,
             path-of t a o h f bytes,
           )
+
+    -- the same of a row without pairs, which ends where its path ends
+    pub objects-usual : AreBytes t → (h : Head) → readingOf (drop (o .at) t) (drop (o .base) a) ≡ Fits h → h .pairs ≡ 0
+        → objectRule most last h (pathPart t o h) (take (2 * h .pairs) (drop (o .at + headLength + h .pathlen) t)) (take (h .size) (drop (o .base) a)) ≡ true
+        → objectScan most (n - i) last o t a
+        ≡ objectScan most (n - (i + 1)) (pathPart t o h) (record { at = o .at + headLength + h .pathlen; base = o .base + h .size }) t a
+    objects-usual bytes h f none e =
+        objects-next bytes h f true (sym e) refl
+        ∙ ap (λ (x : ℕ). objectScan most (n - (i + 1)) (pathPart t o h) (record { at = x; base = o .base + h .size }) t a) (omega arith)

@@ -1,6 +1,6 @@
 -- What is read at a place of the tables, on plain lists. Assumes nothing.
-use Prim.Native.Nat.{ℕ, _-_, _*_}
-use mathlib.Core.Path.{_≡_}
+use Prim.Native.Nat.{ℕ, _+_, _-_, _*_, _≤_}
+use mathlib.Core.Path.{_≡_, refl, _∙_}
 use mathlib.Core.Bool.{true, _&&_, cond}
 use mathlib.Core.List.{List}
 use native.Mathlib.Omega.{arith}
@@ -19,6 +19,13 @@ pub reading-is : (t : List ℕ) (at : ℕ) (a : List ℕ) (base : ℕ) (h : Head
     → readingOf (drop at t) (drop base a) ≡ cond (leb headLength (length t - at) && (leb n (length t - at) && leb (h .size) (length a - base))) (Fits h) Short
 unfolding readingOf inside spanAt
 reading-is t at a base h n e f = rw (length-drop at t, length-drop base a, f, e)
+
+-- a row is read where it ends in t, and its data in a
+pub row-fits : (t : List ℕ) (at : ℕ) (a : List ℕ) (base : ℕ) (h : Head) → h ≡ headAt (drop at t) → at + span h ≤ length t → base + h .size ≤ length a
+    → readingOf (drop at t) (drop base a) ≡ Fits h
+row-fits t at a base h e l m =
+    reading-is t at a base h (span h) e refl
+    ∙ rw (le-leb headLength (length t - at) (omega arith), le-leb (span h) (length t - at) (omega arith), le-leb (h .size) (length a - base) (omega arith))
 
 -- a row without pairs may stand
 pub no-pairs : (most n : ℕ) (t content : List ℕ) → n ≡ 0 → leb n most && blockOk (take (2 * n) t) content ≡ true

@@ -1,6 +1,7 @@
 // One row, and the rows of objects, in memory that need not be whole.
 pub mod objects;
 pub mod rows;
+mod usual;
 
 use row::Head;
 

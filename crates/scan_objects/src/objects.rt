@@ -1,31 +1,19 @@
 // The rows of objects, in memory that need not be whole.
 ghost use mathlib.Core.Path.{_≡_};
-ghost use mathlib.Core.Bool.{cond};
 ghost use mathlib.Core.List.{[]};
 ghost use Prim.Native.Nat.{_+_, _-_, _*_, _≤_};
-ghost use lib.Dec.{eqb};
 ghost use lib.ListN.{length, take, drop};
-ghost use Rattle.layout.specs.Rules.{plainKind, partsMost, objectRule};
+ghost use Rattle.layout.specs.Rules.{objectRule};
 ghost use Rattle.scan_objects.specs.Scan.{objectScan};
 use crate::Offset;
 use crate::Reading;
 use crate::Scan;
 use crate::rows;
+use crate::usual;
 use row::Head;
 
-// The most parts that an etag of this kind can count.
-fn most_parts(kind: u8) -> u16
-    ensures { λ r. ⌜ r ≡ cond (eqb kind plainKind) 0 partsMost ⌝ }
-{
-    if kind == layout::PLAIN_KIND {
-        0
-    } else {
-        layout::PARTS_MOST as u16
-    }
-}
-
 // Whether the row of an object, with its path from `path` to `end` and its block at `base`, may stand after one whose path
-// is `last`. Tests are in the order that takes the least time; most objects count no parts.
+// is `last`. Tests are in the order that takes the least time.
 fn object_ok(
     most: u8,
     last: &[u8],
@@ -41,18 +29,7 @@ fn object_ok(
     ensures { λ r. ⌜ r ≡ objectRule most (now (last .entry)) h (take (end - path) (drop path (now (t .entry))))
         (take (2 * h .pairs) (drop end (now (t .entry)))) (take (h .size) (drop base (now (arena .entry)))) ⌝ }
 {
-    if layout::JOINED_KIND < h.kind {
-        return false;
-    }
-    if h.count != 0 {
-        if most_parts(h.kind) < h.count {
-            return false;
-        }
-    }
-    if h.number != 0 {
-        return false;
-    }
-    if h.stamp < 1 {
+    if !rows::numbers_ok(h) {
         return false;
     }
     if !order::is_below(last, &t[path..end]) {
@@ -64,15 +41,16 @@ fn object_ok(
     rows::pairs_ok_at(most, h, t, end, arena, base)
 }
 
-// Whether the rows of objects stand from `from` on, and where they end. The path of the row passed stands from `last` to
-// `last_end`.
-pub fn scan_objects(t: &[u8], arena: &[u8], from: Offset, rows: u16, most: u8) -> Scan
-    requires { ⌜ (from .at ≤ length (now t)) × (from .base ≤ length (now arena)) ⌝ }
-    ensures { λ r. ⌜ r ≡ objectScan most rows [] from (now (t .entry)) (now (arena .entry)) ⌝ }
+// Whether so many rows of objects stand from `from` on, after one whose path stands from `before` to there, and where they
+// end. The path of the row passed stands from `last` to `last_end`.
+fn scan_from(t: &[u8], arena: &[u8], from: Offset, before: usize, rows: u16, most: u8) -> Scan
+    requires { ⌜ (before ≤ from .at) × (from .at ≤ length (now t)) × (from .base ≤ length (now arena)) ⌝ }
+    ensures { λ r. ⌜ r ≡ objectScan most rows (take (from .at - before) (drop before (now (t .entry)))) from
+        (now (t .entry)) (now (arena .entry)) ⌝ }
 {
     let mut at = from.at;
     let mut base = from.base;
-    let mut last = at;
+    let mut last = before;
     let mut last_end = at;
     let mut i: u16 = 0;
     while i < rows {
@@ -90,6 +68,33 @@ pub fn scan_objects(t: &[u8], arena: &[u8], from: Offset, rows: u16, most: u8) -
         last_end = end;
         at = next;
         base = data_end;
+        i += 1;
+    }
+    Scan::Good(Offset { at, base })
+}
+
+// Whether the rows of objects stand from `from` on, and where they end: the usual ones first, and all from the first other
+// one on by `scan_from`. The path of the row passed stands from `last` to `at`.
+pub fn scan_objects(t: &[u8], arena: &[u8], from: Offset, rows: u16, most: u8) -> Scan
+    requires { ⌜ (from .at ≤ length (now t)) × (from .base ≤ length (now arena)) ⌝ }
+    ensures { λ r. ⌜ r ≡ objectScan most rows [] from (now (t .entry)) (now (arena .entry)) ⌝ }
+{
+    let mut at = from.at;
+    let mut base = from.base;
+    let mut last = at;
+    let mut i: u16 = 0;
+    while i < rows {
+        let Reading::Fits(h) = usual::read_usual(t, at, arena, base) else {
+            return scan_from(t, arena, Offset { at, base }, last, rows - i, most);
+        };
+        let path = at + row::HEAD_LENGTH;
+        let end = path + h.pathlen as usize;
+        if !usual::usual_ok(&t[last..at], h, t, path, end) {
+            return scan_from(t, arena, Offset { at, base }, last, rows - i, most);
+        }
+        last = path;
+        at = end;
+        base += h.size as usize;
         i += 1;
     }
     Scan::Good(Offset { at, base })

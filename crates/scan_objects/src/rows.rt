@@ -1,8 +1,13 @@
 // One row of memory that need not be whole.
 ghost use mathlib.Core.Path.{_≡_};
-ghost use Prim.Native.Nat.{_+_, _*_, _≤_};
+ghost use mathlib.Core.Bool.{_&&_, cond};
+ghost use mathlib.Core.List.{List};
+ghost use Prim.Native.Nat.{ℕ, _+_, _*_, _≤_};
+ghost use lib.Dec.{eqb};
 ghost use lib.ListN.{length, take, drop};
-ghost use Rattle.layout.specs.Rules.{pairsRule};
+ghost use Rattle.order.specs.Order.{isBelow};
+ghost use Rattle.machine.specs.Names.{storedPathOk};
+ghost use Rattle.layout.specs.Rules.{plainKind, partsMost, pairsRule, objectRule};
 ghost use Rattle.scan_objects.specs.Scan.{readingOf};
 use crate::Reading;
 use row::Head;
@@ -24,6 +29,36 @@ pub fn read_row(t: &[u8], at: usize, arena: &[u8], base: usize) -> Reading
         return Reading::Short;
     }
     Reading::Fits(h)
+}
+
+// The most parts that an etag of this kind can count.
+fn most_parts(kind: u8) -> u16
+    ensures { λ r. ⌜ r ≡ cond (eqb kind plainKind) 0 partsMost ⌝ }
+{
+    if kind == layout::PLAIN_KIND {
+        0
+    } else {
+        layout::PARTS_MOST as u16
+    }
+}
+
+// Whether a row with these numbers may be an object's. Most objects count no parts.
+pub(crate) fn numbers_ok(h: Head) -> bool
+    ensures { λ r. ⌜ ((most : ℕ) (last path lengths content : List ℕ) → objectRule most last h path lengths content
+        ≡ (r && (storedPathOk path && (isBelow last path && pairsRule most h lengths content)))) ⌝ }
+{
+    if layout::JOINED_KIND < h.kind {
+        return false;
+    }
+    if h.count != 0 {
+        if most_parts(h.kind) < h.count {
+            return false;
+        }
+    }
+    if h.number != 0 {
+        return false;
+    }
+    1 <= h.stamp
 }
 
 // Whether a row may have its pairs, by a layout whose rows have at most `most`: its block begins with them.

@@ -245,6 +245,7 @@ fn main() {
     shelf::table(rounds / 4 + 1);
     sweep::table(rounds / 4 + 1);
     whole::table();
+    whole::by_rows();
 
     let calls = ["PUT, new", "GET", "HEAD", "LIST, all", "DELETE", "COMMIT, ascending"];
     let small = |objects| (objects, State { size: 64, ..state(objects) });

@@ -89,3 +89,50 @@ pub fn table() {
         );
     }
 }
+
+/// The key "lot" with a value of four bytes.
+const PAIR: &[u8] = b"\x03lot\x041234";
+
+/// 256 objects with paths of 16 bytes. Every so-many-th has a pair, and every so-many-th a path with a letter outside ASCII; 0 is none.
+fn objects(paired: usize, wide: usize) -> [Vec<u8>; 2] {
+    let mut tables = vec![0; TABLES_LEN];
+    let mut arena = vec![0; 65_536];
+    let each = |many: usize, i: usize| many > 0 && i % many == 0;
+    assert_eq!(slices::fresh(&mut tables, &mut arena), 0);
+    for i in 0..256 {
+        let mut path = path(i, 16);
+        if each(wide, i) {
+            path[14..].copy_from_slice("ü".as_bytes());
+        }
+        let pairs = if each(paired, i) { PAIR } else { &[] };
+        assert_eq!(slices::put(&mut tables, &mut arena, 1, &path, b"weighing", pairs), 0);
+    }
+    [tables, arena]
+}
+
+pub fn by_rows() {
+    println!("\n### The test \"whole\" by what rows hold\n");
+    println!("256 objects with paths of 16 bytes; the best of 2,000 turns, in microseconds.\n");
+    println!("| the objects | whole |");
+    println!("|---|---|");
+    let stores = [(0, 0), (4, 0), (1, 0), (0, 4)].map(|(paired, wide)| objects(paired, wide));
+    let whole = |[tables, arena]: &[Vec<u8>; 2]| {
+        let refused = slices::head(tables, arena, b"/", &mut [], &mut [0; REPLY_LEN]);
+        assert_eq!(refused, 2);
+    };
+    let times = best([
+        &mut || whole(&stores[0]),
+        &mut || whole(&stores[1]),
+        &mut || whole(&stores[2]),
+        &mut || whole(&stores[3]),
+    ]);
+    let names = [
+        "without pairs, paths in ASCII",
+        "every fourth has a pair",
+        "each has a pair",
+        "every fourth path has a letter outside ASCII",
+    ];
+    for (name, time) in names.iter().zip(times) {
+        println!("| {name} | {time:.2} |");
+    }
+}

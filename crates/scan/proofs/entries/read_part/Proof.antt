@@ -1,4 +1,5 @@
 -- `scan::entries::read_part` meets its contract: a part's row is its head alone, so it fits where that does. Assumes nothing.
+use native.Mathlib.Omega.{arith}
 use Rattle.machine.proofs.Tests.{said-yes}
 use Rattle.scan.proofs.Readings.{part-fits}
 use borrow.Author.Needs.{needs}
@@ -32,7 +33,7 @@ returns-3 c = λ h e. (cc, cc)
 returns-4 : tie.Need-returns-4
 returns-4 c =
     let a = c .before .before .before .before .before .before .before .before .args in
-    part-fits (a .m) _ (said-yes (c .before .before .before .part-ok .ensures) (c .before .before .if2 .left)) (a .t .now) (a .at) (a .arena .now) (a .base) (c .before .before .before .before .read-head .ensures) (c .before .before .before .before .before .if1 .left) (c .if3 .left)
+    part-fits (a .m) _ (said-yes (c .before .before .before .part-ok .ensures) (c .before .before .if2 .left)) (a .t .now) (a .at) (a .arena .now) (a .base) (c .before .before .before .before .read-head .ensures) (omega arith) (omega arith)
 
 pub read-part-spec : {M : Type 1} → statement M
 read-part-spec =

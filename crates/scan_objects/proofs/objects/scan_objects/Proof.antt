@@ -3,31 +3,31 @@ use Prim.Native.Nat.{ℕ, _+_, _-_, _≤_}
 use mathlib.Core.Path.{_≡_, sym, _∙_}
 use mathlib.Core.List.{List, []}
 use native.Mathlib.Nat.{sub-zero, sub-self}
-use borrow.Author.Needs.{needs}
+use native.Mathlib.Omega.{arith}
 use lib.ListN.{length, take, drop}
 use Rattle.row.specs.declared.Head.{Head}
-use Rattle.row.specs.Row.{span}
+use Rattle.row.specs.Row.{headLength}
 use Rattle.scan_objects.specs.declared.Offset.{Offset}
 use Rattle.scan_objects.specs.declared.Reading.the-variants.{Fits}
 use Rattle.scan_objects.specs.Scan.{readingOf, objectScan}
 use Rattle.scan_objects.proofs.Turns.{row-in, data-in}
-use Rattle.scan_objects.proofs.ObjectTurns.{objects-end, objects-short, objects-wrong, objects-next}
-use native.Mathlib.Omega.{arith}
+use Rattle.scan_objects.proofs.ObjectTurns.{objects-end, objects-usual}
+use borrow.Author.Tests.{not-false}
+use borrow.Author.Needs.{needs}
 use Rattle.scan_objects.proofs.objects.scan_objects.Statement.{statement}
 use Rattle.scan_objects.proofs.objects.scan_objects.Tie as tie
 
 abbrev Inv-loop : tie.InvT-loop
-Inv-loop t arena rows most at₀ base₀ last₀ last-end₀ i₀ at base last last-end i =
+Inv-loop t arena rows most at₀ base₀ last₀ i₀ at base last i =
     (objectScan most rows [] (record { at = at₀; base = base₀ }) t arena
-    ≡ objectScan most (rows - i) (take (last-end - last) (drop last t)) (record { at = at; base = base }) t arena)
-    × (last ≤ last-end)
-    × (last-end ≤ at)
+    ≡ objectScan most (rows - i) (take (at - last) (drop last t)) (record { at = at; base = base }) t arena)
+    × (last ≤ at)
     × (at ≤ length t)
     × (base ≤ length arena)
     × (i ≤ rows)
 
 abbrev μ-loop : tie.MeasureT-loop
-μ-loop t arena rows most at₀ base₀ last₀ last-end₀ i₀ at base last last-end i = rows - i
+μ-loop t arena rows most at₀ base₀ last₀ i₀ at base last i = rows - i
 
 abbrev tables : tie.At-loop Inv-loop μ-loop → List ℕ
 tables c = c .before .before .before .args .t .now
@@ -38,7 +38,7 @@ content c = c .before .before .before .args .arena .now
 abbrev here : tie.At-loop Inv-loop μ-loop → Offset
 here c = record { at = c .loop .at; base = c .loop .base }
 
--- what was read is a row that fits, and ends in the tables
+-- what was read is a row without pairs that fits, and ends in the tables
 module _ (c : tie.After-h Inv-loop μ-loop) where
   abbrev turn : tie.At-loop Inv-loop μ-loop
   turn = c .before .before .before .before
@@ -46,20 +46,20 @@ module _ (c : tie.After-h Inv-loop μ-loop) where
   abbrev head : Head
   head = c .h .given .0 .0
 
-  fits : readingOf (drop (turn .loop .at) (tables turn)) (drop (turn .loop .base) (content turn)) ≡ Fits head
-  fits = sym (c .before .before .read-row .ensures) ∙ c .h .given .1
+  usual : (readingOf (drop (turn .loop .at) (tables turn)) (drop (turn .loop .base) (content turn)) ≡ Fits head) × (head .pairs ≡ 0)
+  usual = c .before .before .read-usual .ensures head (c .h .given .1)
 
-  ends : turn .loop .at + span head ≤ length (tables turn)
-  ends = row-in (tables turn) (content turn) (here turn) head fits
+  ends : turn .loop .at + headLength + head .pathlen ≤ length (tables turn)
+  ends = let l = row-in (tables turn) (content turn) (here turn) head (usual .0) in omega arith
 
   data-ends : turn .loop .base + head .size ≤ length (content turn)
-  data-ends = data-in (tables turn) (content turn) (here turn) head fits (omega arith)
+  data-ends = data-in (tables turn) (content turn) (here turn) head (usual .0) (omega arith)
 
 loop-holds : tie.Need-loop-holds Inv-loop μ-loop
-loop-holds c = (rw (sub-zero, sub-self), omega arith, omega arith, omega arith, omega arith, omega arith)
+loop-holds c = (rw (sub-zero, sub-self), omega arith, omega arith, omega arith, omega arith)
 
-read-row-requires : tie.Need-read-row-requires Inv-loop μ-loop
-read-row-requires c κs = omega arith
+read-usual-requires : tie.Need-read-usual-requires Inv-loop μ-loop
+read-usual-requires c κs = omega arith
 
 enum-known-h : tie.Need-enum-known-h Inv-loop μ-loop
 enum-known-h c = search needs
@@ -67,11 +67,14 @@ enum-known-h c = search needs
 enum-told : tie.Need-enum-told Inv-loop μ-loop
 enum-told c = search needs
 
+sub-scan-from : tie.Need-sub-scan-from Inv-loop μ-loop
+sub-scan-from c = omega arith
+
+scan-from-requires : tie.Need-scan-from-requires Inv-loop μ-loop
+scan-from-requires c κs = omega arith
+
 returns : tie.Need-returns Inv-loop μ-loop
-returns c =
-    let k = c .before .before .before .before in
-    let a = k .before .before .before .args in
-    sym (k .loop .inv .0 ∙ objects-short (tables k) (content k) (a .most) (a .rows) (k .loop .i) _ (here k) (c .before .before .before .loop-test .taken) (sym (c .before .before .read-row .ensures) ∙ c .enum-told .given .1))
+returns c = c .scan-from .ensures ∙ sym (c .before .before .before .before .before .loop .inv .0)
 
 add-path : tie.Need-add-path Inv-loop μ-loop
 add-path c = omega (arith, ends (c .before))
@@ -82,54 +85,50 @@ cast-end c = omega arith
 add-end : tie.Need-add-end Inv-loop μ-loop
 add-end c = omega (arith, ends (c .before .before))
 
-cast-next : tie.Need-cast-next Inv-loop μ-loop
-cast-next c = omega arith
+sub-usual-ok : tie.Need-sub-usual-ok Inv-loop μ-loop
+sub-usual-ok c = omega arith
 
-mul-next : tie.Need-mul-next Inv-loop μ-loop
-mul-next c = omega (arith, ends (c .before .before .before))
+part-usual-ok-start : tie.Need-part-usual-ok-start Inv-loop μ-loop
+part-usual-ok-start c = omega arith
 
-add-next : tie.Need-add-next Inv-loop μ-loop
-add-next c = omega (arith, ends (c .before .before .before))
+part-usual-ok-end : tie.Need-part-usual-ok-end Inv-loop μ-loop
+part-usual-ok-end c = omega arith
 
-cast-data-end : tie.Need-cast-data-end Inv-loop μ-loop
-cast-data-end c = omega arith
+usual-ok-requires : tie.Need-usual-ok-requires Inv-loop μ-loop
+usual-ok-requires c κs = omega (arith, ends (c .before .before .before))
 
-add-data-end : tie.Need-add-data-end Inv-loop μ-loop
-add-data-end c = omega (arith, data-ends (c .before .before .before .before))
+sub-scan-from-2 : tie.Need-sub-scan-from-2 Inv-loop μ-loop
+sub-scan-from-2 c = omega arith
 
-sub-object-ok : tie.Need-sub-object-ok Inv-loop μ-loop
-sub-object-ok c = omega arith
-
-part-object-ok-start : tie.Need-part-object-ok-start Inv-loop μ-loop
-part-object-ok-start c = omega arith
-
-part-object-ok-end : tie.Need-part-object-ok-end Inv-loop μ-loop
-part-object-ok-end c = omega arith
-
-object-ok-requires : tie.Need-object-ok-requires Inv-loop μ-loop
-object-ok-requires c κs = omega (arith, ends (c .before .before .before .before .before), data-ends (c .before .before .before .before .before))
+scan-from-requires-2 : tie.Need-scan-from-requires-2 Inv-loop μ-loop
+scan-from-requires-2 c κs = omega arith
 
 returns-2 : tie.Need-returns-2 Inv-loop μ-loop
-returns-2 c =
-    let k = c .before .before .before .before .before .before .before .before .before .before .before in
-    let a = k .before .before .before .args in
-    sym (k .loop .inv .0 ∙ objects-wrong (tables k) (content k) (a .most) (a .rows) (k .loop .i) _ (here k) (c .before .before .before .before .before .before .before .before .before .before .loop-test .taken) (λ j. k .before .before .shared-slice-known .given j .fits) _ (fits (c .before .before .before .before .before .before .before)) _ (c .before .object-ok .ensures) (c .if1 .taken))
+returns-2 c = c .scan-from2 .ensures ∙ sym (c .before .before .before .before .before .before .before .before .before .before .loop .inv .0)
+
+cast-base : tie.Need-cast-base Inv-loop μ-loop
+cast-base c = omega arith
+
+add-base : tie.Need-add-base Inv-loop μ-loop
+add-base c = omega (arith, data-ends (c .before .before .before .before .before .before))
 
 add-i : tie.Need-add-i Inv-loop μ-loop
-add-i c = omega (arith, c .before .before .before .before .before .before .before .before .before .before .loop-test .taken, c .before .before .before .before .before .before .before .before .before .before .before .before .before .before .fits .rows)
+add-i c = omega arith
 
 loop-less : tie.Need-loop-less Inv-loop μ-loop
 loop-less c = omega arith
 
 loop-again : tie.Need-loop-again Inv-loop μ-loop
 loop-again c =
-    let k = c .before .before .before .before .before .before .before .before .before .before .before in
-    let a = k .before .before .before .args in (
-      k .loop .inv .0 ∙ objects-next (tables k) (content k) (a .most) (a .rows) (k .loop .i) _ (here k) (c .before .before .before .before .before .before .before .before .before .before .loop-test .taken) (λ j. k .before .before .shared-slice-known .given j .fits) _ (fits (c .before .before .before .before .before .before .before)) _ (c .before .object-ok .ensures) (c .if1 .left),
+    let r = c .before .before .before .before .before .before in
+    let k = turn r in
+    let a = k .before .before .before .args in
+    let ok = c .before .before .usual-ok in (
+      k .loop .inv .0
+          ∙ objects-usual (tables k) (content k) (a .most) (a .rows) (k .loop .i) _ (here k) (r .before .before .before .loop-test .taken) (λ j. k .before .before .shared-slice-known .given j .fits) (head r) (usual r .0) (usual r .1) (ok .ensures (not-false (ok .result) (c .before .if1 .left)) (usual r .1) _ _),
       omega arith,
-      omega arith,
-      omega (arith, ends (c .before .before .before .before .before .before .before)),
-      data-ends (c .before .before .before .before .before .before .before),
+      ends r,
+      data-ends r,
       omega arith,
     )
 
@@ -146,23 +145,24 @@ scan-objects-spec =
     Inv-loop
     μ-loop
     loop-holds
-    read-row-requires
+    read-usual-requires
     enum-known-h
     enum-told
+    sub-scan-from
+    scan-from-requires
     returns
     add-path
     cast-end
     add-end
-    cast-next
-    mul-next
-    add-next
-    cast-data-end
-    add-data-end
-    sub-object-ok
-    part-object-ok-start
-    part-object-ok-end
-    object-ok-requires
+    sub-usual-ok
+    part-usual-ok-start
+    part-usual-ok-end
+    usual-ok-requires
+    sub-scan-from-2
+    scan-from-requires-2
     returns-2
+    cast-base
+    add-base
     add-i
     loop-less
     loop-again

@@ -24,7 +24,7 @@ fn abort_judge(tables: &[u8], arena: &[u8], uploads: Offset, upload: UploadNumbe
     ensures { λ r. ⌜ (r .refusal ≡ resultOf (outcome (ABORT (upload .0)) (memory (now (tables .entry)) (now (arena .entry)))))
         × (r .place ≡ uploadPlace (stateOf (now (tables .entry)) (now (arena .entry))) (upload .0)) ⌝ }
 {
-    let place = find::find_upload(tables, arena, uploads, upload.0);
+    let place = find_uploads::find_upload(tables, arena, uploads, upload.0);
     if place.found {
         return AbortPlace { refusal: 0, place };
     }

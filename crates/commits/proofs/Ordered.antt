@@ -23,8 +23,8 @@ use Rattle.layout.proofs.UploadLaws.{length-part-rows}
 use Rattle.find.specs.declared.RowPlace.{RowPlace}
 use Rattle.find.specs.Places.{beforeUpload, beforeParts, afterUpload, partsRowOf}
 use Rattle.find.proofs.Splits.{parts-place}
-use Rattle.find.proofs.Answers.{place-row}
-use Rattle.find.proofs.Walk.{Reached, Turn}
+use Rattle.find_uploads.proofs.Answers.{place-row}
+use Rattle.find_uploads.proofs.Walk.{Reached, Turn}
 use Rattle.contract.specs.Answers.{partList}
 use Rattle.commits.specs.Numbers.{numberAt, inOrder}
 use Rattle.commits.proofs.Listing.{rest-numbers, no-number-left, all-numbers}

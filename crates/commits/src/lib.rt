@@ -44,7 +44,7 @@ fn number_fits(tables: &[u8], arena: &[u8], first: RowPlace, list: &[u8], i: usi
         (λ s u x. r ≡ numberFits (x .parts) (now (list .entry)) i) ⌝ }
 {
     let number = number::get_u16(list, 2 * i);
-    let place = find::find_part_from(tables, arena, first, number);
+    let place = find_uploads::find_part_from(tables, arena, first, number);
     if !place.found {
         return false;
     }
@@ -82,7 +82,7 @@ fn list_fits(tables: &[u8], arena: &[u8], here: RowPlace, count: usize, list: &[
     if list.len() != 2 * count {
         return false;
     }
-    let first = find::next_row(tables, arena, here);
+    let first = find_uploads::next_row(tables, arena, here);
     if in_order(tables, arena, first, list, count) {
         return true;
     }
@@ -178,12 +178,12 @@ fn commit_judge(
         × (r .refusal ≡ 0
         → JoinPlaced (now (tables .entry)) (now (arena .entry)) (upload .0) (r .bounds) (r .place)) ⌝ }
 {
-    let opened = find::find_upload(tables, arena, uploads, upload.0);
+    let opened = find_uploads::find_upload(tables, arena, uploads, upload.0);
     if !opened.found {
         return refused(types::BAD_REQUEST);
     }
     let here = find::place_of(opened);
-    let parts = find::pass_parts(tables, arena, here);
+    let parts = find_uploads::pass_parts(tables, arena, here);
     if !list_fits(tables, arena, here, parts.count, list) {
         return refused(types::BAD_REQUEST);
     }
@@ -192,7 +192,7 @@ fn commit_judge(
         return refused(path.refusal);
     }
     let next = parts.next;
-    let end = find::rows_end_after(tables, arena, next);
+    let end = find_uploads::rows_end_after(tables, arena, next);
     let bounds = join::upload_bounds(tables, arena, here, parts, end);
     let target = path.place;
     CommitRoom {

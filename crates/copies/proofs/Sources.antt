@@ -28,9 +28,9 @@ use Rattle.layout.specs.Memory.{whole, stateOf, rowsOf, Stands, arenaMost}
 use Rattle.layout.proofs.WholeLaws.{whole-stands}
 use Rattle.find.specs.declared.Lookup.{Lookup}
 use Rattle.find.specs.Places.{placeOf, objectPlace}
-use Rattle.find.specs.Search.{IsRowPlace}
+use Rattle.find.specs.RowPlaces.{IsRowPlace}
 use Rattle.find.proofs.Found.{is-none}
-use Rattle.find.proofs.Answers.{object-row-place}
+use Rattle.find_uploads.proofs.Answers.{object-row-place}
 use Rattle.edit_copy.specs.Copy.{contentIn, pairsIn, contentAt, keptAt, copied, Copiable}
 use Rattle.edit_copy.proofs.Source.{ObjectThere, lengths-there, size-is, block-inside, block-there}
 use Rattle.room.specs.Judged.{PutResult}

@@ -70,7 +70,7 @@ fn source_judge(
     }
     let h = row::read_head(tables, from.at);
     let to = looked_up.second;
-    let end = find::rows_end_from(tables, arena, further(from, to));
+    let end = find_uploads::rows_end_from(tables, arena, further(from, to));
     let room = room::object_room(tables, arena, to, end, h.size as usize);
     let place = room.place;
     CopyRoom {

@@ -21,7 +21,7 @@ pub fn remove_object(tables: &mut [u8], arena: &mut [u8], place: Lookup)
     ensures { λ _. ⌜ OfPath (now (tables .entry)) (now (arena .entry)) place
         (λ s p. Stands (now (tables .exit)) (now (arena .exit)) (withoutObject s p)) ⌝ }
 {
-    let end = find::rows_end_from(tables, arena, place);
+    let end = find_uploads::rows_end_from(tables, arena, place);
     let header = layout::headers::read_header(tables);
     let at = place.at;
     let base = place.base;

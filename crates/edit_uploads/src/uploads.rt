@@ -74,9 +74,9 @@ pub fn remove_upload(tables: &mut [u8], arena: &mut [u8], upload: u32, place: Lo
         at,
         base,
     };
-    let parts = find::pass_parts(tables, arena, here);
+    let parts = find_uploads::pass_parts(tables, arena, here);
     let next = parts.next;
-    let end = find::rows_end_after(tables, arena, next);
+    let end = find_uploads::rows_end_after(tables, arena, next);
     let header = layout::headers::read_header(tables);
     let n = next.at - at;
     let m = next.base - base;

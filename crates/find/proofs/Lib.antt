@@ -4,8 +4,4 @@ pub mod Splits
 pub mod ObjectAt
 pub mod ObjectSearch
 pub mod TwoPaths
-pub mod Walk
-pub mod Searches
-pub mod Answers
-pub mod UploadsFrom
 pub mod PairSizes

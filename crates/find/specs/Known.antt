@@ -14,7 +14,7 @@ use Rattle.scan_objects.specs.Scan.{uploadsFrom}
 use Rattle.find.specs.declared.RowPlace.{RowPlace}
 use Rattle.find.specs.declared.Lookup.{Lookup}
 use Rattle.find.specs.Places.{objectPlace, uploadRowOf, partsRowOf}
-use Rattle.find.specs.Search.{IsRow, IsRowPlace}
+use Rattle.find.specs.RowPlaces.{IsRow, IsRowPlace}
 
 module _ (t a : List ℕ) where
   -- the rows of the state that t and a stand for

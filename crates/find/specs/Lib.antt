@@ -1,4 +1,4 @@
 pub mod Counts
+pub mod RowPlaces
 pub mod Places
-pub mod Search
 pub mod Known

@@ -16,7 +16,7 @@ use Rattle.layout.specs.Header.{headerLength}
 use Rattle.find.specs.declared.Lookup.{Lookup}
 use Rattle.find.specs.declared.PassedParts.{PassedParts}
 use Rattle.find.specs.declared.Numbered.{Numbered}
-use Rattle.find.specs.Search.{rowPlaceAt}
+use Rattle.find.specs.RowPlaces.{rowPlaceAt}
 
 -- a lookup that answers a place, and the place that a lookup answers
 abbrev pub lookupOf : (found : Bool) → RowPlace → Lookup

@@ -1,10 +1,8 @@
-// Readers of whole memory: where an object, an upload or a part stands, where the rows end, how many there are, and the
-// lengths of a row's pairs.
+// Readers of whole memory: where an object stands, how many rows there are, and the lengths of a row's pairs; and what
+// the readers of uploads answer.
 pub mod counts;
 pub mod objects;
 pub mod pairs;
-mod search;
-pub mod uploads;
 
 ghost use mathlib.Core.Path.{_≡_};
 ghost use Rattle.find.specs.Places.{lookupOf, placeOf};
@@ -12,16 +10,6 @@ pub use counts::read_counts;
 pub use objects::find_object;
 pub use objects::find_two;
 pub use pairs::pairs_size;
-pub use search::first_upload;
-pub use search::next_row;
-pub use uploads::find_part_after;
-pub use uploads::find_part_from;
-pub use uploads::find_upload;
-pub use uploads::first_due;
-pub use uploads::pass_parts;
-pub use uploads::rows_end;
-pub use uploads::rows_end_after;
-pub use uploads::rows_end_from;
 
 // What a search found: whether it is there, the number of its row, where that begins in the tables, and where its data
 // begin in the arena. Where it is not there, the places are those of the row before which it would stand.
@@ -59,7 +47,7 @@ pub struct PassedParts {
 }
 
 // A lookup that answers a place, and whether what was looked for stands there.
-fn lookup_at(found: bool, here: RowPlace) -> Lookup
+pub fn lookup_at(found: bool, here: RowPlace) -> Lookup
     ensures { λ r. ⌜ r ≡ lookupOf found here ⌝ }
 {
     Lookup {

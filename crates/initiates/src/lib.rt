@@ -47,7 +47,7 @@ fn initiate_room(tables: &[u8], arena: &[u8], uploads: Offset, pairs: &[u8]) -> 
     if layout::UPLOADS_MOST <= open {
         return refused(types::TABLE_FULL);
     }
-    let end = find::rows_end(tables, arena, uploads);
+    let end = find_uploads::rows_end(tables, arena, uploads);
     let held = end.base;
     let n = pairs::held(pairs);
     let full = room::arena_judge(held, n, arena.len());

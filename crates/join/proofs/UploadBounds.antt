@@ -21,7 +21,7 @@ use Rattle.layout.specs.Header.{headerLength}
 use Rattle.find.specs.declared.PassedParts.{PassedParts}
 use Rattle.find.specs.Places.{placeAfter, beforeUpload, beforeParts, throughParts, fromUpload, afterUpload, uploadRowOf, passedParts}
 use Rattle.find.proofs.Splits.{upload-place, parts-place}
-use Rattle.find.proofs.Answers.{place-after}
+use Rattle.find_uploads.proofs.Answers.{place-after}
 use Rattle.join.specs.declared.Bounds.{Bounds}
 use Rattle.join.specs.Bounds.{boundsOf}
 use Rattle.join.proofs.PathRead.{head-inside, block-inside, size-there}

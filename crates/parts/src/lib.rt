@@ -34,8 +34,8 @@ fn part_room(
         (stateOf (now (tables .entry)) (now (arena .entry))) (upload .0) (number .0) (now (content .entry))))
         × PartPlaced (now (tables .entry)) (now (arena .entry)) (upload .0) (number .0) (r .place) (r .end) ⌝ }
 {
-    let place = find::find_part_after(tables, arena, opened, number.0);
-    let end = find::rows_end_from(tables, arena, place);
+    let place = find_uploads::find_part_after(tables, arena, opened, number.0);
+    let end = find_uploads::rows_end_from(tables, arena, place);
     let held = end.base;
     if place.found {
         let h = row::read_head(tables, place.at);
@@ -79,7 +79,7 @@ fn part_judge(
     if !names::request_part_ok(number.0) {
         return room::refused(types::BAD_REQUEST);
     }
-    let place = find::find_upload(tables, arena, uploads, upload.0);
+    let place = find_uploads::find_upload(tables, arena, uploads, upload.0);
     if !place.found {
         return room::refused(types::BAD_REQUEST);
     }

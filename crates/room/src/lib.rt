@@ -70,7 +70,7 @@ pub fn object_judge(tables: &[u8], arena: &[u8], path: &[u8], n: usize) -> Room
         × ObjectPlaced (now (tables .entry)) (now (arena .entry)) (now (path .entry)) (r .place) (r .end) ⌝ }
 {
     let place = find::find_object(tables, arena, path);
-    let end = find::rows_end_from(tables, arena, place);
+    let end = find_uploads::rows_end_from(tables, arena, place);
     object_room(tables, arena, place, end, n)
 }
 

@@ -24,7 +24,7 @@ use Rattle.scan_objects.specs.Scan.{uploadsFrom}
 use Rattle.find.specs.declared.Numbered.{Numbered}
 use Rattle.find.specs.Places.{firstOf, firstDue}
 use Rattle.find.specs.Known.{WholeFrom}
-use Rattle.find.proofs.UploadsFrom.{uploads-stay}
+use Rattle.find_uploads.proofs.UploadsFrom.{uploads-stay}
 use Rattle.contract.specs.Made.{Memory, wholeMemory, stateIn, outcome, MadeWhole}
 use Rattle.sweeps.specs.Swept.{Swept}
 

@@ -21,14 +21,14 @@ fn sweep_whole(tables: &mut [u8], arena: &mut [u8], uploads: Offset, stamp: u64,
 {
     let mut count: u32 = 0;
     while count < most {
-        let due = find::first_due(tables, arena, uploads, stamp);
+        let due = find_uploads::first_due(tables, arena, uploads, stamp);
         if !due.found {
             return Sweep { count, more: false };
         }
         aborts::abort_whole(tables, arena, uploads, UploadNumber(due.number));
         count += 1;
     }
-    let due = find::first_due(tables, arena, uploads, stamp);
+    let due = find_uploads::first_due(tables, arena, uploads, stamp);
     Sweep {
         count,
         more: due.found,

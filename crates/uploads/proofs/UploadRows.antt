@@ -24,10 +24,10 @@ use Rattle.layout.proofs.TestLaws.{stored-path-length}
 use Rattle.find.specs.declared.RowPlace.{RowPlace}
 use Rattle.find.specs.declared.PassedParts.{PassedParts}
 use Rattle.find.specs.Places.{beforeUpload, firstUploadRow, beforeParts, throughParts, afterUpload, passedParts}
-use Rattle.find.specs.Search.{rowPlaceAt}
+use Rattle.find.specs.RowPlaces.{rowPlaceAt}
 use Rattle.find.proofs.RowsAt.{At, row-at}
 use Rattle.find.proofs.Splits.{upload-rows-append, upload-found, parts-after}
-use Rattle.find.proofs.Answers.{place-after, placed-after}
+use Rattle.find_uploads.proofs.Answers.{place-after, placed-after}
 use Rattle.uploads.specs.declared.rows.OpenUpload.{OpenUpload}
 use Rattle.uploads.specs.Rows.{uploadRowPlace, RowRead}
 

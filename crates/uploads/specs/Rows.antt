@@ -10,7 +10,7 @@ use Rattle.row.specs.Row.{headAt, headLength}
 use Rattle.layout.specs.Memory.{objectRows, uploadRows, rowsOf, whole, stateOf}
 use Rattle.find.specs.declared.RowPlace.{RowPlace}
 use Rattle.find.specs.Places.{uploadRowOf, passedParts}
-use Rattle.find.specs.Search.{rowPlaceAt}
+use Rattle.find.specs.RowPlaces.{rowPlaceAt}
 use Rattle.uploads.specs.declared.rows.OpenUpload.{OpenUpload}
 
 -- the place of the row of the upload that has i before it: after the objects, and those i with their parts

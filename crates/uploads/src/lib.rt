@@ -27,7 +27,7 @@ fn uploads_whole(
         (outcome (UPLOADS (now (prefix .entry)) (now (answer .entry)))
         (memory (now (tables .entry)) (now (arena .entry)))) ⌝ }
 {
-    let first = find::first_upload(tables, arena, uploads);
+    let first = find_uploads::first_upload(tables, arena, uploads);
     let counts = measuring::measure(tables, arena, first, prefix);
     if answer.len() < counts.bytes as usize {
         return ListAnswer::Refused(types::BUFFER_SHORT);

@@ -20,7 +20,7 @@ pub(crate) fn read_upload(tables: &[u8], arena: &[u8], here: RowPlace) -> OpenUp
         (λ s x. RowRead (now (tables .entry)) s here x r) ⌝ }
 {
     let h = row::read_head(tables, here.at);
-    let parts = find::pass_parts(tables, arena, here);
+    let parts = find_uploads::pass_parts(tables, arena, here);
     let next = parts.next;
     let from = here.at + row::HEAD_LENGTH;
     OpenUpload {

@@ -15,7 +15,7 @@ use Rattle.find.specs.declared.RowPlace.{RowPlace}
 use Rattle.find.specs.Places.{uploadRowOf}
 use Rattle.find.specs.Known.{WholeOpenAt}
 use Rattle.find.proofs.Found.{is-some}
-use Rattle.find.proofs.Answers.{upload-lookup, open-row-place, next-row-place}
+use Rattle.find_uploads.proofs.Answers.{upload-lookup, open-row-place, next-row-place}
 use Rattle.contract.specs.Answers.{partList}
 use Rattle.contract.specs.Made.{memory, outcome, resultOf}
 use Rattle.commits.proofs.Fitting.{count-is}

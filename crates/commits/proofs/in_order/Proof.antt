@@ -9,7 +9,7 @@ use Rattle.machine.specs.State.{State}
 use Rattle.row.specs.Row.{contentsOf}
 use Rattle.layout.specs.Memory.{stateOf, rowsOf, Stands}
 use Rattle.layout.proofs.WholeLaws.{whole-stands}
-use Rattle.find.proofs.Walk.{Turn, place-reached, row-inside, row-turn}
+use Rattle.find_uploads.proofs.Walk.{Turn, place-reached, row-inside, row-turn}
 use Rattle.commits.proofs.Ordered.{RowBegins, begins, Walked, walked-none, walked-all, walked-off, walked-next}
 use Rattle.commits.proofs.in_order.Statement.{statement}
 use Rattle.commits.proofs.in_order.Tie as tie

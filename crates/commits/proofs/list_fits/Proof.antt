@@ -12,7 +12,7 @@ use Rattle.layout.specs.Memory.{stateOf}
 use Rattle.find.specs.Known.{WholePlace, OfOpenBefore}
 use Rattle.find.specs.Places.{uploadRowOf, partsRowOf}
 use Rattle.find.proofs.Found.{is-some}
-use Rattle.find.proofs.Answers.{open-row-place, first-part-row, parts-row-place}
+use Rattle.find_uploads.proofs.Answers.{open-row-place, first-part-row, parts-row-place}
 use Rattle.commits.proofs.Fitting.{unfit-number, Passed, passed-none, passed-next, unfit-list, ordered-list, fit-list, count-few}
 use Rattle.commits.proofs.Ordered.{rows-there}
 use Rattle.commits.proofs.list_fits.Statement.{statement}

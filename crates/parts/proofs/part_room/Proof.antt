@@ -13,7 +13,7 @@ use Rattle.layout.proofs.RowCounts.{length-contents}
 use Rattle.find.specs.declared.RowPlace.{RowPlace}
 use Rattle.find.specs.Places.{placeOf, partPlace}
 use Rattle.find.proofs.Found.{is-some}
-use Rattle.find.proofs.Answers.{upload-lookup, open-row-place, part-row-place}
+use Rattle.find_uploads.proofs.Answers.{upload-lookup, open-row-place, part-row-place}
 use Rattle.parts.proofs.Parting.{held-inside, old-inside, old-held, judged-old, judged-full, judged-new}
 use Rattle.parts.proofs.part_room.Statement.{statement}
 use Rattle.parts.proofs.part_room.Tie as tie

@@ -1,7 +1,7 @@
 -- `room::object_judge` meets its contract: its lookup is the path's, and its end that of the rows. Assumes nothing.
 use borrow.Author.Needs.{needs}
 use Rattle.layout.specs.Memory.{stateOf}
-use Rattle.find.proofs.Answers.{object-row-place}
+use Rattle.find_uploads.proofs.Answers.{object-row-place}
 use Rattle.room.proofs.object_judge.Statement.{statement}
 use Rattle.room.proofs.object_judge.Tie as tie
 

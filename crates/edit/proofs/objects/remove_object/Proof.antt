@@ -11,7 +11,7 @@ use Rattle.machine.specs.Map.{isSome, lookup}
 use Rattle.layout.specs.declared.Header.{Header}
 use Rattle.layout.specs.Memory.{stateOf}
 use Rattle.find.specs.Places.{objectPlace}
-use Rattle.find.proofs.Answers.{object-row-place}
+use Rattle.find_uploads.proofs.Answers.{object-row-place}
 use Rattle.edit.proofs.ObjectEdits.{place-found, header-inside, remove-head, some-object, remove-rows, remove-data, remove-stands}
 use Rattle.edit.proofs.objects.remove_object.Statement.{statement}
 use Rattle.edit.proofs.objects.remove_object.Tie as tie

@@ -11,7 +11,7 @@ use Rattle.machine.specs.State.{Upload, State}
 use Rattle.layout.specs.Memory.{stateOf}
 use Rattle.find.specs.Places.{placeOf, passedParts}
 use Rattle.find.proofs.Found.{is-some}
-use Rattle.find.proofs.Answers.{upload-lookup, open-row-place, next-row-place}
+use Rattle.find_uploads.proofs.Answers.{upload-lookup, open-row-place, next-row-place}
 use Rattle.edit.proofs.ObjectEdits.{header-inside}
 use Rattle.edit_uploads.proofs.UploadEdits.{Removal, removal}
 use Rattle.edit_uploads.proofs.uploads.remove_upload.Statement.{statement}

@@ -10,9 +10,9 @@ use Rattle.row.specs.Row.{headAt, headLength, span}
 use Rattle.layout.specs.Memory.{stateOf, rowsOf, Stands}
 use Rattle.layout.proofs.WholeLaws.{whole-stands}
 use Rattle.find.specs.declared.RowPlace.{RowPlace}
-use Rattle.find.specs.Search.{rowPlaceAt}
-use Rattle.find.proofs.Answers.{open-row-place}
-use Rattle.find.proofs.Walk.{Reached, place-reached, row-inside, row-turn}
+use Rattle.find.specs.RowPlaces.{rowPlaceAt}
+use Rattle.find_uploads.proofs.Answers.{open-row-place}
+use Rattle.find_uploads.proofs.Walk.{Reached, place-reached, row-inside, row-turn}
 use Rattle.uploads.proofs.UploadRows.{parts-fit, row-read}
 use Rattle.uploads.proofs.rows.read_upload.Statement.{statement}
 use Rattle.uploads.proofs.rows.read_upload.Tie as tie

@@ -1,0 +1,4 @@
+pub mod Walk
+pub mod Searches
+pub mod Answers
+pub mod UploadsFrom

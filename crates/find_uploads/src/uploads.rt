@@ -1,0 +1,97 @@
+// Where an upload and its parts stand, and where the rows end. `uploads` is where the test "whole" found the rows of uploads.
+use crate::search::Goal;
+use crate::search::next_row;
+use crate::search::number_of;
+use crate::search::seek;
+use crate::search::seek_uploads;
+use crate::search::stands;
+use find::Lookup;
+use find::Numbered;
+use find::PassedParts;
+use find::RowPlace;
+use find::lookup_at;
+use find::place_of;
+use scan_objects::Offset;
+ghost use mathlib.Core.Path.{_≡_};
+ghost use Rattle.layout.specs.Memory.{stateOf};
+ghost use Rattle.find.specs.Places.{placeOf, placeAfter, uploadPlace, partPlace, passedParts, firstDue};
+ghost use Rattle.find.specs.Known.{rowsIn, WholeFrom, WholeRow, WholePlace, OfOpenAt, OfOpenBefore};
+
+// The end of the rows.
+pub fn rows_end(tables: &[u8], arena: &[u8], uploads: Offset) -> RowPlace
+    requires { ⌜ WholeFrom (now tables) (now arena) uploads ⌝ }
+    ensures { λ r. ⌜ r ≡ placeAfter (rowsIn (now (tables .entry)) (now (arena .entry))) ⌝ }
+{
+    seek_uploads(tables, arena, uploads, Goal::End)
+}
+
+// The same from a row on.
+pub fn rows_end_after(tables: &[u8], arena: &[u8], from: RowPlace) -> RowPlace
+    requires { ⌜ WholePlace (now tables) (now arena) from ⌝ }
+    ensures { λ r. ⌜ r ≡ placeAfter (rowsIn (now (tables .entry)) (now (arena .entry))) ⌝ }
+{
+    seek(tables, arena, from, Goal::End)
+}
+
+// The same from the place that a lookup answers on.
+pub fn rows_end_from(tables: &[u8], arena: &[u8], place: Lookup) -> RowPlace
+    requires { ⌜ WholePlace (now tables) (now arena) (placeOf place) ⌝ }
+    ensures { λ r. ⌜ r ≡ placeAfter (rowsIn (now (tables .entry)) (now (arena .entry))) ⌝ }
+{
+    let from = place_of(place);
+    seek(tables, arena, from, Goal::End)
+}
+
+// The place of the upload with this number.
+pub fn find_upload(tables: &[u8], arena: &[u8], uploads: Offset, upload: u32) -> Lookup
+    requires { ⌜ WholeFrom (now tables) (now arena) uploads ⌝ }
+    ensures { λ r. ⌜ r ≡ uploadPlace (stateOf (now (tables .entry)) (now (arena .entry))) upload ⌝ }
+{
+    let here = seek_uploads(tables, arena, uploads, Goal::Upload(upload));
+    let found = stands(tables, arena, here, layout::UPLOAD_KIND, upload);
+    lookup_at(found, here)
+}
+
+// The place of a part of an open upload, `first` being the row after the upload's.
+pub fn find_part_from(tables: &[u8], arena: &[u8], first: RowPlace, number: u16) -> Lookup
+    requires { ⌜ WholePlace (now tables) (now arena) first ⌝ }
+    ensures { λ r. ⌜ OfOpenBefore (now (tables .entry)) (now (arena .entry)) first
+        (λ s u x. r ≡ partPlace s u x number) ⌝ }
+{
+    let here = seek(tables, arena, first, Goal::Part(number));
+    let found = stands(tables, arena, here, layout::PART_KIND, number as u32);
+    lookup_at(found, here)
+}
+
+// The place of a part of the open upload that a lookup found.
+pub fn find_part_after(tables: &[u8], arena: &[u8], upload: Lookup, number: u16) -> Lookup
+    requires { ⌜ WholeRow (now tables) (now arena) (placeOf upload) ⌝ }
+    ensures { λ r. ⌜ OfOpenAt (now (tables .entry)) (now (arena .entry)) (placeOf upload)
+        (λ s u x. r ≡ partPlace s u x number) ⌝ }
+{
+    let here = place_of(upload);
+    let first = next_row(tables, arena, here);
+    find_part_from(tables, arena, first, number)
+}
+
+// How many parts the upload has whose row stands there, and the row after them.
+pub fn pass_parts(tables: &[u8], arena: &[u8], here: RowPlace) -> PassedParts
+    requires { ⌜ WholeRow (now tables) (now arena) here ⌝ }
+    ensures { λ r. ⌜ OfOpenAt (now (tables .entry)) (now (arena .entry)) here (λ s u x. r ≡ passedParts s u x) ⌝ }
+{
+    let first = next_row(tables, arena, here);
+    let next = seek(tables, arena, first, Goal::NextUpload);
+    PassedParts {
+        count: next.row - first.row,
+        next,
+    }
+}
+
+// The number of the first upload that started before a stamp.
+pub fn first_due(tables: &[u8], arena: &[u8], uploads: Offset, stamp: u64) -> Numbered
+    requires { ⌜ WholeFrom (now tables) (now arena) uploads ⌝ }
+    ensures { λ r. ⌜ r ≡ firstDue stamp (stateOf (now (tables .entry)) (now (arena .entry))) ⌝ }
+{
+    let here = seek_uploads(tables, arena, uploads, Goal::Due(stamp));
+    number_of(tables, arena, here, layout::UPLOAD_KIND)
+}

@@ -93,7 +93,8 @@ pub fn table() {
 /// The key "lot" with a value of four bytes.
 const PAIR: &[u8] = b"\x03lot\x041234";
 
-/// 256 objects with paths of 16 bytes. Every so-many-th has a pair, and every so-many-th a path with a letter outside ASCII; 0 is none.
+/// 256 objects with paths of 16 bytes. Every `paired`-th has a pair, and every `wide`-th a path with a letter outside ASCII; 0
+/// stands for none.
 fn objects(paired: usize, wide: usize) -> [Vec<u8>; 2] {
     let mut tables = vec![0; TABLES_LEN];
     let mut arena = vec![0; 65_536];

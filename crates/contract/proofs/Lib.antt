@@ -1,4 +1,5 @@
 pub mod Judging
 pub mod MadeLaws
+pub mod Noting
 pub mod Reading
 pub mod Unseen

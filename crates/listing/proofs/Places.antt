@@ -3,45 +3,25 @@ use Prim.Native.Nat.{ℕ, _+_, _*_, _≤_, _<_}
 use mathlib.Core.Path.{_≡_, refl, sym, ap, _∙_}
 use mathlib.Core.Bool.{Bool, true, false, cond}
 use mathlib.Core.Logic.{⊎-elim}
-use mathlib.Core.List.{List, _++_, append-assoc}
+use mathlib.Core.List.{List, _++_}
 use native.Mathlib.Nat.{add-zero, eq-or-lt-of-le}
 use native.Mathlib.Omega.{arith}
 use lib.Dec.{eqb}
-use lib.ListN.{length, take, drop, length-append, length-drop, take-append-drop}
-use lib.Seq.{take-all, take-append-le, drop-append-le, take-at, drop-at, length-take-le}
+use lib.ListN.{length, take, drop, length-append, take-append-drop}
+use lib.Seq.{take-all}
 use Rattle.number.specs.Number.{le, fromLe, over, written}
-use Rattle.number.proofs.NumberLaws.{length-le, fromLe-le}
 use Rattle.machine.specs.Map.{Map, records}
 use Rattle.machine.specs.Names.{Bytes}
 use Rattle.machine.specs.State.{Object, State}
 use Rattle.machine.specs.Steps.{isListed, listed, listRecord}
-use Rattle.machine.proofs.MapKeep.{keep-append, records-append}
+use Rattle.machine.proofs.MapKeep.{records-append}
 use Rattle.stored_pairs.specs.Stored.{sumOf}
 use Rattle.row.specs.Row.{headAt, pathAt, lengthsAt, span}
 use Rattle.layout.specs.Memory.{Stands}
+use Rattle.contract.proofs.Noting.{read-before, read-here, keep-front}
 use Rattle.listing.specs.Rows.{recordAt, listedBytes, listBytes, rowOf, ListedAt, AllListed}
 use Rattle.listing.proofs.ObjectRows.{Walked, row-inside, pairs-inside, bytes-next, count-next}
 use Rattle.listing.proofs.Front.{front-grows}
-
--- two bytes that stand before those written stay
-read-before : (b s : List ℕ) (at k n : ℕ) → k + 2 ≤ at → at ≤ length b → take 2 (drop k (over b at s n)) ≡ take 2 (drop k b)
-read-before b s at k n before inside =
-    let x = take at b in
-    let lx : length x ≡ at = length-take-le at b inside in
-    let front : (y : List ℕ) → take 2 (drop k (x ++ y)) ≡ take 2 (drop k x) = λ y. ap (take 2) (drop-append-le k x y (omega arith)) ∙ take-append-le 2 (drop k x) y (rw (length-drop k x) (omega arith)) in
-    ap (λ (z : List ℕ). take 2 (drop k z)) (append-assoc x s (drop (at + n) b))
-    ∙ front (s ++ drop (at + n) b)
-    ∙ sym (ap (λ (z : List ℕ). take 2 (drop k z)) (sym (take-append-drop at b)) ∙ front (drop at b))
-
--- those written are read back
-read-here : (b : List ℕ) (at v : ℕ) → at + 2 ≤ length b → v < 65536 → fromLe (take 2 (drop at (over b at (le 2 v) 2))) ≡ v
-read-here b at v inside small =
-    let x = take at b in
-    let y = drop (at + 2) b in
-    ap (λ (z : List ℕ). fromLe (take 2 (drop at z))) (append-assoc x (le 2 v) y)
-    ∙ ap (λ (z : List ℕ). fromLe (take 2 z)) (drop-at x (le 2 v ++ y) at (length-take-le at b (omega arith)))
-    ∙ ap fromLe (take-at (le 2 v) y 2 (length-le 2 v))
-    ∙ fromLe-le 2 v small
 
 pub no-place : (s : State) (prefix suffix : Bytes) (places : List ℕ) → AllListed s prefix suffix places 0
 no-place s prefix suffix places k l = absurd (omega arith)
@@ -100,9 +80,7 @@ module _ (s : State) (prefix suffix : Bytes) where
 
   first-listed : (j k : ℕ) → length (listed prefix suffix (take j (s .O))) ≡ k → take k L ≡ listed prefix suffix (take j (s .O))
   unfolding listed
-  first-listed j k e =
-      ap (take k) (ap (listed prefix suffix) (sym (take-append-drop j (s .O))) ∙ keep-append (λ p x. isListed prefix suffix p) (take j (s .O)) (drop j (s .O)))
-      ∙ take-at (listed prefix suffix (take j (s .O))) (listed prefix suffix (drop j (s .O))) k e
+  first-listed j k e = keep-front (λ p x. isListed prefix suffix p) (s .O) j k e
 
   records-fewer : (k : ℕ) → length (firstRecords k) ≤ length (records listRecord L)
   records-fewer k =

@@ -1,18 +1,18 @@
 -- What UPLOADS has of the first uploads, one upload after the other. Assumes nothing.
-use Prim.Native.Nat.{ℕ, _+_, _≤_, _<_}
-use mathlib.Core.Path.{_≡_, refl, sym, ap, _∙_}
+use Prim.Native.Nat.{ℕ, _+_, _<_}
+use mathlib.Core.Path.{_≡_, refl, ap, _∙_}
 use mathlib.Core.Bool.{Bool, true, false, cond}
 use mathlib.Core.List.{[], _∷_, _++_, append-nil}
 use native.Mathlib.Numerals.{add-one}
-use native.Mathlib.Omega.{arith}
-use lib.ListN.{length, getD, take, drop, length-append, take-append-drop}
+use lib.ListN.{length, getD, take, length-append}
 use Rattle.order.specs.Order.{begins}
 use Rattle.machine.specs.Map.{Map, records}
 use Rattle.machine.specs.Names.{Bytes}
 use Rattle.machine.specs.State.{Upload, State}
 use Rattle.machine.specs.Steps.{openUnder, uploadRecord}
-use Rattle.machine.proofs.MapKeep.{keep-append, keep-suc, records-append}
-use Rattle.uploads.specs.Records.{recordOf, recordUnder}
+use Rattle.machine.proofs.MapKeep.{keep-suc, records-append}
+use Rattle.uploads.specs.Records.{recordOf}
+use Rattle.uploads.proofs.RecordBytes.{length-record}
 use Rattle.uploads.proofs.UploadRows.{blank}
 
 -- those of the first i uploads that UPLOADS has, and their records
@@ -34,14 +34,13 @@ module _ (s : State) (prefix : Bytes) (i : ℕ) (l : i < length (s .U)) where
   more = cond (begins prefix (x .path)) ((u, x) ∷ []) []
 
   abbrev pub entryBytes : Bytes
-  entryBytes = recordUnder prefix u (x .path) (x .started) (length (x .parts))
+  entryBytes = cond (begins prefix (x .path)) (uploadRecord u x) []
 
-  front-next : front s prefix (i + 1) ≡ front s prefix i ++ more
+  pub front-next : front s prefix (i + 1) ≡ front s prefix i ++ more
   unfolding openUnder
   front-next = ap (λ (n : ℕ). front s prefix n) (add-one i) ∙ keep-suc (λ n y. begins prefix (y .path)) blank i (s .U) l
 
-  pub bytes-next : frontBytes s prefix (i + 1) ≡ frontBytes s prefix i ++ entryBytes
-  unfolding recordUnder recordOf uploadRecord
+  bytes-next : frontBytes s prefix (i + 1) ≡ frontBytes s prefix i ++ entryBytes
   bytes-next =
       ap (records uploadRecord) front-next
       ∙ records-append uploadRecord (front s prefix i) more
@@ -61,13 +60,10 @@ module _ (s : State) (prefix : Bytes) (i : ℕ) (l : i < length (s .U)) where
       go true = refl
       go false = refl
 
--- UPLOADS has no more of the first uploads than of all
-pub front-within : (s : State) (prefix : Bytes) (i : ℕ) → length (frontBytes s prefix i) ≤ length (records uploadRecord (openUnder prefix (s .U)))
-unfolding openUnder
-front-within s prefix i =
-    let f : ℕ → Upload → Bool = λ n y. begins prefix (y .path) in
-    let e : records uploadRecord (openUnder prefix (s .U)) ≡ frontBytes s prefix i ++ records uploadRecord (openUnder prefix (drop i (s .U))) =
-    ap (λ (m : Map ℕ Upload). records uploadRecord (openUnder prefix m)) (sym (take-append-drop i (s .U)))
-    ∙ ap (records uploadRecord) (keep-append f (take i (s .U)) (drop i (s .U)))
-    ∙ records-append uploadRecord (front s prefix i) (openUnder prefix (drop i (s .U))) in
-    omega (arith, ap length e, length-append (frontBytes s prefix i) (records uploadRecord (openUnder prefix (drop i (s .U)))))
+  pub entry-length : length entryBytes ≡ cond (begins prefix (x .path)) (15 + length (x .path)) 0
+  unfolding recordOf uploadRecord
+  entry-length = go (begins prefix (x .path))
+    where
+      go : (b : Bool) → length (cond b (uploadRecord u x) []) ≡ cond b (15 + length (x .path)) 0
+      go true = length-record u (x .path) (x .started) (length (x .parts))
+      go false = refl

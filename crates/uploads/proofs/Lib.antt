@@ -2,5 +2,6 @@ pub mod UploadRows
 pub mod RecordBytes
 pub mod Fronts
 pub mod Measured
+pub mod Noted
 pub mod Written
 pub mod Replies

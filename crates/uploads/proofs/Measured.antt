@@ -14,10 +14,8 @@ use Rattle.machine.specs.Steps.{openUnder, uploadRecord}
 use Rattle.find.specs.declared.RowPlace.{RowPlace}
 use Rattle.uploads.specs.declared.rows.OpenUpload.{OpenUpload}
 use Rattle.uploads.specs.Rows.{uploadRowPlace}
-use Rattle.uploads.specs.Records.{recordUnder}
 use Rattle.uploads.proofs.UploadRows.{blank, Entry}
-use Rattle.uploads.proofs.RecordBytes.{length-under}
-use Rattle.uploads.proofs.Fronts.{front, frontBytes, size-next, count-next}
+use Rattle.uploads.proofs.Fronts.{front, frontBytes, entryBytes, size-next, count-next, entry-length}
 
 -- the first i uploads measured: the next row stands at `here`, and UPLOADS has so many records and bytes of them
 pub record Measured (s : State) (prefix : Bytes) (i : ℕ) (here : RowPlace) (count size : ℕ) : Type 0 where
@@ -43,7 +41,7 @@ measured-next t s prefix i here count size r c k w l e f g few small =
     let q = w .small in
     let z = getD (s .U) i blank in
     let f′ : c ≡ cond (begins prefix (z .1 .path)) 1 0 = rw (e .path) at f in
-    let g′ : k ≡ length (recordUnder prefix (z .0) (z .1 .path) (z .1 .started) (length (z .1 .parts))) = (rw (e .path) at g) ∙ sym (length-under prefix (z .0) (z .1 .path) (z .1 .started) (length (z .1 .parts))) in
+    let g′ : k ≡ length (entryBytes s prefix i l) = (rw (e .path) at g) ∙ sym (entry-length s prefix i l) in
     record {
       within = omega arith;
       rows = e .next;

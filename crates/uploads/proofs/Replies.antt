@@ -2,10 +2,10 @@
 use Prim.Native.Nat.{ℕ, _≤_, _<_}
 use mathlib.Core.Path.{_≡_, sym, ap, ap₂, _∙_}
 use mathlib.Core.Bool.{true}
-use mathlib.Core.List.{List, [], _++_}
+use mathlib.Core.List.{List, []}
 use native.Mathlib.Omega.{arith}
-use lib.ListN.{length, drop}
-use Rattle.number.specs.Number.{AreBytes}
+use lib.ListN.{length}
+use Rattle.number.specs.Number.{AreBytes, fronted}
 use Rattle.types.specs.declared.Counts.{Counts}
 use Rattle.types.specs.declared.ListAnswer.the-variants.{Refused, Written}
 use Rattle.machine.specs.Map.{Map, records}
@@ -37,14 +37,14 @@ module _ (t a : List ℕ) (prefix b : Bytes) where
   refused-short n e h = sym (write-short (counts (length l) (length out)) out b s (omega arith))
 
   -- the records stand at its front
-  pub all-written : (c : Counts) (b′ : Bytes) → (c .records ≡ length l) × (c .bytes ≡ length out) → c .bytes ≤ length b → b′ ≡ out ++ drop (length out) b
+  pub all-written : (c : Counts) (x b′ : Bytes) → (c .records ≡ length l) × (c .bytes ≡ length out) → c .bytes ≤ length b → x ≡ out → b′ ≡ fronted b x
       → listReply (Written c) b′ ≡ replyOf (buffers b []) (outcome (UPLOADS prefix b) (memory t a))
   unfolding outcome act
-  all-written c b′ e h told =
+  all-written c x b′ e h same told =
       let m = e .0 in
       let n = e .1 in
       ap₂ (λ (j k : ℕ). success (counts j k) (buffers b′ [])) m n
-      ∙ ap (λ (y : Bytes). success (counts (length l) (length out)) (buffers y [])) told
+      ∙ ap (λ (y : Bytes). success (counts (length l) (length out)) (buffers y [])) (told ∙ ap (fronted b) same)
       ∙ sym (write-fits (counts (length l) (length out)) out b s (omega arith))
 
   -- the contract

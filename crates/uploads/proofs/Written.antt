@@ -1,63 +1,64 @@
--- The records written one by one. Assumes nothing.
-use Prim.Native.Nat.{ℕ, _+_, _-_, _≤_, _<_}
+-- The records of the notes written one by one. Assumes nothing.
+use Prim.Native.Nat.{ℕ, zero, suc, _+_, _≤_, _<_}
 use mathlib.Core.Path.{_≡_, refl, sym, ap, ap₂, _∙_}
+use mathlib.Core.Logic.{⊎-elim}
 use mathlib.Core.List.{List, _++_}
+use native.Mathlib.Nat.{eq-or-lt-of-le}
+use native.Mathlib.Numerals.{add-one}
 use native.Mathlib.Omega.{arith}
-use lib.ListN.{length, take, drop}
-use lib.Seq.{take-all}
-use Rattle.number.proofs.Fields.{over, front-next}
-use Rattle.machine.specs.Map.{Map, records}
+use lib.ListN.{length, drop, length-append}
+use Rattle.number.specs.Number.{written, fronted}
+use Rattle.number.proofs.Fields.{front-next}
 use Rattle.machine.specs.Names.{Bytes}
-use Rattle.machine.specs.State.{Upload, State}
-use Rattle.machine.specs.Steps.{openUnder, uploadRecord}
-use Rattle.find.specs.declared.RowPlace.{RowPlace}
-use Rattle.uploads.specs.declared.rows.OpenUpload.{OpenUpload}
-use Rattle.uploads.specs.Rows.{uploadRowPlace}
-use Rattle.uploads.specs.Records.{recordUnder}
-use Rattle.uploads.proofs.UploadRows.{Entry}
-use Rattle.uploads.proofs.Fronts.{frontBytes, entryBytes, bytes-next, size-next, front-within}
+use Rattle.row.specs.Row.{headAt, span}
+use Rattle.uploads.specs.Records.{recordAt}
+use Rattle.uploads.specs.Notes.{placeNoted, partsNoted, RowsNoted, recordsNoted}
 
--- the records of the first i uploads stand at the front of b, which was b₀: they take n bytes, and the next row stands at `here`
-pub record Written (s : State) (prefix : Bytes) (b₀ b : List ℕ) (i : ℕ) (here : RowPlace) (n : ℕ) : Type 0 where
-  pub within : i ≤ length (s .U)
-  pub rows : here ≡ uploadRowPlace s i
-  pub sized : n ≡ length (frontBytes s prefix i)
-  pub bytes : b ≡ frontBytes s prefix i ++ drop n b₀
+-- the records of the first i notes stand at the front of b, which was b₀, and the next goes to `to`
+pub record Written (t notes b₀ b : List ℕ) (i to : ℕ) : Type 0 where
+  pub sized : to ≡ length (recordsNoted t notes i)
+  pub bytes : b ≡ recordsNoted t notes i ++ drop to b₀
   pub same : length b ≡ length b₀
 
-pub written-none : (s : State) (prefix : Bytes) (b : List ℕ) (here : RowPlace) → here ≡ uploadRowPlace s 0 → Written s prefix b b 0 here 0
-unfolding openUnder
-written-none s prefix b here e = record { within = omega arith; rows = e; sized = refl; bytes = refl; same = refl }
+pub written-none : (t notes b : List ℕ) → Written t notes b b 0 0
+unfolding recordsNoted
+written-none t notes b = record { sized = refl; bytes = refl; same = refl }
 
-module _ (t : List ℕ) (s : State) (prefix : Bytes) (b₀ b : List ℕ) (i : ℕ) (here : RowPlace) (n : ℕ) (r : OpenUpload) (w : Written s prefix b₀ b i here n) (l : i < length (s .U)) (e : Entry t s i r) where
-  abbrev told : Bytes
-  told = recordUnder prefix (r .number) (take (r .to - r .from) (drop (r .from) t)) (r .started) (r .parts)
+-- fewer notes have no more bytes
+records-fewer : (t notes : List ℕ) (i n : ℕ) → i ≤ n → length (recordsNoted t notes i) ≤ length (recordsNoted t notes n)
+unfolding recordsNoted
+records-fewer t notes i zero l = let e : i ≡ 0 = omega arith in rw e (omega arith)
+records-fewer t notes i (suc n) l =
+    ⊎-elim
+    (λ (e : i ≡ suc n). rw e (omega arith))
+    (λ (less : i < suc n). omega (arith, records-fewer t notes i n (omega arith), length-append (recordsNoted t notes n) (recordAt t (placeNoted notes n) (partsNoted notes n))))
+    (eq-or-lt-of-le l)
 
-  told-is : told ≡ entryBytes s prefix i l
-  told-is = rw (e .path, e .number, e .started, e .parts)
+-- the next note is read
+module _ (t notes b₀ b : List ℕ) (i to : ℕ) (w : Written t notes b₀ b i to) (at parts : ℕ) (e : at ≡ placeNoted notes i) (f : parts ≡ partsNoted notes i) where
+  abbrev more : Bytes
+  more = recordAt t at parts
 
-  pub written-fits : length (records uploadRecord (openUnder prefix (s .U))) ≤ length b₀ → n + length told ≤ length b
-  written-fits room = let y = w .sized in let z = w .same in omega (arith, ap length told-is, size-next s prefix i l, front-within s prefix (i + 1))
+  records-next : recordsNoted t notes (i + 1) ≡ recordsNoted t notes i ++ more
+  unfolding recordsNoted
+  records-next = ap (recordsNoted t notes) (add-one i) ∙ rw (e, f)
 
-  pub written-next : (n′ : ℕ) (b′ : List ℕ) → n′ ≡ n + length told → b′ ≡ take n b ++ told ++ drop n′ b → length b′ ≡ length b → Written s prefix b₀ b′ (i + 1) (r .next) n′
-  written-next n′ b′ f g same =
-      let y = w .sized in
-      let z = w .same in
-      let q : b′ ≡ over b n told (length told) = g ∙ ap (λ (k : ℕ). take n b ++ told ++ drop k b) f in
+  size-next : length (recordsNoted t notes (i + 1)) ≡ to + length more
+  size-next = let p = w .sized in omega (arith, ap length records-next, length-append (recordsNoted t notes i) more)
+
+  pub row-stands : (n : ℕ) → i < n → RowsNoted t notes n → at + span (headAt (drop at t)) ≤ length t
+  row-stands n l rows = rw e (rows i l)
+
+  pub written-fits : (n : ℕ) → i < n → length (recordsNoted t notes n) ≤ length b₀ → to + length more ≤ length b
+  written-fits n l room = let p = w .same in omega (arith, size-next, records-fewer t notes (i + 1) n (omega arith))
+
+  pub written-next : (r : ℕ) (b₁ : List ℕ) → (r ≡ to + length more) × (b₁ ≡ written b to more) → length b₁ ≡ length b → Written t notes b₀ b₁ (i + 1) r
+  written-next r b₁ told same =
       record {
-        within = omega arith;
-        rows = e .next;
-        sized = omega (arith, ap length told-is, size-next s prefix i l);
-        bytes =
-            front-next b₀ b b′ (frontBytes s prefix i) told n (length told) (w .bytes) (sym y) q
-            ∙ ap₂ (λ (c : Bytes) (k : ℕ). c ++ drop k b₀) (ap (λ (c : Bytes). frontBytes s prefix i ++ c) told-is ∙ sym (bytes-next s prefix i l)) (sym f);
-        same = omega arith;
+        sized = told .0 ∙ sym size-next;
+        bytes = front-next b₀ b b₁ (recordsNoted t notes i) more to (length more) (w .bytes) (sym (w .sized)) (told .1) ∙ ap₂ (λ (x : List ℕ) (k : ℕ). x ++ drop k b₀) (sym records-next) (sym (told .0));
+        same = same ∙ w .same;
       }
 
-pub written-all : (s : State) (prefix : Bytes) (b₀ b : List ℕ) (i : ℕ) (here : RowPlace) (n : ℕ) → Written s prefix b₀ b i here n → length (s .U) ≤ i
-    → b ≡ records uploadRecord (openUnder prefix (s .U)) ++ drop (length (records uploadRecord (openUnder prefix (s .U)))) b₀
-written-all s prefix b₀ b i here n w l =
-    let e : take i (s .U) ≡ s .U = take-all i (s .U) l in
-    w .bytes
-    ∙ ap (λ (k : ℕ). frontBytes s prefix i ++ drop k b₀) (w .sized)
-    ∙ ap (λ (m : Map ℕ Upload). records uploadRecord (openUnder prefix m) ++ drop (length (records uploadRecord (openUnder prefix m))) b₀) e
+pub written-all : (t notes b₀ b : List ℕ) (i n to : ℕ) → Written t notes b₀ b i to → i ≡ n → b ≡ fronted b₀ (recordsNoted t notes n)
+written-all t notes b₀ b i n to w e = w .bytes ∙ ap₂ (λ (j k : ℕ). recordsNoted t notes j ++ drop k b₀) e (w .sized ∙ ap (λ (j : ℕ). length (recordsNoted t notes j)) e)

@@ -30,9 +30,7 @@ WholeUpload t a here =
 
 -- what is read of the upload x whose row stands there
 pub record RowRead (t : List ℕ) (s : State) (here : RowPlace) (x : Upload) (r : OpenUpload) : Type 0 where
-  pub number : r .number ≡ numberAt t here
   pub from : r .from ≡ here .at + headLength
   pub to : r .to ≡ here .at + headLength + headAt (drop (here .at) t) .pathlen
-  pub started : r .started ≡ headAt (drop (here .at) t) .stamp
   pub parts : r .parts ≡ length (x .parts)
   pub next : r .next ≡ passedParts s (numberAt t here) x .next

@@ -14,7 +14,8 @@ ghost use Rattle.find.specs.Known.{WholeFrom};
 ghost use Rattle.contract.specs.Answers.{listReply};
 ghost use Rattle.contract.specs.Made.{memory, outcome, Made};
 
-// UPLOADS over whole memory whose uploads begin at `uploads`.
+// UPLOADS over whole memory whose uploads begin at `uploads`. The rows are passed once: what the records need of them is noted, four
+// bytes for each of at most 16.
 fn uploads_whole(
     tables: &[u8],
     arena: &[u8],
@@ -28,11 +29,12 @@ fn uploads_whole(
         (memory (now (tables .entry)) (now (arena .entry)))) ⌝ }
 {
     let first = find_uploads::first_upload(tables, arena, uploads);
-    let counts = measuring::measure(tables, arena, first, prefix);
+    let mut notes = [0u8; 64];
+    let counts = measuring::measure(tables, arena, first, prefix, &mut notes);
     if answer.len() < counts.bytes as usize {
         return ListAnswer::Refused(types::BUFFER_SHORT);
     }
-    writing::write(tables, arena, first, prefix, answer);
+    writing::write(tables, &notes, counts.records, answer);
     ListAnswer::Written(counts)
 }
 

@@ -5,10 +5,8 @@ ghost use Rattle.uploads.specs.Rows.{numberAt, WholeUpload, RowRead};
 
 // An open upload: its path stands in the tables from `from` to `to`, and `next` is the row after its parts.
 pub struct OpenUpload {
-    pub number: u32,
     pub from: usize,
     pub to: usize,
-    pub started: u64,
     pub parts: u16,
     pub next: RowPlace,
 }
@@ -24,10 +22,8 @@ pub(crate) fn read_upload(tables: &[u8], arena: &[u8], here: RowPlace) -> OpenUp
     let next = parts.next;
     let from = here.at + row::HEAD_LENGTH;
     OpenUpload {
-        number: h.number,
         from,
         to: from + h.pathlen as usize,
-        started: h.stamp,
         parts: parts.count as u16,
         next,
     }

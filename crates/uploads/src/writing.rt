@@ -1,14 +1,11 @@
 // UPLOADS' records, written to the front of the answer buffer.
-use find::RowPlace;
 ghost use mathlib.Core.Path.{_≡_};
-ghost use mathlib.Core.Bool.{true};
-ghost use mathlib.Core.List.{_++_};
-ghost use Prim.Native.Nat.{_+_, _≤_};
-ghost use lib.ListN.{length, take, drop};
-ghost use Rattle.number.specs.Number.{le, over, fronted};
-ghost use Rattle.layout.specs.Memory.{whole, stateOf};
-ghost use Rattle.find.specs.Places.{firstUploadRow};
-ghost use Rattle.uploads.specs.Records.{recordOf, recordUnder, recordsUnder};
+ghost use Prim.Native.Nat.{_+_, _*_, _≤_, _<_};
+ghost use lib.ListN.{length, drop};
+ghost use Rattle.number.specs.Number.{le, over, written, fronted};
+ghost use Rattle.row.specs.Row.{headAt, span};
+ghost use Rattle.uploads.specs.Records.{recordOf, recordAt};
+ghost use Rattle.uploads.specs.Notes.{RowsNoted, recordsNoted};
 
 // A byte over the one at `at`.
 fn put_byte(answer: &mut [u8], at: usize, v: u8)
@@ -20,7 +17,7 @@ fn put_byte(answer: &mut [u8], at: usize, v: u8)
 
 // A record over the bytes from `at` on; the rest of the answer buffer is as it was.
 fn write_record(answer: &mut [u8], at: usize, number: u32, path: &[u8], started: u64, parts: u16)
-    requires { ⌜ (length (now path) ≤ 128) × (at + (15 + length (now path)) ≤ length (now answer)) ⌝ }
+    requires { ⌜ (length (now path) < 256) × (at + (15 + length (now path)) ≤ length (now answer)) ⌝ }
     ensures { λ _. ⌜ now (answer .exit)
         ≡ over (now (answer .entry)) at (recordOf number (now (path .entry)) started parts)
         (15 + length (now (path .entry))) ⌝ }
@@ -33,56 +30,34 @@ fn write_record(answer: &mut [u8], at: usize, number: u32, path: &[u8], started:
     number::put_u16(answer, at + 13 + n, parts);
 }
 
-// The record of an upload whose path begins with the prefix, as `write_record` writes it; answers where the next record
-// goes.
-fn write_one(
-    answer: &mut [u8],
-    at: usize,
-    prefix: &[u8],
-    number: u32,
-    path: &[u8],
-    started: u64,
-    parts: u16,
-) -> usize
-    requires { ⌜ (length (now path) ≤ 128)
-        × (at + length (recordUnder (now prefix) number (now path) started parts) ≤ length (now answer)) ⌝ }
-    ensures { λ r. ⌜ (let x = recordUnder (now (prefix .entry)) number (now (path .entry)) started parts in
-        (r ≡ at + length x)
-        × (now (answer .exit) ≡ take at (now (answer .entry)) ++ x ++ drop r (now (answer .entry)))) ⌝ }
+// The record of the upload in the row at `at`, which has so many parts; the answer is where it ends.
+fn write_row(tables: &[u8], at: usize, parts: u16, answer: &mut [u8], to: usize) -> usize
+    requires { ⌜ (at + span (headAt (drop at (now tables))) ≤ length (now tables))
+        × (to + length (recordAt (now tables) at parts) ≤ length (now answer)) ⌝ }
+    ensures { λ r. ⌜ (r ≡ to + length (recordAt (now (tables .entry)) at parts))
+        × (now (answer .exit) ≡ written (now (answer .entry)) to (recordAt (now (tables .entry)) at parts)) ⌝ }
 {
-    if !order::begins_with(path, prefix) {
-        return at;
-    }
-    write_record(answer, at, number, path, started, parts);
-    at + 15 + path.len()
+    let h = row::read_head(tables, at);
+    let from = at + row::HEAD_LENGTH;
+    let end = from + h.pathlen as usize;
+    write_record(answer, to, h.number, &tables[from..end], h.stamp, parts);
+    to + 15 + h.pathlen as usize
 }
 
-// The records, to the front of the answer buffer, `first` being the first upload's row, or where it would stand.
-pub(crate) fn write(tables: &[u8], arena: &[u8], first: RowPlace, prefix: &[u8], answer: &mut [u8])
-    requires { ⌜ (whole (now tables) (now arena) ≡ true) × (first ≡ firstUploadRow (stateOf (now tables) (now arena)))
-        × (length (recordsUnder (now prefix) (stateOf (now tables) (now arena))) ≤ length (now answer)) ⌝ }
+// The records of the first notes, to the front of the answer buffer.
+pub(crate) fn write(tables: &[u8], notes: &[u8], records: u32, answer: &mut [u8])
+    requires { ⌜ (4 * records ≤ length (now notes))
+        × RowsNoted (now tables) (now notes) records
+        × (length (recordsNoted (now tables) (now notes) records) ≤ length (now answer)) ⌝ }
     ensures { λ _. ⌜ now (answer .exit) ≡ fronted (now (answer .entry))
-        (recordsUnder (now (prefix .entry)) (stateOf (now (tables .entry)) (now (arena .entry)))) ⌝ }
+        (recordsNoted (now (tables .entry)) (now (notes .entry)) records) ⌝ }
 {
-    let counts = find::read_counts(tables, arena);
-    let uploads = counts.uploads;
-    let mut here = first;
-    let mut n: usize = 0;
-    let mut i: usize = 0;
-    while i < uploads {
-        let u = crate::rows::read_upload(tables, arena, here);
-        let from = u.from;
-        let to = u.to;
-        n = write_one(
-            answer,
-            n,
-            prefix,
-            u.number,
-            &tables[from..to],
-            u.started,
-            u.parts,
-        );
-        here = u.next;
+    let mut to: usize = 0;
+    let mut i: u32 = 0;
+    while i < records {
+        let at = number::get_u16(notes, 4 * i as usize) as usize;
+        let parts = number::get_u16(notes, 4 * i as usize + 2);
+        to = write_row(tables, at, parts, answer, to);
         i += 1;
     }
 }

@@ -7,7 +7,7 @@ use mathlib.Core.Option.{Option, none, some}
 use native.Mathlib.Omega.{arith}
 use borrow.Author.Tests.{eq-eqb, eqb-true, not-true}
 use lib.Dec.{eqb}
-use lib.ListN.{length, drop}
+use lib.ListN.{length}
 use Rattle.number.specs.Number.{AreBytes}
 use Rattle.order.proofs.OrderLaws.{numbers}
 use Rattle.machine.specs.Map.{isSome, Map, byNumber, lookup, Ascending, Every}
@@ -29,7 +29,7 @@ use Rattle.contract.specs.Answers.{partList}
 use Rattle.join_order.proofs.Listed.{fit-count}
 use Rattle.join.proofs.UploadBounds.{few-parts}
 use Rattle.join.proofs.Taking.{fit-even}
-use Rattle.commits.specs.Numbers.{numberAt, firstNumbers, numberFits, inOrder}
+use Rattle.commits.specs.Numbers.{numberAt, firstNumbers, numberFits, afterListed}
 use Rattle.commits.proofs.Listing.{next-number, number-inside, no-number, all-numbers}
 use Rattle.commits.proofs.Ordered.{ordered-fits}
 
@@ -134,7 +134,7 @@ pub count-is : (s : State) (u : ℕ) (x : Upload) (parts : PassedParts) → part
 unfolding passedParts
 count-is s u x parts e = ap (λ (k : PassedParts). k .count) e
 
--- what `list_fits` finds in whole memory
+-- what `judge_list` finds in whole memory
 module _ (t a : List ℕ) (b : AreBytes t) (w : whole t a ≡ true) (u count : ℕ) where
   abbrev s : State
   s = stateOf t a
@@ -148,8 +148,10 @@ module _ (t a : List ℕ) (b : AreBytes t) (w : whole t a ≡ true) (u count : �
         let k = upload-ok (length a) s (h .valid) u x f in
         unfit-length (x .parts) list (k .sorted) (k .each) (λ e. other (e ∙ ap (λ (n : ℕ). 2 * n) (sym counted)))
 
-    pub ordered-list : (first : RowPlace) → first ≡ partsRowOf s u → (list : Bytes) → length list ≡ 2 * count → inOrder (partList list) (drop (first .row) (rowsOf s)) ≡ true → true ≡ fits (partList list) (x .parts)
-    ordered-list first e list l = ordered-fits s u x f first e list (upload-ok (length a) s (h .valid) u x f .sorted) (l ∙ ap (λ (n : ℕ). 2 * n) counted)
+    pub ordered-list : (first : RowPlace) → first ≡ partsRowOf s u → (list : Bytes) (reached : RowPlace) → reached ≡ afterListed list (rowsOf s) (first .row)
+        → (parts : PassedParts) → parts ≡ passedParts s u x → reached .row ≡ parts .next .row → length list ≡ 2 * count → true ≡ fits (partList list) (x .parts)
+    ordered-list first e list reached is parts are far l =
+        ordered-fits s u x f first e list reached is parts are far (upload-ok (length a) s (h .valid) u x f .sorted) (l ∙ ap (λ (n : ℕ). 2 * n) counted)
 
     pub fit-list : (list : Bytes) → length list ≡ 2 * count → Passed (x .parts) list count → true ≡ fits (partList list) (x .parts)
     fit-list list e p = passed-all (x .parts) list (e ∙ ap (λ (n : ℕ). 2 * n) counted) (subst (Passed (x .parts) list) counted p)

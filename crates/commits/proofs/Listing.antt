@@ -7,7 +7,7 @@ use native.Mathlib.Nat.{not-suc-le-zero}
 use native.Mathlib.Omega.{arith}
 use borrow.Author.Tests.{eq-eqb, ne-eqb}
 use lib.Dec.{eqb}
-use lib.ListN.{length, take, drop, drop-of-length-le}
+use lib.ListN.{length, take, drop}
 use Rattle.number.specs.Number.{fromLe}
 use Rattle.machine.specs.Fits.{member}
 use Rattle.machine.proofs.Fit.{member-snoc}
@@ -40,11 +40,11 @@ pair-inside zero (x ∷ (y ∷ bs)) h = ap (λ (n : ℕ). n ∷ partList bs) (om
 pair-inside (suc i) (x ∷ (y ∷ bs)) h = ap (λ (l : List ℕ). (x + 256 * y) ∷ l) (pair-inside i bs (omega arith))
 
 rest-pair : (i : ℕ) (bs : List ℕ) → pairs (suc i) ≤ length bs
-    → partList (drop (pairs i) bs) ≡ fromLe (take 2 (drop (pairs i) bs)) ∷ partList (drop (pairs (suc i)) bs)
-unfolding partList fromLe
+    → (x : ℕ) × (y : ℕ) × (drop (pairs i) bs ≡ x ∷ (y ∷ drop (pairs (suc i)) bs)) × (fromLe (take 2 (drop (pairs i) bs)) ≡ x + 256 * y)
+unfolding fromLe
 rest-pair i [] h = absurd (not-suc-le-zero h)
 rest-pair i (x ∷ []) h = absurd (omega arith)
-rest-pair zero (x ∷ (y ∷ bs)) h = ap (λ (n : ℕ). n ∷ partList bs) (omega arith)
+rest-pair zero (x ∷ (y ∷ bs)) h = (x, y, refl, omega arith)
 rest-pair (suc i) (x ∷ (y ∷ bs)) h = rest-pair i bs (omega arith)
 
 all-pairs : (i : ℕ) (bs : List ℕ) → length bs ≡ pairs i → (take (pairs i) bs ≡ bs) × (length (partList bs) ≡ i)
@@ -73,16 +73,17 @@ module _ (bs : List ℕ) (i : ℕ) (inside : 2 * i + 2 ≤ length bs) where
       let rest = partList (drop (pairs (suc i)) bs) in
       (rest, pair-inside i bs (omega (arith, here)) ∙ ap (λ (n : ℕ). partList (take n bs) ++ (fromLe (take 2 (drop n bs)) ∷ rest)) here)
 
-  -- that at i, and those after it
-  pub rest-numbers : partList (drop (2 * i) bs) ≡ numberAt bs i ∷ partList (drop (2 * (i + 1)) bs)
-  rest-numbers =
+  -- the bytes of that at i, and those after it
+  pub rest-bytes : (x : ℕ) × (y : ℕ) × (drop (2 * i) bs ≡ x ∷ (y ∷ drop (2 * (i + 1)) bs)) × (numberAt bs i ≡ x + 256 * y)
+  rest-bytes =
       let here = pairs-twice i in
       let more : pairs (suc i) ≡ 2 * (i + 1) = omega (arith, here) in
-      let step = rest-pair i bs (omega (arith, here)) in
-      sym (ap (λ (n : ℕ). partList (drop n bs)) here)
-      ∙ step
-      ∙ ap (λ (n : ℕ). fromLe (take 2 (drop n bs)) ∷ partList (drop (pairs (suc i)) bs)) here
-      ∙ ap (λ (n : ℕ). numberAt bs i ∷ partList (drop n bs)) more
+      let k = rest-pair i bs (omega (arith, here)) in (
+        k .0,
+        k .1,
+        sym (ap (λ (n : ℕ). drop n bs) here) ∙ k .2 ∙ ap (λ (n : ℕ). k .0 ∷ (k .1 ∷ drop n bs)) more,
+        ap (λ (n : ℕ). fromLe (take 2 (drop n bs))) (sym here) ∙ k .3,
+      )
 
   -- the search for a number, one number on
   member-next : (n : ℕ) → member n (firstNumbers bs (i + 1)) ≡ (member n (firstNumbers bs i) || eqb n (numberAt bs i))
@@ -97,10 +98,6 @@ module _ (bs : List ℕ) (i : ℕ) (inside : 2 * i + 2 ≤ length bs) where
 pub no-number : (bs : List ℕ) → firstNumbers bs 0 ≡ []
 unfolding partList
 no-number bs = refl
-
-pub no-number-left : (bs : List ℕ) (i : ℕ) → length bs ≤ 2 * i → partList (drop (2 * i) bs) ≡ []
-unfolding partList
-no-number-left bs i l = rw (drop-of-length-le bs l)
 
 -- no odd byte: the numbers are all read
 pub all-numbers : (bs : List ℕ) (i : ℕ) → length bs ≡ 2 * i → (firstNumbers bs i ≡ partList bs) × (length (partList bs) ≡ i)

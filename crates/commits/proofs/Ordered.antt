@@ -1,108 +1,183 @@
 -- A part list in ascending order, walked beside the rows: it fits. Assumes nothing.
-use Prim.Native.Nat.{ℕ, _+_, _*_, _≤_}
+use Prim.Native.Nat.{ℕ, zero, suc, _+_, _*_, _≤_}
 use mathlib.Core.Path.{_≡_, refl, sym, ap, _∙_, subst}
-use mathlib.Core.Bool.{true, false}
+use mathlib.Core.Bool.{Bool, true, false, cond}
 use mathlib.Core.List.{List, [], _∷_, _++_}
 use mathlib.Core.Option.{some}
 use native.Mathlib.Omega.{arith}
-use borrow.Author.Tests.{eq-eqb, ne-eqb, eqb-true}
-use lib.ListN.{length, take, drop, length-append}
+use borrow.Author.Tests.{eqb-true}
+use lib.ListN.{length, drop, drop-of-length-le, length-append, length-drop}
 use lib.Seq.{drop-at}
 use Rattle.order.proofs.OrderLaws.{compare-self}
 use Rattle.machine.specs.Map.{Map, byNumber, lookup, Ascending}
 use Rattle.machine.specs.Names.{Bytes}
-use Rattle.machine.specs.State.{Part, Upload, State}
+use Rattle.machine.specs.Etags.{Etag, absent, plain, joined}
+use Rattle.machine.specs.State.{Object, Part, Upload, State}
 use Rattle.machine.specs.Steps.{fit}
 use Rattle.machine.specs.Fits.{fits}
 use Rattle.machine.proofs.Options.{both}
 use Rattle.machine.proofs.Fit.{fit-fits}
 use Rattle.row.specs.declared.Head.{Head}
-use Rattle.row.specs.Row.{Row, contentsOf, span}
-use Rattle.layout.specs.Memory.{uploadRow, partRows, rowsOf}
+use Rattle.row.specs.Row.{Row, headOf, headLength, span}
+use Rattle.layout.specs.Rules.{partKind}
+use Rattle.layout.specs.Memory.{rowKind, partRow, uploadRow, objectRows, partRows, uploadRows, rowsOf}
 use Rattle.layout.proofs.UploadLaws.{length-part-rows}
 use Rattle.find.specs.declared.RowPlace.{RowPlace}
-use Rattle.find.specs.Places.{beforeUpload, beforeParts, afterUpload, partsRowOf}
+use Rattle.find.specs.declared.PassedParts.{PassedParts}
+use Rattle.find.specs.RowPlaces.{rowPlaceAt, IsRowPlace}
+use Rattle.find.specs.Places.{beforeUpload, beforeParts, throughParts, afterUpload, partsRowOf, passedParts}
 use Rattle.find.proofs.Splits.{parts-place}
-use Rattle.find_uploads.proofs.Answers.{place-row}
-use Rattle.find_uploads.proofs.Walk.{Reached, Turn}
+use Rattle.find_uploads.proofs.Answers.{place-row, is-row-place}
+use Rattle.find_uploads.proofs.Walk.{rowPlace, Reached, Turn, reached-place}
 use Rattle.contract.specs.Answers.{partList}
-use Rattle.commits.specs.Numbers.{numberAt, inOrder}
-use Rattle.commits.proofs.Listing.{rest-numbers, no-number-left, all-numbers}
+use Rattle.commits.specs.Numbers.{numberAt, isPart, listedFirst, afterListed}
+use Rattle.commits.proofs.Listing.{rest-bytes}
 
--- The walk: row i and the rows after it ----------------------------------------------------------------------------------
+-- A part's row has no path and no pairs ----------------------------------------------------------------------------------
 
-module _ (list : Bytes) (i : ℕ) (rs : List Row) where
-  none-left : length list ≤ 2 * i → inOrder (partList (drop (2 * i) list)) rs ≡ true
-  unfolding inOrder
-  none-left l = rw (no-number-left list i l)
+-- the rows of parts among these are as long as their heads
+PartsBare : List Row → Type 0
+PartsBare [] = Unit {0}
+PartsBare (r ∷ rs) = (r .kind ≡ partKind → span (headOf r) ≡ headLength) × PartsBare rs
 
-  module _ (inside : 2 * i + 2 ≤ length list) (r : Row) (rest : List Row) (here : rs ≡ r ∷ rest) where
-    same-number : numberAt list i ≡ r .number → inOrder (partList (drop (2 * i) list)) rs ≡ inOrder (partList (drop (2 * (i + 1)) list)) rest
-    unfolding inOrder
-    same-number e = rw (rest-numbers list i inside, here, eq-eqb _ _ e)
+no-part : (e : Etag) → rowKind e ≡ partKind → ⊥
+no-part absent h = omega arith
+no-part (plain digest) h = omega arith
+no-part (joined digest count) h = omega arith
 
-    other-number : (numberAt list i ≡ r .number → ⊥) → inOrder (partList (drop (2 * i) list)) rs ≡ false
-    unfolding inOrder
-    other-number d = rw (rest-numbers list i inside, here, ne-eqb _ _ d)
+bare-parts : (m : Map ℕ Part) (rs : List Row) → PartsBare rs → PartsBare (partRows m ++ rs)
+unfolding partRows PartsBare
+bare-parts [] rs k = k
+bare-parts (e ∷ m) rs k = (λ h. omega arith, bare-parts m rs k)
 
--- row i begins at `at`, wherever its data begin
-abbrev pub RowBegins : State → (i at : ℕ) → Type 0
-RowBegins s i at = Reached s i at (length (contentsOf (take i (rowsOf s))))
+bare-uploads : (m : Map ℕ Upload) → PartsBare (uploadRows m)
+unfolding uploadRows PartsBare
+bare-uploads [] = tt
+bare-uploads (e ∷ m) = (λ h. absurd (omega arith), bare-parts (e .1 .parts) (uploadRows m) (bare-uploads m))
 
-pub begins : (s : State) (i at base : ℕ) → Reached s i at base → RowBegins s i at
-begins s i at base k = record { within = k .within; rows = k .rows; contents = refl }
+bare-objects : (m : Map Bytes Object) (rs : List Row) → PartsBare rs → PartsBare (objectRows m ++ rs)
+unfolding objectRows PartsBare
+bare-objects [] rs k = k
+bare-objects (e ∷ m) rs k = (λ h. absurd (no-part (e .1 .etag) h), bare-objects m rs k)
 
--- the first i numbers of the list are those of the rows from `row` on, and row i after it begins at `at`
-pub record Walked (s : State) (row : ℕ) (list : Bytes) (i at : ℕ) : Type 0 where
-  pub here : RowBegins s (row + i) at
-  pub left : inOrder (partList list) (drop row (rowsOf s)) ≡ inOrder (partList (drop (2 * i) list)) (drop (row + i) (rowsOf s))
+bare-at : (i : ℕ) (rs : List Row) (r : Row) (rest : List Row) → PartsBare rs → drop i rs ≡ r ∷ rest → r .kind ≡ partKind → span (headOf r) ≡ headLength
+unfolding PartsBare
+bare-at i [] r rest k e = absurd (omega (arith, ap length e, length-drop {A = Row} i []))
+bare-at zero (q ∷ rs) r rest k e = let z : q ≡ r = cc in subst (λ (p : Row). p .kind ≡ partKind → span (headOf p) ≡ headLength) z (k .0)
+bare-at (suc i) (q ∷ rs) r rest k e = bare-at i rs r rest (k .1) e
 
-module _ (s : State) (row : ℕ) (list : Bytes) where
-  pub walked-none : (at : ℕ) → RowBegins s row at → Walked s row list 0 at
-  walked-none at k =
-      let e : row ≡ row + 0 = omega arith in
-      record { here = subst (λ (i : ℕ). RowBegins s i at) e k; left = ap (λ (i : ℕ). inOrder (partList list) (drop i (rowsOf s))) e }
+part-span : (s : State) (i : ℕ) (r : Row) → drop i (rowsOf s) ≡ r ∷ drop (i + 1) (rowsOf s) → r .kind ≡ partKind → span (headOf r) ≡ headLength
+unfolding rowsOf
+part-span s i r = bare-at i (rowsOf s) r (drop (i + 1) (rowsOf s)) (bare-objects (s .O) (uploadRows (s .U)) (bare-uploads (s .U)))
 
-  module _ (i at : ℕ) (k : Walked s row list i at) where
-    pub walked-all : length list ≤ 2 * i → true ≡ inOrder (partList list) (drop row (rowsOf s))
-    walked-all l = sym (k .left ∙ none-left list i (drop (row + i) (rowsOf s)) l)
+-- The walk: the list's number i, and the rows from some row on -----------------------------------------------------------
 
-    module _ (inside : 2 * i + 2 ≤ length list) (t a : List ℕ) (head : Head) (turn : Turn t a s (row + i) at (length (contentsOf (take (row + i) (rowsOf s)))) head) where
-      number-is : head .number ≡ turn .row .number
-      number-is = ap (λ (h : Head). h .number) (turn .same)
+no-row : (list : Bytes) → listedFirst list [] ≡ 0
+unfolding listedFirst
+no-row [] = refl
+no-row (x ∷ []) = refl
+no-row (x ∷ (y ∷ list)) = refl
 
-      pub walked-off : (numberAt list i ≡ head .number → ⊥) → false ≡ inOrder (partList list) (drop row (rowsOf s))
-      walked-off d = sym (k .left ∙ other-number list i (drop (row + i) (rowsOf s)) inside (turn .row) _ (turn .here) (λ e. d (e ∙ sym number-is)))
+no-listed : (list : Bytes) (rs : List Row) → length list ≤ 1 → listedFirst list rs ≡ 0
+unfolding listedFirst
+no-listed [] rs l = refl
+no-listed (x ∷ []) rs l = refl
+no-listed (x ∷ (y ∷ list)) rs l = absurd (omega arith)
 
-      pub walked-next : numberAt list i ≡ head .number → Walked s row list (i + 1) (at + span head)
-      walked-next e =
-          let n : row + i + 1 ≡ row + (i + 1) = omega arith in
+module _ (list : Bytes) (i : ℕ) (inside : 2 * i + 2 ≤ length list) (rs : List Row) (r : Row) (rest : List Row) (here : rs ≡ r ∷ rest) where
+  listed-row : (b : Bool) → isPart (numberAt list i) (headOf r) ≡ b → listedFirst (drop (2 * i) list) rs ≡ cond b (suc (listedFirst (drop (2 * (i + 1)) list) rest)) 0
+  unfolding listedFirst
+  listed-row b h =
+      let k = rest-bytes list i inside in
+      let q : isPart (k .0 + 256 * k .1) (headOf r) ≡ b = ap (λ (n : ℕ). isPart n (headOf r)) (sym (k .3)) ∙ h in
+      ap (λ (l : Bytes). listedFirst l rs) (k .2) ∙ rw (here, q)
+
+-- the list's first i numbers are those of parts whose rows stand from row `first` on, and the row after them is at `at`
+pub record Walked (s : State) (first : ℕ) (list : Bytes) (i row at base : ℕ) : Type 0 where
+  pub here : Reached s row at base
+  pub counted : row ≡ first + i
+  pub left : listedFirst list (drop first (rowsOf s)) ≡ i + listedFirst (drop (2 * i) list) (drop row (rowsOf s))
+
+module _ (s : State) (first : ℕ) (list : Bytes) where
+  pub walked-none : (at base : ℕ) → Reached s first at base → Walked s first list 0 first at base
+  walked-none at base k = record { here = k; counted = omega arith; left = omega arith }
+
+  module _ (i row at base : ℕ) (k : Walked s first list i row at base) where
+    stopped : listedFirst (drop (2 * i) list) (drop row (rowsOf s)) ≡ 0 → rowPlace row at base ≡ afterListed list (rowsOf s) first
+    stopped z =
+        let n : row ≡ first + listedFirst list (drop first (rowsOf s)) = omega (arith, k .counted, k .left) in
+        reached-place s row at base (k .here) ∙ ap (rowPlaceAt (rowsOf s)) n
+
+    pub walked-list : length list ≤ 2 * i + 1 → rowPlace row at base ≡ afterListed list (rowsOf s) first
+    walked-list l = stopped (no-listed (drop (2 * i) list) (drop row (rowsOf s)) (omega (arith, length-drop (2 * i) list)))
+
+    pub walked-rows : length (rowsOf s) ≤ row → rowPlace row at base ≡ afterListed list (rowsOf s) first
+    walked-rows l = stopped (ap (listedFirst (drop (2 * i) list)) (drop-of-length-le (rowsOf s) l) ∙ no-row (drop (2 * i) list))
+
+    module _ (inside : 2 * i + 2 ≤ length list) (t a : List ℕ) (head : Head) (turn : Turn t a s row at base head) where
+      step : (b : Bool) → isPart (numberAt list i) head ≡ b → listedFirst (drop (2 * i) list) (drop row (rowsOf s)) ≡ cond b (suc (listedFirst (drop (2 * (i + 1)) list) (drop (row + 1) (rowsOf s)))) 0
+      step b h = listed-row list i inside (drop row (rowsOf s)) (turn .row) _ (turn .here) b (ap (isPart (numberAt list i)) (sym (turn .same)) ∙ h)
+
+      pub walked-off : isPart (numberAt list i) head ≡ false → rowPlace row at base ≡ afterListed list (rowsOf s) first
+      walked-off h = stopped (step false h)
+
+      -- the row's length
+      head-alone : isPart (numberAt list i) head ≡ true → span head ≡ headLength
+      head-alone h =
+          let kind = eqb-true _ _ (both _ _ h .0) in
+          ap span (turn .same) ∙ part-span s row (turn .row) (turn .here) (ap (λ (g : Head). g .kind) (sym (turn .same)) ∙ kind)
+
+      pub walked-next : isPart (numberAt list i) head ≡ true → Walked s first list (i + 1) (row + 1) (at + headLength) (base + head .size)
+      walked-next h =
           record {
-            here = subst (λ (j : ℕ). RowBegins s j (at + span head)) n (begins s _ _ _ (turn .next));
-            left =
-                k .left
-                ∙ same-number list i (drop (row + i) (rowsOf s)) inside (turn .row) _ (turn .here) (e ∙ number-is)
-                ∙ ap (λ (j : ℕ). inOrder (partList (drop (2 * (i + 1)) list)) (drop j (rowsOf s))) n;
+            here = subst (λ (n : ℕ). Reached s (row + 1) (at + n) (base + head .size)) (head-alone h) (turn .next);
+            counted = omega (arith, k .counted);
+            left = omega (arith, k .left, step true h);
           }
 
 -- A list of the parts' numbers in order ----------------------------------------------------------------------------------
+
+-- no more rows than the upload has parts: at the next upload's the walk stops
+no-upload : (list : Bytes) (m : Map ℕ Upload) → listedFirst list (uploadRows m) ≡ 0
+unfolding uploadRows listedFirst
+no-upload list [] = no-row list
+no-upload [] (e ∷ m) = refl
+no-upload (x ∷ []) (e ∷ m) = refl
+no-upload (x ∷ (y ∷ list)) (e ∷ m) = refl
+
+listed-few : (list : Bytes) (m : Map ℕ Part) (more : Map ℕ Upload) → listedFirst list (partRows m ++ uploadRows more) ≤ length m
+unfolding partRows listedFirst
+listed-few list [] more = omega (arith, no-upload list more)
+listed-few [] (e ∷ m) more = omega arith
+listed-few (x ∷ []) (e ∷ m) more = omega arith
+listed-few (x ∷ (y ∷ list)) (e ∷ m) more = go (isPart (x + 256 * y) (headOf (partRow (e .0) (e .1)))) (listed-few list m more)
+  where
+    go : (b : Bool) → listedFirst list (partRows m ++ uploadRows more) ≤ length m → cond b (suc (listedFirst list (partRows m ++ uploadRows more))) 0 ≤ suc (length m)
+    go true h = omega arith
+    go false h = omega arith
 
 -- `fit` takes the first part each time
 first-fit : (n : ℕ) (ns : List ℕ) (e : ℕ × Part) (m : Map ℕ Part) (xs : List Part) → n ≡ e .0 → fit ns m ≡ some xs → fit (n ∷ ns) (e ∷ m) ≡ some (e .1 ∷ xs)
 first-fit n ns e m xs q k = rw (q, compare-self (e .0), k)
 
-order-fit : (ns : List ℕ) (m : Map ℕ Part) (rest : List Row) → length ns ≡ length m → inOrder ns (partRows m ++ rest) ≡ true → (xs : List Part) × (fit ns m ≡ some xs)
-unfolding inOrder partRows
+order-fit : (list : Bytes) (m : Map ℕ Part) (rest : List Row) → length list ≡ 2 * length m → listedFirst list (partRows m ++ rest) ≡ length m → (xs : List Part) × (fit (partList list) m ≡ some xs)
+unfolding partRows listedFirst partList
 order-fit [] [] rest l h = ([], refl)
+order-fit (x ∷ list) [] rest l h = absurd (omega arith)
 order-fit [] (e ∷ m) rest l h = absurd (omega arith)
-order-fit (n ∷ ns) [] rest l h = absurd (omega arith)
-order-fit (n ∷ ns) (e ∷ m) rest l h =
-    let b = both _ _ h in
-    let k = order-fit ns m rest (omega arith) (b .1) in
-    (e .1 ∷ k .0, first-fit n ns e m (k .0) (eqb-true n (e .0) (b .0)) (k .1))
+order-fit (x ∷ []) (e ∷ m) rest l h = absurd (omega arith)
+order-fit (x ∷ (y ∷ list)) (e ∷ m) rest l h = go (isPart (x + 256 * y) (headOf (partRow (e .0) (e .1)))) refl h (order-fit list m rest (omega arith))
+  where
+    go : (b : Bool) → isPart (x + 256 * y) (headOf (partRow (e .0) (e .1))) ≡ b → cond b (suc (listedFirst list (partRows m ++ rest))) 0 ≡ suc (length m)
+        → (listedFirst list (partRows m ++ rest) ≡ length m → (xs : List Part) × (fit (partList list) m ≡ some xs))
+        → (xs : List Part) × (fit ((x + 256 * y) ∷ partList list) (e ∷ m) ≡ some xs)
+    go true q h next =
+        let k = next (omega arith) in
+        (e .1 ∷ k .0, first-fit (x + 256 * y) (partList list) e m (k .0) (eqb-true (x + 256 * y) (e .0) q) (k .1))
+    go false q h next = absurd (omega arith)
 
--- what `list_fits` knows of the rows from an upload's first part on
-module _ (s : State) (u : ℕ) (x : Upload) (f : lookup byNumber u (s .U) ≡ some x) (first : RowPlace) (first-is : first ≡ partsRowOf s u) where
+-- what `judge_list` knows of the rows from an upload's first part on
+module _ (s : State) (u : ℕ) (x : Upload) (f : lookup byNumber u (s .U) ≡ some x) (first : RowPlace) (first-is : first ≡ partsRowOf s u) (list : Bytes) where
   row-is : first .row ≡ length (beforeParts s u x)
   unfolding beforeParts
   row-is = place-row (rowsOf s) first _ first-is ∙ sym (length-append (beforeUpload s u) (uploadRow u x ∷ []))
@@ -110,18 +185,45 @@ module _ (s : State) (u : ℕ) (x : Upload) (f : lookup byNumber u (s .U) ≡ so
   part-rows : drop (first .row) (rowsOf s) ≡ partRows (x .parts) ++ afterUpload s u
   part-rows = ap (drop (first .row)) (parts-place s u x f) ∙ drop-at (beforeParts s u x) (partRows (x .parts) ++ afterUpload s u) (first .row) (sym row-is)
 
-  pub rows-there : first .row + length (x .parts) ≤ length (rowsOf s)
-  rows-there =
-      omega (
-        arith,
-        row-is,
-        ap length (parts-place s u x f),
-        length-append (beforeParts s u x) (partRows (x .parts) ++ afterUpload s u),
-        length-append (partRows (x .parts)) (afterUpload s u),
-        length-part-rows (x .parts),
-      )
+  listed-within : listedFirst list (drop (first .row) (rowsOf s)) ≤ length (x .parts)
+  unfolding afterUpload
+  listed-within = subst (λ (rs : List Row). listedFirst list rs ≤ length (x .parts)) (sym part-rows) (listed-few list (x .parts) _)
 
-  pub ordered-fits : (list : Bytes) → Ascending byNumber (x .parts) → length list ≡ 2 * length (x .parts) → inOrder (partList list) (drop (first .row) (rowsOf s)) ≡ true → true ≡ fits (partList list) (x .parts)
-  ordered-fits list up l h =
-      let k = order-fit (partList list) (x .parts) (afterUpload s u) (all-numbers list (length (x .parts)) l .1) (ap (inOrder (partList list)) (sym part-rows) ∙ h) in
-      sym (fit-fits (partList list) (x .parts) (k .0) up (k .1))
+  module _ (reached : RowPlace) (reached-is : reached ≡ afterListed list (rowsOf s) (first .row)) where
+    pub reached-after : first .row ≤ reached .row
+    reached-after = omega (arith, place-row (rowsOf s) reached _ reached-is)
+
+    pub reached-within : reached .row ≤ first .row + length (x .parts)
+    reached-within = omega (arith, place-row (rowsOf s) reached _ reached-is, listed-within)
+
+    pub reached-row-place : IsRowPlace (rowsOf s) reached
+    reached-row-place =
+        is-row-place (rowsOf s) reached _ reached-is
+        (omega (
+          arith,
+          listed-within,
+          row-is,
+          ap length (parts-place s u x f),
+          length-append (beforeParts s u x) (partRows (x .parts) ++ afterUpload s u),
+          length-append (partRows (x .parts)) (afterUpload s u),
+          length-part-rows (x .parts),
+        ))
+
+    -- the walk came as far as the parts go
+    module _ (parts : PassedParts) (parts-are : parts ≡ passedParts s u x) (far : reached .row ≡ parts .next .row) where
+      all-listed : listedFirst list (drop (first .row) (rowsOf s)) ≡ length (x .parts)
+      unfolding passedParts throughParts
+      all-listed =
+          omega (
+            arith,
+            place-row (rowsOf s) reached _ reached-is,
+            ap (λ (p : PassedParts). p .next .row) parts-are,
+            row-is,
+            length-append (beforeParts s u x) (partRows (x .parts)),
+            length-part-rows (x .parts),
+          )
+
+      pub ordered-fits : Ascending byNumber (x .parts) → length list ≡ 2 * length (x .parts) → true ≡ fits (partList list) (x .parts)
+      ordered-fits up l =
+          let k = order-fit list (x .parts) (afterUpload s u) l (ap (listedFirst list) (sym part-rows) ∙ all-listed) in
+          sym (fit-fits (partList list) (x .parts) (k .0) up (k .1))

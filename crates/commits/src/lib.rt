@@ -1,7 +1,9 @@
 // COMMIT: an open upload's parts become an object, in listed order.
 use find::Lookup;
+use find::PassedParts;
 use find::RowPlace;
 use join::Bounds;
+use row::Head;
 use scan_objects::Offset;
 use scan_objects::Scan;
 use types::DoneAnswer;
@@ -9,16 +11,16 @@ use types::UploadNumber;
 ghost use mathlib.Core.Path.{_≡_};
 ghost use mathlib.Core.Bool.{cond};
 ghost use Prim.Native.Nat.{_+_, _*_, _≤_};
-ghost use lib.ListN.{length, drop};
+ghost use lib.ListN.{length};
 ghost use Rattle.machine.specs.State.{Object, withObject, withoutUpload, counted};
 ghost use Rattle.machine.specs.Calls.{COMMIT, tableFull, code};
 ghost use Rattle.machine.specs.Fits.{member, fits};
-ghost use Rattle.find.specs.Places.{objectPlace};
+ghost use Rattle.find.specs.Places.{objectPlace, passedParts};
 ghost use Rattle.find.specs.Known.{rowsIn, WholeFrom, WholeOpenAt, WholePlace, OfOpenAt, OfOpenBefore};
 ghost use Rattle.contract.specs.Answers.{WellNumbered, doneReply, partList};
 ghost use Rattle.contract.specs.Made.{memory, outcome, resultOf, Made, MadeWhole};
 ghost use Rattle.join.specs.Joined.{JoinPlaced};
-ghost use Rattle.commits.specs.Numbers.{firstNumbers, numberFits, inOrder};
+ghost use Rattle.commits.specs.Numbers.{firstNumbers, numberFits, isPart, afterListed};
 
 // Whether a number is one of the list's first i.
 fn is_listed_before(list: &[u8], i: usize, number: u16) -> bool
@@ -51,49 +53,74 @@ fn number_fits(tables: &[u8], arena: &[u8], first: RowPlace, list: &[u8], i: usi
     !is_listed_before(list, i, number)
 }
 
-// Whether the list's numbers are those of the rows from `first` on, in this order.
-fn in_order(tables: &[u8], arena: &[u8], first: RowPlace, list: &[u8], count: usize) -> bool
-    requires { ⌜ WholePlace (now tables) (now arena) first
-        × (first .row + count ≤ length (rowsIn (now tables) (now arena))) × (length (now list) ≡ 2 * count) ⌝ }
-    ensures { λ r. ⌜ r ≡ inOrder (partList (now (list .entry)))
-        (drop (first .row) (rowsIn (now (tables .entry)) (now (arena .entry)))) ⌝ }
+// Whether a row is the part with this number.
+fn is_part(h: Head, number: u16) -> bool
+    ensures { λ r. ⌜ r ≡ isPart number h ⌝ }
 {
-    let mut at = first.at;
-    let mut i: usize = 0;
-    while i < count {
-        let h = row::read_head(tables, at);
-        if number::get_u16(list, 2 * i) as u32 != h.number {
-            return false;
-        }
-        at += row::span(h);
-        i += 1;
-    }
-    true
+    h.kind == layout::PART_KIND && number as u32 == h.number
 }
 
-// Whether the list names each part of an open upload one time, `here` being the upload's row, and `count` how many parts
-// it has. A list in ascending order is walked once.
-fn list_fits(tables: &[u8], arena: &[u8], here: RowPlace, count: usize, list: &[u8]) -> bool
-    requires { ⌜ WholeOpenAt (now tables) (now arena) here
-        × OfOpenAt (now tables) (now arena) here (λ s u x. count ≡ length (x .parts)) ⌝ }
-    ensures { λ r. ⌜ OfOpenAt (now (tables .entry)) (now (arena .entry)) here
-        (λ s u x. r ≡ fits (partList (now (list .entry))) (x .parts)) ⌝ }
+// Passes the parts from `first` on that have the list's numbers, in its order, and stops at any other row, or at the
+// list's end. A part has no path and no pairs, so where the next row begins does not depend on what is read.
+fn pass_listed(tables: &[u8], arena: &[u8], first: RowPlace, list: &[u8]) -> RowPlace
+    requires { ⌜ WholePlace (now tables) (now arena) first ⌝ }
+    ensures { λ r. ⌜ r ≡ afterListed (now (list .entry)) (rowsIn (now (tables .entry)) (now (arena .entry))) (first .row) ⌝ }
 {
-    if list.len() != 2 * count {
-        return false;
+    let counts = find::read_counts(tables, arena);
+    let rows = counts.rows;
+    let numbers = list.len() / 2;
+    let mut row = first.row;
+    let mut at = first.at;
+    let mut base = first.base;
+    let mut i: usize = 0;
+    while i < numbers {
+        if rows <= row {
+            return RowPlace { row, at, base };
+        }
+        let h = row::read_head(tables, at);
+        if !is_part(h, number::get_u16(list, 2 * i)) {
+            return RowPlace { row, at, base };
+        }
+        at += row::HEAD_LENGTH;
+        base += h.size as usize;
+        row += 1;
+        i += 1;
     }
+    RowPlace { row, at, base }
+}
+
+// A judgement: whether a list names each part of an upload one time, and the pass over the parts.
+struct ListJudged {
+    fits: bool,
+    parts: PassedParts,
+}
+
+// The judgement of a list for an open upload, `here` being the upload's row. The parts are passed one time where the list
+// has their numbers in ascending order: then the first walk comes as far as the second. Else each number is looked for.
+fn judge_list(tables: &[u8], arena: &[u8], here: RowPlace, list: &[u8]) -> ListJudged
+    requires { ⌜ WholeOpenAt (now tables) (now arena) here ⌝ }
+    ensures { λ r. ⌜ OfOpenAt (now (tables .entry)) (now (arena .entry)) here
+        (λ s u x. (r .fits ≡ fits (partList (now (list .entry))) (x .parts)) × (r .parts ≡ passedParts s u x)) ⌝ }
+{
     let first = find_uploads::next_row(tables, arena, here);
-    if in_order(tables, arena, first, list, count) {
-        return true;
+    let reached = pass_listed(tables, arena, first, list);
+    let parts = find_uploads::pass_parts_from(tables, arena, first, reached);
+    let count = parts.count;
+    if list.len() != 2 * count {
+        return ListJudged { fits: false, parts };
+    }
+    let next = parts.next;
+    if reached.row == next.row {
+        return ListJudged { fits: true, parts };
     }
     let mut i: usize = 0;
     while i < count {
         if !number_fits(tables, arena, first, list, i) {
-            return false;
+            return ListJudged { fits: false, parts };
         }
         i += 1;
     }
-    true
+    ListJudged { fits: true, parts }
 }
 
 // A judgement: the refusal's number, or 0, and what the lookup of the upload's path answers.
@@ -183,14 +210,15 @@ fn commit_judge(
         return refused(types::BAD_REQUEST);
     }
     let here = find::place_of(opened);
-    let parts = find_uploads::pass_parts(tables, arena, here);
-    if !list_fits(tables, arena, here, parts.count, list) {
+    let judged = judge_list(tables, arena, here, list);
+    if !judged.fits {
         return refused(types::BAD_REQUEST);
     }
     let path = commit_room(tables, arena, here);
     if path.refusal != 0 {
         return refused(path.refusal);
     }
+    let parts = judged.parts;
     let next = parts.next;
     let end = find_uploads::rows_end_after(tables, arena, next);
     let bounds = join::upload_bounds(tables, arena, here, parts, end);

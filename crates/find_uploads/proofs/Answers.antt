@@ -25,7 +25,7 @@ use Rattle.find.specs.Places.{placeAfter, lookupAfter, placeOf, beforeObject, f
 use Rattle.find.specs.RowPlaces.{rowPlaceAt, IsRow, IsRowPlace}
 use Rattle.find_uploads.specs.Search.{reach, stopsOf, sought, leads, leader}
 use Rattle.find.proofs.Splits.{object-place, upload-place, upload-found, parts-place, parts-after, part-place}
-use Rattle.find_uploads.proofs.Searches.{reach-end, reach-uploads, upload-leads, reach-part, part-leads, reach-next, due-uploads}
+use Rattle.find_uploads.proofs.Searches.{reach-end, reach-uploads, upload-leads, reach-part, part-leads, reach-next-from, due-uploads}
 use Rattle.find.proofs.Found.{is-some}
 
 -- Row places -------------------------------------------------------------------------------------------------------------
@@ -178,14 +178,22 @@ module _ (s : State) (u : ℕ) (x : Upload) (f : lookup byNumber u (s .U) ≡ so
       let g : found ≡ isSome (lookup byNumber n ps) = r ∙ ap (leads partKind n) (k .rest) ∙ part-leads n ps _ in
       λ i. record { found = g i; row = k .row i; at = k .at i; base = k .base i }
 
-  pub all-parts : (p : RowPlace) → p ≡ sought goal.NextUpload (rowsOf s) (first .row) → record { count = p .row - first .row; next = p } ≡ passedParts s u x
-  unfolding passedParts throughParts afterUpload
-  all-parts p q =
+  pub all-parts : (from p : RowPlace) → first .row ≤ from .row → from .row ≤ first .row + length (x .parts) → p ≡ sought goal.NextUpload (rowsOf s) (from .row)
+      → record { count = p .row - first .row; next = p } ≡ passedParts s u x
+  unfolding sought passedParts throughParts afterUpload
+  all-parts from p low high q =
       let ps = x .parts in
-      let m = sought-passes goal.NextUpload (rowsOf s) (beforeParts s u x) (partRows ps ++ afterUpload s u) (partRows ps) (first .row) (parts-place s u x f) first-row (reach-next ps _) in
-      let n = place-row (rowsOf s) p (length (beforeParts s u x ++ partRows ps)) (q ∙ m) in
-      let c : p .row - first .row ≡ length ps = omega (arith, first-row, length-append (beforeParts s u x) (partRows ps), length-part-rows ps) in
-      let k = q ∙ m ∙ place-after (rowsOf s) (throughParts s u x) (afterUpload s u) (parts-after s u x f) in
+      let rs = rowsOf s in
+      let j : ℕ = from .row - first .row in
+      let there : first .row + j ≡ from .row = omega arith in
+      let rest : drop (first .row) rs ≡ partRows ps ++ afterUpload s u = ap (drop (first .row)) (parts-place s u x f) ∙ drop-at (beforeParts s u x) (partRows ps ++ afterUpload s u) (first .row) (sym first-row) in
+      let onward : drop (from .row) rs ≡ drop j (partRows ps ++ afterUpload s u) = ap (λ (i : ℕ). drop i rs) (sym there) ∙ sym (drop-drop j (first .row) rs) ∙ ap (drop j) rest in
+      let far = reach-next-from j ps (drop (suc (place byNumber u (s .U))) (s .U)) (omega arith) in
+      let many = length-append (beforeParts s u x) (partRows ps) in
+      let m : from .row + reach (stopsOf goal.NextUpload) (drop (from .row) rs) ≡ length (beforeParts s u x ++ partRows ps) = omega (arith, first-row, ap (reach (stopsOf goal.NextUpload)) onward, far, many) in
+      let n = place-row rs p _ q in
+      let c : p .row - first .row ≡ length ps = omega (arith, first-row, many, length-part-rows ps) in
+      let k = q ∙ ap (rowPlaceAt rs) m ∙ place-after rs (throughParts s u x) (afterUpload s u) (parts-after s u x f) in
       λ i. record { count = c i; next = k i }
 
 -- the places that a lookup of a part, and the pass over all, answer are of a row, or after them all

@@ -1,5 +1,5 @@
 -- What the searches along the rows find. Assumes nothing.
-use Prim.Native.Nat.{ℕ, suc, _+_, compare}
+use Prim.Native.Nat.{ℕ, zero, suc, _+_, _≤_, compare}
 use mathlib.Core.Path.{_≡_, refl, sym, ap, _∙_}
 use mathlib.Core.Bool.{Bool, true, false}
 use mathlib.Core.List.{List, [], _∷_, _++_}
@@ -77,10 +77,16 @@ unfolding reach uploadRows stopsAt
 reach-no-upload [] = refl
 reach-no-upload (e ∷ m) = refl
 
-pub reach-next : (ps : Map ℕ Part) (m : Map ℕ Upload) → reach (stopsOf goal.NextUpload) (partRows ps ++ uploadRows m) ≡ length (partRows ps)
+reach-next : (ps : Map ℕ Part) (m : Map ℕ Upload) → reach (stopsOf goal.NextUpload) (partRows ps ++ uploadRows m) ≡ length (partRows ps)
 unfolding reach partRows stopsAt
 reach-next [] m = reach-no-upload m
 reach-next (e ∷ ps) m = ap suc (reach-next ps m)
+
+pub reach-next-from : (j : ℕ) (ps : Map ℕ Part) (m : Map ℕ Upload) → j ≤ length ps → j + reach (stopsOf goal.NextUpload) (drop j (partRows ps ++ uploadRows m)) ≡ length (partRows ps)
+unfolding partRows
+reach-next-from zero ps m l = omega (arith, reach-next ps m)
+reach-next-from (suc j) [] m l = absurd (omega arith)
+reach-next-from (suc j) (e ∷ ps) m l = omega (arith, reach-next-from j ps m (omega arith))
 
 -- to an upload that started before a stamp: the first row there is the upload's
 module _ (t : ℕ) where

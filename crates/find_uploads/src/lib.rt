@@ -9,6 +9,7 @@ pub use uploads::find_part_from;
 pub use uploads::find_upload;
 pub use uploads::first_due;
 pub use uploads::pass_parts;
+pub use uploads::pass_parts_from;
 pub use uploads::rows_end;
 pub use uploads::rows_end_after;
 pub use uploads::rows_end_from;

@@ -13,6 +13,8 @@ use find::lookup_at;
 use find::place_of;
 use scan_objects::Offset;
 ghost use mathlib.Core.Path.{_≡_};
+ghost use Prim.Native.Nat.{_+_, _≤_};
+ghost use lib.ListN.{length};
 ghost use Rattle.layout.specs.Memory.{stateOf};
 ghost use Rattle.find.specs.Places.{placeOf, placeAfter, uploadPlace, partPlace, passedParts, firstDue};
 ghost use Rattle.find.specs.Known.{rowsIn, WholeFrom, WholeRow, WholePlace, OfOpenAt, OfOpenBefore};
@@ -74,17 +76,27 @@ pub fn find_part_after(tables: &[u8], arena: &[u8], upload: Lookup, number: u16)
     find_part_from(tables, arena, first, number)
 }
 
-// How many parts the upload has whose row stands there, and the row after them.
+// How many parts an open upload has, `first` being the row after the upload's, and the row after them. `from` is a
+// part's row, or the row after the parts: the search goes on from there.
+pub fn pass_parts_from(tables: &[u8], arena: &[u8], first: RowPlace, from: RowPlace) -> PassedParts
+    requires { ⌜ WholePlace (now tables) (now arena) from × (first .row ≤ from .row) ⌝ }
+    ensures { λ r. ⌜ OfOpenBefore (now (tables .entry)) (now (arena .entry)) first
+        (λ s u x. from .row ≤ first .row + length (x .parts) → r ≡ passedParts s u x) ⌝ }
+{
+    let next = seek(tables, arena, from, Goal::NextUpload);
+    PassedParts {
+        count: next.row - first.row,
+        next,
+    }
+}
+
+// The same of the upload whose row stands there.
 pub fn pass_parts(tables: &[u8], arena: &[u8], here: RowPlace) -> PassedParts
     requires { ⌜ WholeRow (now tables) (now arena) here ⌝ }
     ensures { λ r. ⌜ OfOpenAt (now (tables .entry)) (now (arena .entry)) here (λ s u x. r ≡ passedParts s u x) ⌝ }
 {
     let first = next_row(tables, arena, here);
-    let next = seek(tables, arena, first, Goal::NextUpload);
-    PassedParts {
-        count: next.row - first.row,
-        next,
-    }
+    pass_parts_from(tables, arena, first, first)
 }
 
 // The number of the first upload that started before a stamp.

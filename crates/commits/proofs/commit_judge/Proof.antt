@@ -15,10 +15,9 @@ use Rattle.find.specs.declared.RowPlace.{RowPlace}
 use Rattle.find.specs.Places.{uploadRowOf}
 use Rattle.find.specs.Known.{WholeOpenAt}
 use Rattle.find.proofs.Found.{is-some}
-use Rattle.find_uploads.proofs.Answers.{upload-lookup, open-row-place, next-row-place}
+use Rattle.find_uploads.proofs.Answers.{upload-lookup, next-row-place}
 use Rattle.contract.specs.Answers.{partList}
 use Rattle.contract.specs.Made.{memory, outcome, resultOf}
-use Rattle.commits.proofs.Fitting.{count-is}
 use Rattle.commits.proofs.Committing.{open-found, missing-judged, unfit-judged, room-judged}
 use Rattle.commits.proofs.commit_judge.Statement.{statement}
 use Rattle.commits.proofs.commit_judge.Tie as tie
@@ -74,24 +73,19 @@ module _ (c : tie.After-place-of) where
   there : WholeOpenAt t a here
   there = (start .pre .0, (u, here-is, is-open))
 
-pass-parts-requires : tie.Need-pass-parts-requires
-pass-parts-requires c κs = (start c .pre .0, open-row-place (s c) (u c) (here c) (here-is c) (is-open c))
-
-list-fits-requires : tie.Need-list-fits-requires
-list-fits-requires c κs =
-    let k = c .before in
-    (there k, λ v x q e. count-is (s k) v x _ (c .pass-parts .ensures v x q e))
+judge-list-requires : tie.Need-judge-list-requires
+judge-list-requires c κs = there c
 
 refused-requires-2 : tie.Need-refused-requires-2
 refused-requires-2 c κs = search needs
 
 returns-2 : tie.Need-returns-2
 returns-2 c =
-    let l = c .before .before in
-    let k = l .before .before in
+    let l = c .before .before .before in
+    let k = l .before in
     let f = found k .find-upload in
     let r = c .refused2 .ensures in
-    (r ∙ unfit-judged (t k) (a k) (u k) (start k .args .list .now) (f .result) (f .ensures) (bytes k) (start k .pre .0) (not-false _ (k .before .if1 .left)) (l .list-fits .result) (λ x e. l .list-fits .ensures (u k) x (here-is k) e) (not-true _ (c .before .if2 .taken)), λ z. absurd (omega arith))
+    (r ∙ unfit-judged (t k) (a k) (u k) (start k .args .list .now) (f .result) (f .ensures) (bytes k) (start k .pre .0) (not-false _ (k .before .if1 .left)) (l .judge-list .result .fits) (λ x e. l .judge-list .ensures (u k) x (here-is k) e .0) (not-true _ (c .before .if2 .taken)), λ z. absurd (omega arith))
 
 commit-room-requires : tie.Need-commit-room-requires
 commit-room-requires c κs = there (c .before .before .before)
@@ -104,8 +98,8 @@ module _ (c : tie.After-commit-room) where
   judged : c .commit-room .result .refusal ≡ resultOf (outcome (COMMIT (u known) (partList (start known .args .list .now))) (memory (t known) (a known)))
   judged =
       let f = found known .find-upload in
-      let l = c .before .before .list-fits in
-      room-judged (t known) (a known) (u known) (start known .args .list .now) (f .result) (f .ensures) (bytes known) (start known .pre .0) (not-false _ (known .before .if1 .left)) (l .result) (λ x e. l .ensures (u known) x (here-is known) e) (not-false _ (c .before .if2 .left))
+      let l = c .before .before .before .judge-list in
+      room-judged (t known) (a known) (u known) (start known .args .list .now) (f .result) (f .ensures) (bytes known) (start known .pre .0) (not-false _ (known .before .if1 .left)) (l .result .fits) (λ x e. l .ensures (u known) x (here-is known) e .0) (not-false _ (c .before .if2 .left))
       (c .commit-room .result .refusal) (λ x e. c .commit-room .ensures (u known) x (here-is known) e .0)
 
 refused-requires-3 : tie.Need-refused-requires-3
@@ -119,21 +113,21 @@ returns-3 c =
 
 rows-end-after-requires : tie.Need-rows-end-after-requires
 rows-end-after-requires c κs =
-    let p = c .before .before .before .before .before .before in
+    let p = c .before .before .before .before .before .before .before in
     let k = p .before in
     let x = is-some _ (is-open k) in
-    (start k .pre .0, next-row-place (s k) (u k) (x .0) (p .pass-parts .result) (x .1) (p .pass-parts .ensures (u k) (x .0) (here-is k) (x .1)))
+    (start k .pre .0, next-row-place (s k) (u k) (x .0) (p .judge-list .result .parts) (x .1) (p .judge-list .ensures (u k) (x .0) (here-is k) (x .1) .1))
 
 upload-bounds-requires : tie.Need-upload-bounds-requires
 upload-bounds-requires c κs =
-    let p = c .before .before .before .before .before .before .before in
-    (there (p .before), p .pass-parts .ensures, c .rows-end-after .ensures)
+    let p = c .before .before .before .before .before .before .before .before in
+    (there (p .before), λ v x q e. p .judge-list .ensures v x q e .1, c .rows-end-after .ensures)
 
 returns-4 : tie.Need-returns-4
 returns-4 c =
-    let m = c .before .before .before .before .before .before in
+    let m = c .before .before .before .before .before .before .before in
     let k = known m in
-    (sym (c .before .before .before .before .if3 .left) ∙ judged m, λ z x e. (c .before .upload-bounds .ensures (u k) x (here-is k) e, m .commit-room .ensures (u k) x (here-is k) e .1))
+    (sym (c .before .before .before .before .before .if3 .left) ∙ judged m, λ z x e. (c .before .upload-bounds .ensures (u k) x (here-is k) e, m .commit-room .ensures (u k) x (here-is k) e .1))
 
 pub commit-judge-spec : {M : Type 1} → statement M
 commit-judge-spec =
@@ -143,8 +137,7 @@ commit-judge-spec =
     refused-requires
     returns
     place-of-requires
-    pass-parts-requires
-    list-fits-requires
+    judge-list-requires
     refused-requires-2
     returns-2
     commit-room-requires

@@ -117,8 +117,8 @@ module _ (t a : List ℕ) (u : ℕ) (list : Bytes) (place : Lookup) (place-is : 
 -- What `join` asks, and what the machine does ---------------------------------------------------------------------------
 
 module _ (t a : List ℕ) (u : ℕ) (list : Bytes) (w : whole t a ≡ true) (zero-result : resultOf (outcome (COMMIT u (partList list)) (memory t a)) ≡ 0) (b : AreBytes t)
-    (bounds : Bounds) (place : Lookup) (placed : JoinPlaced t a u bounds place) where
-  pub commit-ready : Joinable t a u bounds place list
+    (bounds : Bounds) (place : Lookup) (ascends : Bool) (placed : JoinPlaced t a u bounds place list ascends) where
+  pub commit-ready : Joinable t a u bounds place list ascends
   commit-ready =
       record {
         is-whole = w;

@@ -30,6 +30,7 @@ use Rattle.find.proofs.Splits.{parts-place}
 use Rattle.find_uploads.proofs.Answers.{place-row, is-row-place}
 use Rattle.find_uploads.proofs.Walk.{rowPlace, Reached, Turn, reached-place}
 use Rattle.contract.specs.Answers.{partList}
+use Rattle.join_order.specs.Region.{partNumbers}
 use Rattle.commits.specs.Numbers.{numberAt, isPart, listedFirst, afterListed}
 use Rattle.commits.proofs.Listing.{rest-bytes}
 
@@ -156,25 +157,25 @@ listed-few (x ∷ (y ∷ list)) (e ∷ m) more = go (isPart (x + 256 * y) (headO
     go true h = omega arith
     go false h = omega arith
 
--- `fit` takes the first part each time
-first-fit : (n : ℕ) (ns : List ℕ) (e : ℕ × Part) (m : Map ℕ Part) (xs : List Part) → n ≡ e .0 → fit ns m ≡ some xs → fit (n ∷ ns) (e ∷ m) ≡ some (e .1 ∷ xs)
-first-fit n ns e m xs q k = rw (q, compare-self (e .0), k)
-
-order-fit : (list : Bytes) (m : Map ℕ Part) (rest : List Row) → length list ≡ 2 * length m → listedFirst list (partRows m ++ rest) ≡ length m → (xs : List Part) × (fit (partList list) m ≡ some xs)
-unfolding partRows listedFirst partList
-order-fit [] [] rest l h = ([], refl)
-order-fit (x ∷ list) [] rest l h = absurd (omega arith)
-order-fit [] (e ∷ m) rest l h = absurd (omega arith)
-order-fit (x ∷ []) (e ∷ m) rest l h = absurd (omega arith)
-order-fit (x ∷ (y ∷ list)) (e ∷ m) rest l h = go (isPart (x + 256 * y) (headOf (partRow (e .0) (e .1)))) refl h (order-fit list m rest (omega arith))
+-- the walk passes them all: the list has their numbers
+order-numbers : (list : Bytes) (m : Map ℕ Part) (rest : List Row) → length list ≡ 2 * length m → listedFirst list (partRows m ++ rest) ≡ length m → partList list ≡ partNumbers m
+unfolding partRows listedFirst partList partNumbers
+order-numbers [] [] rest l h = refl
+order-numbers (x ∷ list) [] rest l h = absurd (omega arith)
+order-numbers [] (e ∷ m) rest l h = absurd (omega arith)
+order-numbers (x ∷ []) (e ∷ m) rest l h = absurd (omega arith)
+order-numbers (x ∷ (y ∷ list)) (e ∷ m) rest l h = go (isPart (x + 256 * y) (headOf (partRow (e .0) (e .1)))) refl h (order-numbers list m rest (omega arith))
   where
     go : (b : Bool) → isPart (x + 256 * y) (headOf (partRow (e .0) (e .1))) ≡ b → cond b (suc (listedFirst list (partRows m ++ rest))) 0 ≡ suc (length m)
-        → (listedFirst list (partRows m ++ rest) ≡ length m → (xs : List Part) × (fit (partList list) m ≡ some xs))
-        → (xs : List Part) × (fit ((x + 256 * y) ∷ partList list) (e ∷ m) ≡ some xs)
-    go true q h next =
-        let k = next (omega arith) in
-        (e .1 ∷ k .0, first-fit (x + 256 * y) (partList list) e m (k .0) (eqb-true (x + 256 * y) (e .0) q) (k .1))
+        → (listedFirst list (partRows m ++ rest) ≡ length m → partList list ≡ partNumbers m) → (x + 256 * y) ∷ partList list ≡ e .0 ∷ partNumbers m
+    go true q h next = let n = eqb-true (x + 256 * y) (e .0) q in let k = next (omega arith) in cc
     go false q h next = absurd (omega arith)
+
+-- `fit` takes the first part each time
+numbers-fit : (m : Map ℕ Part) → (xs : List Part) × (fit (partNumbers m) m ≡ some xs)
+unfolding partNumbers
+numbers-fit [] = ([], refl)
+numbers-fit (e ∷ m) = let k = numbers-fit m in (e .1 ∷ k .0, rw (compare-self (e .0), k .1))
 
 -- what `judge_list` knows of the rows from an upload's first part on
 module _ (s : State) (u : ℕ) (x : Upload) (f : lookup byNumber u (s .U) ≡ some x) (first : RowPlace) (first-is : first ≡ partsRowOf s u) (list : Bytes) where
@@ -223,7 +224,10 @@ module _ (s : State) (u : ℕ) (x : Upload) (f : lookup byNumber u (s .U) ≡ so
             length-part-rows (x .parts),
           )
 
+      pub ordered-numbers : length list ≡ 2 * length (x .parts) → partList list ≡ partNumbers (x .parts)
+      ordered-numbers l = order-numbers list (x .parts) (afterUpload s u) l (ap (listedFirst list) (sym part-rows) ∙ all-listed)
+
       pub ordered-fits : Ascending byNumber (x .parts) → length list ≡ 2 * length (x .parts) → true ≡ fits (partList list) (x .parts)
       ordered-fits up l =
-          let k = order-fit list (x .parts) (afterUpload s u) l (ap (listedFirst list) (sym part-rows) ∙ all-listed) in
-          sym (fit-fits (partList list) (x .parts) (k .0) up (k .1))
+          let k = numbers-fit (x .parts) in
+          sym (ap (λ (ns : List ℕ). fits ns (x .parts)) (ordered-numbers l) ∙ fit-fits (partNumbers (x .parts)) (x .parts) (k .0) up (k .1))

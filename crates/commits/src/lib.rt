@@ -19,6 +19,7 @@ ghost use Rattle.find.specs.Places.{objectPlace, passedParts};
 ghost use Rattle.find.specs.Known.{rowsIn, WholeFrom, WholeOpenAt, WholePlace, OfOpenAt, OfOpenBefore};
 ghost use Rattle.contract.specs.Answers.{WellNumbered, doneReply, partList};
 ghost use Rattle.contract.specs.Made.{memory, outcome, resultOf, Made, MadeWhole};
+ghost use Rattle.join_order.specs.Region.{InOrder};
 ghost use Rattle.join.specs.Joined.{JoinPlaced};
 ghost use Rattle.commits.specs.Numbers.{firstNumbers, numberFits, isPart, afterListed};
 
@@ -89,9 +90,11 @@ fn pass_listed(tables: &[u8], arena: &[u8], first: RowPlace, list: &[u8]) -> Row
     RowPlace { row, at, base }
 }
 
-// A judgement: whether a list names each part of an upload one time, and the pass over the parts.
+// A judgement: whether a list names each part of an upload one time, and whether in their order; and the pass over the
+// parts.
 struct ListJudged {
     fits: bool,
+    ascends: bool,
     parts: PassedParts,
 }
 
@@ -100,27 +103,45 @@ struct ListJudged {
 fn judge_list(tables: &[u8], arena: &[u8], here: RowPlace, list: &[u8]) -> ListJudged
     requires { ⌜ WholeOpenAt (now tables) (now arena) here ⌝ }
     ensures { λ r. ⌜ OfOpenAt (now (tables .entry)) (now (arena .entry)) here
-        (λ s u x. (r .fits ≡ fits (partList (now (list .entry))) (x .parts)) × (r .parts ≡ passedParts s u x)) ⌝ }
+        (λ s u x. (r .fits ≡ fits (partList (now (list .entry))) (x .parts))
+        × InOrder (r .ascends) (now (list .entry)) (x .parts)
+        × (r .parts ≡ passedParts s u x)) ⌝ }
 {
     let first = find_uploads::next_row(tables, arena, here);
     let reached = pass_listed(tables, arena, first, list);
     let parts = find_uploads::pass_parts_from(tables, arena, first, reached);
     let count = parts.count;
     if list.len() != 2 * count {
-        return ListJudged { fits: false, parts };
+        return ListJudged {
+            fits: false,
+            ascends: false,
+            parts,
+        };
     }
     let next = parts.next;
     if reached.row == next.row {
-        return ListJudged { fits: true, parts };
+        return ListJudged {
+            fits: true,
+            ascends: true,
+            parts,
+        };
     }
     let mut i: usize = 0;
     while i < count {
         if !number_fits(tables, arena, first, list, i) {
-            return ListJudged { fits: false, parts };
+            return ListJudged {
+                fits: false,
+                ascends: false,
+                parts,
+            };
         }
         i += 1;
     }
-    ListJudged { fits: true, parts }
+    ListJudged {
+        fits: true,
+        ascends: false,
+        parts,
+    }
 }
 
 // A judgement: the refusal's number, or 0, and what the lookup of the upload's path answers.
@@ -156,14 +177,16 @@ fn commit_room(tables: &[u8], arena: &[u8], here: RowPlace) -> PathPlace
     PathPlace { refusal: 0, place }
 }
 
-// A judgement: the refusal's number, or 0; of an accepted COMMIT, the bounds of its upload and the place of its path.
+// A judgement: the refusal's number, or 0; of an accepted COMMIT, the bounds of its upload, the place of its path, and
+// whether the list has the parts' numbers in their order.
 struct CommitRoom {
     refusal: u8,
     bounds: Bounds,
     place: Lookup,
+    ascends: bool,
 }
 
-// A refusal; its places say nothing.
+// A refusal; the rest says nothing.
 fn refused(n: u8) -> CommitRoom
     ensures { λ r. ⌜ r .refusal ≡ n ⌝ }
 {
@@ -187,11 +210,12 @@ fn refused(n: u8) -> CommitRoom
             at: 0,
             base: 0,
         },
+        ascends: false,
     }
 }
 
-// COMMIT's refusal over whole memory whose uploads begin at `uploads`, 0 for none; of an accepted one, the bounds of its
-// upload and the place of its path. Upload and path are looked up one time each.
+// COMMIT's refusal over whole memory whose uploads begin at `uploads`, 0 for none; of an accepted one, what the
+// change takes. Upload and path are looked up one time each.
 fn commit_judge(
     tables: &[u8],
     arena: &[u8],
@@ -203,7 +227,8 @@ fn commit_judge(
     ensures { λ r. ⌜ (r .refusal ≡ resultOf (outcome (COMMIT (upload .0) (partList (now (list .entry))))
         (memory (now (tables .entry)) (now (arena .entry)))))
         × (r .refusal ≡ 0
-        → JoinPlaced (now (tables .entry)) (now (arena .entry)) (upload .0) (r .bounds) (r .place)) ⌝ }
+        → JoinPlaced (now (tables .entry)) (now (arena .entry)) (upload .0) (r .bounds) (r .place)
+        (now (list .entry)) (r .ascends)) ⌝ }
 {
     let opened = find_uploads::find_upload(tables, arena, uploads, upload.0);
     if !opened.found {
@@ -227,6 +252,7 @@ fn commit_judge(
         refusal: 0,
         bounds,
         place: target,
+        ascends: judged.ascends,
     }
 }
 
@@ -245,7 +271,15 @@ pub fn commit_whole(
     if room.refusal != 0 {
         return DoneAnswer::Refused(room.refusal);
     }
-    join::join(tables, arena, upload.0, room.bounds, room.place, list);
+    join::join(
+        tables,
+        arena,
+        upload.0,
+        room.bounds,
+        room.place,
+        list,
+        room.ascends,
+    );
     DoneAnswer::Done
 }
 

@@ -2,7 +2,7 @@
 -- asks, and what memory then stands for. Assumes nothing.
 use Prim.Native.Nat.{ℕ, _+_, _≤_}
 use mathlib.Core.Path.{_≡_, refl, sym, ap, ap₂, _∙_, subst}
-use mathlib.Core.Bool.{true}
+use mathlib.Core.Bool.{Bool, true}
 use mathlib.Core.List.{List, _++_}
 use native.Mathlib.Omega.{arith}
 use lib.ListN.{length, take, drop, length-take, length-drop}
@@ -34,7 +34,7 @@ place-kept : (s : State) (u : ℕ) (p : Bytes) → objectPlace s p ≡ objectPla
 unfolding objectPlace beforeObject
 place-kept s u p = refl
 
-module _ (t a : List ℕ) (u : ℕ) (b : Bounds) (place : Lookup) (list p ls : Bytes) (stamp : ℕ) (j : JoinableWith t a u b place list p ls stamp) where
+module _ (t a : List ℕ) (u : ℕ) (b : Bounds) (place : Lookup) (list : Bytes) (ascends : Bool) (p ls : Bytes) (stamp : ℕ) (j : JoinableWith t a u b place list ascends p ls stamp) where
   abbrev s : State
   s = stateOf t a
 

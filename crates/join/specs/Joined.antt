@@ -1,7 +1,7 @@
 -- An upload whose parts a list names, joined into an object. Assumes nothing.
 use Prim.Native.Nat.{ℕ}
 use mathlib.Core.Path.{_≡_}
-use mathlib.Core.Bool.{true}
+use mathlib.Core.Bool.{Bool, true}
 use mathlib.Core.List.{List, _++_}
 use mathlib.Core.Option.{some}
 use lib.ListN.{length, take, drop}
@@ -18,6 +18,7 @@ use Rattle.find.specs.declared.Lookup.{Lookup}
 use Rattle.find.specs.Places.{placeAfter, objectPlace}
 use Rattle.find.specs.Known.{OfOpen}
 use Rattle.contract.specs.Answers.{partList}
+use Rattle.join_order.specs.Region.{InOrder}
 use Rattle.join.specs.declared.Bounds.{Bounds}
 use Rattle.join.specs.declared.Taken.{Taken}
 use Rattle.join.specs.Bounds.{boundsOf}
@@ -37,26 +38,27 @@ joinedState s u numbers k = withoutUpload (withObject s (k .upload .path) (joine
 abbrev pub Joins : (t a t′ a′ : List ℕ) (u : ℕ) (list : Bytes) → Listed (stateOf t a) u (partList list) → Type 0
 Joins t a t′ a′ u list k = Stands t′ a′ (joinedState (stateOf t a) u (partList list) k)
 
--- b are the bounds of the open upload u, and place is what the lookup of its path answers
-abbrev pub JoinPlaced : (t a : List ℕ) (u : ℕ) → Bounds → Lookup → Type 0
-JoinPlaced t a u b place = OfOpen t a u (λ s x. (b ≡ boundsOf s u x) × (place ≡ objectPlace s (x .path)))
+-- b are the bounds of the open upload u, place is what the lookup of its path answers, and InOrder holds of its parts
+abbrev pub JoinPlaced : (t a : List ℕ) (u : ℕ) → Bounds → Lookup → (list : Bytes) (ascends : Bool) → Type 0
+JoinPlaced t a u b place list ascends =
+    OfOpen t a u (λ s x. (b ≡ boundsOf s u x) × (place ≡ objectPlace s (x .path)) × InOrder ascends list (x .parts))
 
 -- what `join` asks
-pub record Joinable (t a : List ℕ) (u : ℕ) (b : Bounds) (place : Lookup) (list : Bytes) : Type 0 where
+pub record Joinable (t a : List ℕ) (u : ℕ) (b : Bounds) (place : Lookup) (list : Bytes) (ascends : Bool) : Type 0 where
   pub is-whole : whole t a ≡ true
-  pub placed : JoinPlaced t a u b place
+  pub placed : JoinPlaced t a u b place list ascends
   pub listed : Listed (stateOf t a) u (partList list)
   pub valid : Valid (length a) (joinedState (stateOf t a) u (partList list) listed)
 
 -- the same, where the upload's path and its start stamp are at hand
-pub record JoinableAt (t a : List ℕ) (u : ℕ) (b : Bounds) (place : Lookup) (list path : Bytes) (stamp : ℕ) : Type 0 where
-  pub joinable : Joinable t a u b place list
+pub record JoinableAt (t a : List ℕ) (u : ℕ) (b : Bounds) (place : Lookup) (list : Bytes) (ascends : Bool) (path : Bytes) (stamp : ℕ) : Type 0 where
+  pub joinable : Joinable t a u b place list ascends
   pub path-is : path ≡ joinable .listed .upload .path
   pub stamp-is : stamp ≡ joinable .listed .upload .started
 
 -- the same, and the lengths of its pairs
-pub record JoinableWith (t a : List ℕ) (u : ℕ) (b : Bounds) (place : Lookup) (list path lengths : Bytes) (stamp : ℕ) : Type 0 where
-  pub at-path : JoinableAt t a u b place list path stamp
+pub record JoinableWith (t a : List ℕ) (u : ℕ) (b : Bounds) (place : Lookup) (list : Bytes) (ascends : Bool) (path lengths : Bytes) (stamp : ℕ) : Type 0 where
+  pub at-path : JoinableAt t a u b place list ascends path stamp
   pub lengths-are : lengths ≡ pairLengths (at-path .joinable .listed .upload .pairs)
 
 -- the upload is out, the block of the object stands after the last byte held, the upload's pairs, then its parts' data in

@@ -14,6 +14,7 @@ ghost use Rattle.layout.specs.Header.{headed};
 ghost use Rattle.find.specs.Places.{placeAfter, passedParts};
 ghost use Rattle.find.specs.Known.{rowsIn, WholeOpenAt, OfOpen, OfOpenAt};
 ghost use Rattle.contract.specs.Answers.{partList};
+ghost use Rattle.join_order.specs.Region.{InOrder};
 ghost use Rattle.join.specs.Bounds.{Inside, boundsOf, endAfter};
 ghost use Rattle.join.specs.Joined.{Listed, Joins, TakenOut, Joinable, JoinableAt, JoinableWith};
 
@@ -96,10 +97,18 @@ fn cut(tables: &mut [u8], arena: &mut [u8], b: Bounds, header: Header) -> RowPla
 }
 
 // An open upload taken out, its pairs and its parts' data, in listed order, left after the last byte held.
-fn take_upload(tables: &mut [u8], arena: &mut [u8], upload: u32, b: Bounds, list: &[u8]) -> Taken
+fn take_upload(
+    tables: &mut [u8],
+    arena: &mut [u8],
+    upload: u32,
+    b: Bounds,
+    list: &[u8],
+    ascends: bool,
+) -> Taken
     requires { ⌜ (whole (now tables) (now arena) ≡ true)
         × Listed (stateOf (now tables) (now arena)) upload (partList (now list))
-        × OfOpen (now tables) (now arena) upload (λ s x. b ≡ boundsOf s upload x) ⌝ }
+        × OfOpen (now tables) (now arena) upload
+        (λ s x. (b ≡ boundsOf s upload x) × InOrder ascends (now list) (x .parts)) ⌝ }
     ensures { λ r. ⌜ ((k : Listed (stateOf (now (tables .entry)) (now (arena .entry)))
         upload (partList (now (list .entry))))
         → TakenOut (now (tables .entry)) (now (arena .entry)) upload (now (list .entry)) k
@@ -114,7 +123,7 @@ fn take_upload(tables: &mut [u8], arena: &mut [u8], upload: u32, b: Bounds, list
         uploads: h.uploads - 1,
         parts: h.parts - count,
     };
-    let digest = join_order::arrange(tables, arena, b.first, b.parts, list);
+    let digest = join_order::arrange(tables, arena, b.first, b.parts, list, ascends);
     let end = cut(tables, arena, b, header);
     Taken {
         digest,
@@ -133,17 +142,18 @@ fn join_with(
     b: Bounds,
     place: Lookup,
     list: &[u8],
+    ascends: bool,
     path: &[u8],
     lengths: &[u8],
     stamp: u64,
 )
-    requires { ⌜ JoinableWith (now tables) (now arena) upload b place (now list) (now path) (now lengths) stamp ⌝ }
+    requires { ⌜ JoinableWith (now tables) (now arena) upload b place (now list) ascends (now path) (now lengths) stamp ⌝ }
     ensures { λ _. ⌜ ((k : JoinableWith (now (tables .entry)) (now (arena .entry)) upload b place
-        (now (list .entry)) (now (path .entry)) (now (lengths .entry)) stamp)
+        (now (list .entry)) ascends (now (path .entry)) (now (lengths .entry)) stamp)
         → Joins (now (tables .entry)) (now (arena .entry)) (now (tables .exit)) (now (arena .exit)) upload
         (now (list .entry)) (k .at-path .joinable .listed)) ⌝ }
 {
-    let taken = take_upload(tables, arena, upload, b, list);
+    let taken = take_upload(tables, arena, upload, b, list, ascends);
     edit::objects::move_object(
         tables,
         arena,
@@ -167,12 +177,13 @@ fn join_at(
     b: Bounds,
     place: Lookup,
     list: &[u8],
+    ascends: bool,
     path: &[u8],
     stamp: u64,
 )
-    requires { ⌜ JoinableAt (now tables) (now arena) upload b place (now list) (now path) stamp ⌝ }
+    requires { ⌜ JoinableAt (now tables) (now arena) upload b place (now list) ascends (now path) stamp ⌝ }
     ensures { λ _. ⌜ ((k : JoinableAt (now (tables .entry)) (now (arena .entry)) upload b place
-        (now (list .entry)) (now (path .entry)) stamp)
+        (now (list .entry)) ascends (now (path .entry)) stamp)
         → Joins (now (tables .entry)) (now (arena .entry)) (now (tables .exit)) (now (arena .exit)) upload
         (now (list .entry)) (k .joinable .listed)) ⌝ }
 {
@@ -187,17 +198,27 @@ fn join_at(
         b,
         place,
         list,
+        ascends,
         path,
         &lengths[..n],
         stamp,
     );
 }
 
-// An open upload's parts, joined in listed order into an object at its path; the upload is gone. `b` are its bounds, and
-// `place` is what the lookup of its path answers.
-pub fn join(tables: &mut [u8], arena: &mut [u8], upload: u32, b: Bounds, place: Lookup, list: &[u8])
-    requires { ⌜ Joinable (now tables) (now arena) upload b place (now list) ⌝ }
-    ensures { λ _. ⌜ ((k : Joinable (now (tables .entry)) (now (arena .entry)) upload b place (now (list .entry)))
+// An open upload's parts, joined in listed order into an object at its path; the upload is gone. `b` are its bounds,
+// `place` is what the lookup of its path answers, and `ascends` says that the list has its parts' numbers in their order.
+pub fn join(
+    tables: &mut [u8],
+    arena: &mut [u8],
+    upload: u32,
+    b: Bounds,
+    place: Lookup,
+    list: &[u8],
+    ascends: bool,
+)
+    requires { ⌜ Joinable (now tables) (now arena) upload b place (now list) ascends ⌝ }
+    ensures { λ _. ⌜ ((k : Joinable (now (tables .entry)) (now (arena .entry)) upload b place
+        (now (list .entry)) ascends)
         → Joins (now (tables .entry)) (now (arena .entry)) (now (tables .exit)) (now (arena .exit)) upload
         (now (list .entry)) (k .listed)) ⌝ }
 {
@@ -208,5 +229,15 @@ pub fn join(tables: &mut [u8], arena: &mut [u8], upload: u32, b: Bounds, place: 
     let to = from + n;
     let mut path = [0u8; 128];
     buffer::copy_at(&mut path, 0, &tables[from..to]);
-    join_at(tables, arena, upload, b, place, list, &path[..n], h.stamp);
+    join_at(
+        tables,
+        arena,
+        upload,
+        b,
+        place,
+        list,
+        ascends,
+        &path[..n],
+        h.stamp,
+    );
 }

@@ -1,21 +1,21 @@
 -- The rows of parts in listed order: as many as the list has numbers, each encodable. Assumes nothing.
 use Prim.Native.Nat.{ℕ, suc, _/_}
 use mathlib.Core.Path.{_≡_, refl, sym, ap, _∙_, subst}
-use mathlib.Core.List.{List, [], _∷_}
+use mathlib.Core.List.{List, [], _∷_, _++_}
 use mathlib.Core.Option.{some}
 use native.Mathlib.Omega.{arith}
 use lib.ListN.{length, take, drop}
-use Rattle.row.specs.Row.{EncodableAll}
-use Rattle.order.proofs.OrderLaws.{numbers}
+use Rattle.row.specs.Row.{Row, encodeRows, contentsOf, EncodableAll}
+use Rattle.order.proofs.OrderLaws.{numbers, compare-self}
 use Rattle.machine.specs.Map.{Map, byNumber, remove, place}
 use Rattle.machine.specs.State.{Part}
-use Rattle.machine.specs.Steps.{fit}
+use Rattle.machine.specs.Steps.{fit, contents}
 use Rattle.machine.proofs.Options.{none-some}
 use Rattle.machine.proofs.MapPlaces.{split-found}
 use Rattle.machine.proofs.Fit.{fit-cons}
-use Rattle.layout.specs.Memory.{partRows}
+use Rattle.layout.specs.Memory.{partRow, partRows}
 use Rattle.contract.specs.Answers.{partList}
-use Rattle.join_order.specs.Region.{listedRows, ListedAt, orderedTables}
+use Rattle.join_order.specs.Region.{listedRows, ListedAt, partNumbers, orderedTables, orderedArena}
 use Rattle.join_order.specs.Digests.{OrderedAt}
 use Rattle.join_order.proofs.Rows.{encodable-append-right, encodable-head}
 use Rattle.join_order.proofs.Ordering.{encodable-remove}
@@ -60,3 +60,26 @@ module _ (t a : List ℕ) (at base : ℕ) (list : List ℕ) (k : ListedAt t a at
   pub ordered-listed : (t′ : List ℕ) (e : t′ ≡ orderedTables t a at base list k) → ordered-at t′ e .listed ≡ k .listed
   unfolding ordered-at
   ordered-listed t′ e = refl
+
+-- Parts that stand in listed order ---------------------------------------------------------------------------------------
+
+in-order-rows : (m : Map ℕ Part) (ys : List Part) → fit (partNumbers m) m ≡ some ys → (partRows m ≡ listedRows (partNumbers m) ys) × (contentsOf (partRows m) ≡ contents ys)
+unfolding partNumbers partRows listedRows contentsOf
+in-order-rows [] ys f = let e : [] ≡ ys = cc in (refl, ap contents e)
+in-order-rows (e ∷ m) ys f =
+    let c = fit-cons (e .0) (partNumbers m) (e ∷ m) ys f in
+    let here : e .1 ≡ c .0 = let z = rw (compare-self (e .0)) at (c .2) in cc in
+    let k = in-order-rows m (c .1) (rw (compare-self (e .0)) at (c .3)) in (
+      (λ i. partRow (e .0) (here i) ∷ k .0 i) ∙ ap (λ (l : List Part). listedRows (e .0 ∷ partNumbers m) l) (c .4),
+      (λ i. here i .content ++ k .1 i) ∙ ap contents (c .4),
+    )
+
+pub in-order : (t a : List ℕ) (at base : ℕ) (list : List ℕ) (k : ListedAt t a at base list) → partList list ≡ partNumbers (k .region .parts)
+    → (t ≡ orderedTables t a at base list k) × (a ≡ orderedArena t a at base list k)
+unfolding orderedTables orderedArena
+in-order t a at base list k e =
+    let r = k .region in
+    let z = in-order-rows (r .parts) (k .listed) (ap (λ (ns : List ℕ). fit ns (r .parts)) (sym e) ∙ k .fits) in (
+      r .tables ∙ ap (λ (rs : List Row). r .before ++ (encodeRows rs ++ r .after)) (z .0 ∙ ap (λ (ns : List ℕ). listedRows ns (k .listed)) (sym e)),
+      r .arena ∙ ap (λ (l : List ℕ). r .arena-before ++ (l ++ r .arena-after)) (z .1),
+    )

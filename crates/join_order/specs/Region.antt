@@ -1,6 +1,7 @@
 -- Rows of parts that stand in the tables, with their data in the arena, and the same rows in listed order. Assumes nothing.
-use Prim.Native.Nat.{ℕ, _*_}
+use Prim.Native.Nat.{ℕ, _*_, _≤_}
 use mathlib.Core.Path.{_≡_}
+use mathlib.Core.Bool.{Bool, true}
 use mathlib.Core.List.{List, [], _∷_, _++_}
 use mathlib.Core.Option.{some}
 use lib.ListN.{length, take}
@@ -60,6 +61,21 @@ pub record ListedAt (t a : List ℕ) (at base : ℕ) (list : List ℕ) : Type 0 
   pub listed : List Part
   pub fits : fit (partList list) (region .parts) ≡ some listed
   pub even : length list ≡ 2 * length (partList list)
+
+-- the numbers of parts, in their order
+unfoldable pub partNumbers : Map ℕ Part → List ℕ
+partNumbers [] = []
+partNumbers (e ∷ m) = e .0 ∷ partNumbers m
+
+-- where `ascends` is true, the list has the numbers of these parts in their order
+abbrev pub InOrder : (ascends : Bool) (list : List ℕ) → Map ℕ Part → Type 0
+InOrder ascends list m = ascends ≡ true → partList list ≡ partNumbers m
+
+-- what `arrange` asks
+pub record Arrangeable (t a : List ℕ) (at base : ℕ) (list : List ℕ) (ascends : Bool) : Type 0 where
+  pub listed-at : ListedAt t a at base list
+  pub in-order : InOrder ascends list (listed-at .region .parts)
+  pub few : length list ≤ 512
 
 -- tables and arena with the parts in listed order
 module _ (t a : List ℕ) (at base : ℕ) (list : List ℕ) (k : ListedAt t a at base list) where

@@ -3,10 +3,8 @@ mod digests;
 
 use md5::words::Digest;
 ghost use mathlib.Core.Path.{_≡_};
-ghost use Prim.Native.Nat.{_≤_};
-ghost use lib.ListN.{length};
 ghost use Rattle.join_order.specs.Region.{PartAt, foundIn, Brought};
-ghost use Rattle.join_order.specs.Region.{ListedAt, orderedTables, orderedArena, Arranged};
+ghost use Rattle.join_order.specs.Region.{ListedAt, orderedTables, orderedArena, Arrangeable, Arranged};
 
 // The bytes of rows and of data before a part's, and the size of its data.
 pub struct Found {
@@ -52,7 +50,6 @@ fn bring(tables: &mut [u8], arena: &mut [u8], at: usize, base: usize, number: u3
 
 // The parts at `at` brought into listed order, with their data at `base`: each listed part to the front of those that
 // remain.
-// Nothing moves where the list ascends.
 fn order_parts(tables: &mut [u8], arena: &mut [u8], at: usize, base: usize, list: &[u8])
     requires { ⌜ ListedAt (now tables) (now arena) at base (now list) ⌝ }
     ensures { λ _. ⌜ ((k : ListedAt (now (tables .entry)) (now (arena .entry)) at base (now (list .entry)))
@@ -72,13 +69,22 @@ fn order_parts(tables: &mut [u8], arena: &mut [u8], at: usize, base: usize, list
     }
 }
 
-// The same, and then the digest of the digests in listed order.
-pub fn arrange(tables: &mut [u8], arena: &mut [u8], at: usize, base: usize, list: &[u8]) -> Digest
-    requires { ⌜ ListedAt (now tables) (now arena) at base (now list) × (length (now list) ≤ 512) ⌝ }
-    ensures { λ r. ⌜ ((k : ListedAt (now (tables .entry)) (now (arena .entry)) at base (now (list .entry)))
-        → Arranged (now (tables .entry)) (now (arena .entry)) at base (now (list .entry)) k
+// The same, and then the digest of the digests in listed order. `ascends` says that the parts stand in listed order already.
+pub fn arrange(
+    tables: &mut [u8],
+    arena: &mut [u8],
+    at: usize,
+    base: usize,
+    list: &[u8],
+    ascends: bool,
+) -> Digest
+    requires { ⌜ Arrangeable (now tables) (now arena) at base (now list) ascends ⌝ }
+    ensures { λ r. ⌜ ((k : Arrangeable (now (tables .entry)) (now (arena .entry)) at base (now (list .entry)) ascends)
+        → Arranged (now (tables .entry)) (now (arena .entry)) at base (now (list .entry)) (k .listed-at)
         (now (tables .exit)) (now (arena .exit)) r) ⌝ }
 {
-    order_parts(tables, arena, at, base, list);
+    if !ascends {
+        order_parts(tables, arena, at, base, list);
+    }
     digests::joined_digest(tables, at, list.len() / 2)
 }

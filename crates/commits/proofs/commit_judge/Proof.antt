@@ -116,18 +116,18 @@ rows-end-after-requires c κs =
     let p = c .before .before .before .before .before .before .before in
     let k = p .before in
     let x = is-some _ (is-open k) in
-    (start k .pre .0, next-row-place (s k) (u k) (x .0) (p .judge-list .result .parts) (x .1) (p .judge-list .ensures (u k) (x .0) (here-is k) (x .1) .1))
+    (start k .pre .0, next-row-place (s k) (u k) (x .0) (p .judge-list .result .parts) (x .1) (p .judge-list .ensures (u k) (x .0) (here-is k) (x .1) .2))
 
 upload-bounds-requires : tie.Need-upload-bounds-requires
 upload-bounds-requires c κs =
     let p = c .before .before .before .before .before .before .before .before in
-    (there (p .before), λ v x q e. p .judge-list .ensures v x q e .1, c .rows-end-after .ensures)
+    (there (p .before), λ v x q e. p .judge-list .ensures v x q e .2, c .rows-end-after .ensures)
 
 returns-4 : tie.Need-returns-4
 returns-4 c =
     let m = c .before .before .before .before .before .before .before in
     let k = known m in
-    (sym (c .before .before .before .before .before .if3 .left) ∙ judged m, λ z x e. (c .before .upload-bounds .ensures (u k) x (here-is k) e, m .commit-room .ensures (u k) x (here-is k) e .1))
+    (sym (c .before .before .before .before .before .if3 .left) ∙ judged m, λ z x e. (c .before .upload-bounds .ensures (u k) x (here-is k) e, m .commit-room .ensures (u k) x (here-is k) e .1, m .before .before .before .judge-list .ensures (u k) x (here-is k) e .1))
 
 pub commit-judge-spec : {M : Type 1} → statement M
 commit-judge-spec =

@@ -38,8 +38,8 @@ module _ (c : tie.Else1) where
   zero : resultOf (outcome (COMMIT (start .args .upload .0) (partList (start .args .list .now))) (memory (start .args .tables .now) (start .args .arena .now))) ≡ 0
   zero = sym (c .before .before .commit-judge .ensures .0) ∙ c .if1 .left
 
-  abbrev ready : Joinable (start .args .tables .now) (start .args .arena .now) (start .args .upload .0) (room .bounds) (room .place) (start .args .list .now)
-  ready = commit-ready _ _ _ _ (start .pre .0) zero bytes (room .bounds) (room .place) (c .before .before .commit-judge .ensures .1 (c .if1 .left))
+  abbrev ready : Joinable (start .args .tables .now) (start .args .arena .now) (start .args .upload .0) (room .bounds) (room .place) (start .args .list .now) (room .ascends)
+  ready = commit-ready _ _ _ _ (start .pre .0) zero bytes (room .bounds) (room .place) (room .ascends) (c .before .before .commit-judge .ensures .1 (c .if1 .left))
 
 join-requires : tie.Need-join-requires
 join-requires c κs = ready (c .before .before)
@@ -54,7 +54,7 @@ returns-2 : tie.Need-returns-2
 returns-2 c =
     let k = c .before .before .before .before .before .before .before in
     let o = c .before .before .before .before .join in
-    let accepted = commit-done _ _ _ _ (start k .pre .0) (zero k) (bytes k) (room k .bounds) (room k .place) (k .before .before .commit-judge .ensures .1 (k .if1 .left)) in
+    let accepted = commit-done _ _ _ _ (start k .pre .0) (zero k) (bytes k) (room k .bounds) (room k .place) (room k .ascends) (k .before .before .commit-judge .ensures .1 (k .if1 .left)) in
     (done nothing noBuffers _ accepted refl (o .ensures (ready k)) (o .kept .0) (o .kept .1 .0), tt)
 
 pub commit-whole-spec : {M : Type 1} → statement M

@@ -1,6 +1,7 @@
 -- `commits::judge_list` meets its contract. In order it fits. The invariant of other lists: the first i numbers fit. Assumes nothing.
 use Prim.Native.Nat.{ℕ, _+_, _-_, _*_, _≤_}
 use mathlib.Core.Path.{_≡_, sym, _∙_, subst}
+use mathlib.Core.Bool.{false≢true}
 use mathlib.Core.Option.{some}
 use mathlib.Core.List.{List}
 use native.Mathlib.Omega.{arith}
@@ -17,7 +18,7 @@ use Rattle.find.specs.Places.{uploadRowOf, partsRowOf, passedParts}
 use Rattle.find.proofs.Found.{is-some}
 use Rattle.find_uploads.proofs.Answers.{open-row-place, first-part-row, parts-row-place}
 use Rattle.commits.proofs.Fitting.{unfit-number, Passed, passed-none, passed-next, count-is, unfit-list, ordered-list, fit-list, count-few}
-use Rattle.commits.proofs.Ordered.{reached-after, reached-within, reached-row-place}
+use Rattle.commits.proofs.Ordered.{reached-after, reached-within, reached-row-place, ordered-numbers}
 use Rattle.commits.proofs.judge_list.Statement.{statement}
 use Rattle.commits.proofs.judge_list.Tie as tie
 
@@ -108,7 +109,7 @@ returns : tie.Need-returns Inv-loop μ-loop
 returns c v x q e =
     let p = c .before in
     let n = row p in
-    (unfit-list (t n) (a n) (bytes n) (start n .pre .0) v (parts p .count) x e (counted p v x q e) (list n) (omega (arith, c .if1 .taken)), parts-are p v x q e)
+    (unfit-list (t n) (a n) (bytes n) (start n .pre .0) v (parts p .count) x e (counted p v x q e) (list n) (omega (arith, c .if1 .taken)), λ z. absurd (false≢true z), parts-are p v x q e)
 
 returns-2 : tie.Need-returns-2 Inv-loop μ-loop
 returns-2 c v x q e =
@@ -117,7 +118,7 @@ returns-2 c v x q e =
     let n = row p in
     let r = p .before .pass-listed in
     let are = parts-are p v x q e in
-    (ordered-list (t n) (a n) (bytes n) (start n .pre .0) v (parts p .count) x e (counted p v x q e) (first n) (first-is n v q) (list n) (r .result) (r .ensures) (parts p) are (c .if2 .taken) (omega (arith, d .if1 .left)), are)
+    (ordered-list (t n) (a n) (bytes n) (start n .pre .0) v (parts p .count) x e (counted p v x q e) (first n) (first-is n v q) (list n) (r .result) (r .ensures) (parts p) are (c .if2 .taken) (omega (arith, d .if1 .left)), λ z. ordered-numbers (s n) v x e (first n) (first-is n v q) (list n) (r .result) (r .ensures) (parts p) are (c .if2 .taken) (omega (arith, d .if1 .left, counted p v x q e)), are)
 
 -- at the loop
 module _ (c : tie.At-loop Inv-loop μ-loop) where
@@ -146,7 +147,7 @@ returns-3 c v x q e =
     let i = c .before .before in
     let p = known (i .before) in
     let n = row p in
-    (unfit-number (x .parts) (list n) (i .before .loop .i) (inside i) (sym (c .before .number-fits .ensures v x (first-is n v q) e) ∙ not-true _ (c .if3 .taken)), parts-are p v x q e)
+    (unfit-number (x .parts) (list n) (i .before .loop .i) (inside i) (sym (c .before .number-fits .ensures v x (first-is n v q) e) ∙ not-true _ (c .if3 .taken)), λ z. absurd (false≢true z), parts-are p v x q e)
 
 add-i : tie.Need-add-i Inv-loop μ-loop
 add-i c = omega arith
@@ -167,7 +168,7 @@ returns-4 c v x q e =
     let p = known l in
     let n = row p in
     let end : l .loop .i ≡ parts p .count = omega arith in
-    (fit-list (t n) (a n) (bytes n) (start n .pre .0) v (parts p .count) x e (counted p v x q e) (list n) (twice l) (subst (Passed (x .parts) (list n)) end (l .loop .inv .1 v x (first-is n v q) e)), parts-are p v x q e)
+    (fit-list (t n) (a n) (bytes n) (start n .pre .0) v (parts p .count) x e (counted p v x q e) (list n) (twice l) (subst (Passed (x .parts) (list n)) end (l .loop .inv .1 v x (first-is n v q) e)), λ z. absurd (false≢true z), parts-are p v x q e)
 
 pub judge-list-spec : {M : Type 1} → statement M
 judge-list-spec =

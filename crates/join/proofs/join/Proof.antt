@@ -101,8 +101,8 @@ module _ (c : tie.After-copy-at) where
   abbrev n : ℕ
   n = read .read-head .result .pathlen
 
-  at-path : (j : Joinable (t here) (a here) (u here) (b here) (start here .args .place) (start here .args .list .now))
-      → JoinableAt (t here) (a here) (u here) (b here) (start here .args .place) (start here .args .list .now) (take n (c .copy-at .last .0)) (read .read-head .result .stamp)
+  at-path : (j : Joinable (t here) (a here) (u here) (b here) (start here .args .place) (start here .args .list .now) (start here .args .ascends))
+      → JoinableAt (t here) (a here) (u here) (b here) (start here .args .place) (start here .args .list .now) (start here .args .ascends) (take n (c .copy-at .last .0)) (read .read-head .result .stamp)
   at-path j =
       let l = j .listed in
       let there = path-there (t here) (a here) (s here) (stands here) (u here) (l .upload) (l .found) (b here .at) (at-is here) (read .read-head .result) (read .read-head .ensures) in

@@ -89,8 +89,8 @@ module _ (d : tie.After-copy-at) where
   short : n l ≤ length (d .copy-at .last .0)
   short = omega (arith, few l, d .copy-at .kept)
 
-  with-lengths : (j : JoinableAt (t (p l)) (a (p l)) (u (p l)) (b (p l)) (start (p l) .args .place) (list (p l)) (start (p l) .args .path .now) (start (p l) .args .stamp))
-      → JoinableWith (t (p l)) (a (p l)) (u (p l)) (b (p l)) (start (p l) .args .place) (list (p l)) (start (p l) .args .path .now) (take (n l) (d .copy-at .last .0)) (start (p l) .args .stamp)
+  with-lengths : (j : JoinableAt (t (p l)) (a (p l)) (u (p l)) (b (p l)) (start (p l) .args .place) (list (p l)) (start (p l) .args .ascends) (start (p l) .args .path .now) (start (p l) .args .stamp))
+      → JoinableWith (t (p l)) (a (p l)) (u (p l)) (b (p l)) (start (p l) .args .place) (list (p l)) (start (p l) .args .ascends) (start (p l) .args .path .now) (take (n l) (d .copy-at .last .0)) (start (p l) .args .stamp)
   with-lengths j = record { at-path = j; lengths-are = copied ∙ are l (j .joinable .listed) }
 
 array-share-prefix-lengths : tie.Need-array-share-prefix-lengths

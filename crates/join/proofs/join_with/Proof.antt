@@ -15,7 +15,7 @@ use Rattle.join.proofs.join_with.Tie as tie
 take-upload-requires : tie.Need-take-upload-requires
 take-upload-requires c κs =
     let j = c .before .before .before .before .before .before .before .pre .at-path .joinable in
-    (j .is-whole, j .listed, λ x f. j .placed x f .0)
+    (j .is-whole, j .listed, λ x f. let p = j .placed x f in (p .0, p .2))
 
 -- once the upload is out
 module _ (c : tie.After-take-upload) where
@@ -43,7 +43,7 @@ move-object-requires c κs =
     let j = start g .pre in
     let out = g .take-upload .ensures (j .at-path .joinable .listed) in
     let kept : length (a₁ g) ≡ length (a g) = omega (arith, g .take-upload .kept) in
-    (moved-place _ _ _ _ _ _ _ _ _ j (stands g) (t₁ g) (a₁ g) _ out, movable _ _ _ _ _ _ _ _ _ j (stands g) (t₁ g) (a₁ g) _ out kept)
+    (moved-place _ _ _ _ _ _ _ _ _ _ j (stands g) (t₁ g) (a₁ g) _ out, movable _ _ _ _ _ _ _ _ _ _ j (stands g) (t₁ g) (a₁ g) _ out kept)
 
 same-length : tie.Need-same-length
 same-length c = search needs
@@ -56,7 +56,7 @@ returns c =
     let m = c .before .before .before .before in
     let g = m .before .before .before .before .before .before .before in
     λ j. subst (λ (z : State). Stands (m .move-object .last .0) (m .move-object .last .1 .0) z)
-    (state-is _ _ _ _ _ _ _ _ _ j (stands g) (t₁ g) (a₁ g) _ (g .take-upload .ensures (j .at-path .joinable .listed)))
+    (state-is _ _ _ _ _ _ _ _ _ _ j (stands g) (t₁ g) (a₁ g) _ (g .take-upload .ensures (j .at-path .joinable .listed)))
     (m .move-object .ensures)
 
 pub join-with-spec : {M : Type 1} → statement M

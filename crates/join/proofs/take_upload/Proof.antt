@@ -13,6 +13,7 @@ use Rattle.layout.proofs.StandsLaws.{header-back}
 use Rattle.layout.proofs.WholeLaws.{whole-stands}
 use Rattle.layout.specs.Header.{headerOf, headerAt}
 use Rattle.contract.specs.Answers.{partList}
+use Rattle.join_order.specs.Region.{Arrangeable}
 use Rattle.join.specs.declared.Bounds.{Bounds}
 use Rattle.join.specs.Bounds.{boundsOf}
 use Rattle.join.specs.Joined.{Listed}
@@ -53,7 +54,16 @@ module _ (c : tie.After-struct-known) where
   header-is h e = e ∙ header-back t a s stands
 
   told : (l : Listed s u (partList list)) → b ≡ boundsOf s u (l .upload)
-  told l = start .pre .2 (l .upload) (l .found)
+  told l = start .pre .2 (l .upload) (l .found) .0
+
+  -- what `arrange` asks
+  abbrev region : Listed s u (partList list) → Arrangeable t a (b .first) (b .parts) list (start .args .ascends)
+  region l =
+      record {
+        listed-at = listed-at t a s stands u (l .upload) (l .found) list (l .listed) (l .fits) b (told l);
+        in-order = start .pre .2 (l .upload) (l .found) .1;
+        few = few t a s stands u (l .upload) (l .found) list (l .listed) (l .fits) b (told l);
+      }
 
   some : (h : Header) → h ≡ headerAt t → (1 ≤ h .uploads) × (b .count ≤ h .parts) × (b .count ≤ partsMost)
   some h e = some-upload t a s stands u (k .upload) (k .found) list (k .listed) (k .fits) b (told k) h (header-is h e)
@@ -64,17 +74,14 @@ cast-count c = omega (arith, some c (headerAt (t c)) (λ i. headerAt (t c)) .2)
 read-header-requires : tie.Need-read-header-requires
 read-header-requires c κs = let z = stands (c .before) .size in omega arith
 
-sub-t13 : tie.Need-sub-t13
-sub-t13 c = let h = c .before in omega (arith, some (h .before .before) (h .read-header .result) (h .read-header .ensures) .0)
-
 sub-t14 : tie.Need-sub-t14
-sub-t14 c = let h = c .before .before in omega (arith, some (h .before .before) (h .read-header .result) (h .read-header .ensures) .1)
+sub-t14 c = let h = c .before in omega (arith, some (h .before .before) (h .read-header .result) (h .read-header .ensures) .0)
+
+sub-t15 : tie.Need-sub-t15
+sub-t15 c = let h = c .before .before in omega (arith, some (h .before .before) (h .read-header .result) (h .read-header .ensures) .1)
 
 arrange-requires : tie.Need-arrange-requires
-arrange-requires c κs =
-    let e = c .before .before .before .before .before .before in
-    let l = k e in
-    (listed-at (t e) (a e) (s e) (stands e) (u e) (l .upload) (l .found) (list e) (l .listed) (l .fits) (b e) (told e l), few (t e) (a e) (s e) (stands e) (u e) (l .upload) (l .found) (list e) (l .listed) (l .fits) (b e) (told e l))
+arrange-requires c κs = let e = c .before .before .before .before .before .before in region e (k e)
 
 cut-requires : tie.Need-cut-requires
 cut-requires c κs =
@@ -102,9 +109,8 @@ returns c =
     let kept′ : length (d .cut .last .1 .0) ≡ length (a e) = omega (arith, g .arrange .kept, d .cut .kept) in
     λ l.
     let is = told e l in
-    let region = listed-at (t e) (a e) (s e) (stands e) (u e) (l .upload) (l .found) (list e) (l .listed) (l .fits) (b e) is in
     let z = taken (t e) (a e) (s e) (stands e) (u e) (l .upload) (l .found) (list e) (l .listed) (l .fits) (b e) is (g .arrange .last .0) (g .arrange .last .1 .0) (d .cut .last .0) (d .cut .last .1 .0)
-    (g .arrange .result) (h .read-header .result) (g .arrange .ensures region) kept (header-is e (h .read-header .result) (h .read-header .ensures)) (d .cut .ensures .0) (d .cut .ensures .1) kept₂ kept′ in
+    (g .arrange .result) (h .read-header .result) (g .arrange .ensures (region e l)) kept (header-is e (h .read-header .result) (h .read-header .ensures)) (d .cut .ensures .0) (d .cut .ensures .1) kept₂ kept′ in
     record { stands = z .0; content = z .1; size-is = z .2; count-is = z .3; digest-is = z .4; end-is = d .cut .ensures .2 ∙ end-left (t e) (a e) (s e) (stands e) (u e) (l .upload) (l .found) (list e) (l .listed) (l .fits) (b e) is }
 
 pub take-upload-spec : {M : Type 1} → statement M
@@ -113,8 +119,8 @@ take-upload-spec =
     (tie.spec
     cast-count
     read-header-requires
-    sub-t13
     sub-t14
+    sub-t15
     arrange-requires
     cut-requires
     same-length

@@ -48,7 +48,9 @@ pub fn abort_whole(
     if judged.refusal != 0 {
         return DoneAnswer::Refused(judged.refusal);
     }
-    edit_uploads::uploads::remove_upload(tables, arena, upload.0, judged.place);
+    let here = find::place_of(judged.place);
+    let end = find_uploads::rows_end(tables, arena, uploads);
+    edit_uploads::uploads::remove_upload(tables, arena, here, end);
     DoneAnswer::Done
 }
 

@@ -11,7 +11,7 @@ use Rattle.md5.specs.declared.words.Digest.{Digest}
 use Rattle.md5.specs.Md5.{bytesOf}
 use Rattle.order.proofs.OrderLaws.{numbers}
 use Rattle.buffer.specs.Buffer.{spliced}
-use Rattle.machine.specs.Map.{isSome, Map, byNumber, lookup, total}
+use Rattle.machine.specs.Map.{Map, byNumber, lookup, total}
 use Rattle.machine.specs.Names.{Bytes}
 use Rattle.machine.specs.Pairs.{pairsHeld}
 use Rattle.machine.specs.State.{Upload, State, held, partsIn, withUpload, withoutUpload, withNext}
@@ -33,15 +33,14 @@ use Rattle.layout.specs.Memory.{rowsOf, uploadRow, partRows, whole, stateOf, St
 use Rattle.layout.proofs.TestLaws.{stored-path-length}
 use Rattle.layout.proofs.UploadLaws.{upload-encodable}
 use Rattle.layout.proofs.WholeLaws.{whole-stands}
-use Rattle.layout.proofs.StandsLaws.{header-back}
+use Rattle.layout.proofs.StandsLaws.{header-back, stands-state}
 use Rattle.layout.proofs.RowCounts.{length-contents}
 use Rattle.find.specs.declared.RowPlace.{RowPlace}
 use Rattle.layout.specs.Header.{headerOf, headed, headerAt, headerLength}
-use Rattle.find.specs.declared.Lookup.{Lookup}
 use Rattle.find.specs.declared.PassedParts.{PassedParts}
-use Rattle.find.specs.Places.{placeAfter, beforeUpload, beforeParts, afterUpload, throughParts, uploadPlace, passedParts}
-use Rattle.find.proofs.Splits.{upload-found, parts-after}
-use Rattle.find.proofs.Found.{is-some}
+use Rattle.find.specs.Places.{placeAfter, beforeUpload, beforeParts, fromUpload, afterUpload, throughParts, uploadRowOf, passedParts}
+use Rattle.find.proofs.Splits.{upload-place, upload-found, parts-after}
+use Rattle.find_uploads.proofs.Answers.{PlacedAfter, place-after, placed-after}
 use Rattle.edit.proofs.Changes.{new-upload-rows, without-upload-rows}
 use Rattle.edit.proofs.Fit.{tables-fit}
 use Rattle.edit.proofs.Standing.{removed}
@@ -79,6 +78,9 @@ module _ (t a : List ℕ) (b : AreBytes t) (w : whole t a ≡ true) (end : RowPl
 
   parts-are : header .parts ≡ total partsIn (s .U)
   parts-are = ap (λ (h : Header). h .parts) header-is
+
+  rows-are : end .row ≡ length (rowsOf s)
+  rows-are = ap (λ (x : RowPlace). x .row) end-is
 
   used-is : end .at ≡ headerLength + length (encodeRows (rowsOf s))
   used-is = ap (λ (x : RowPlace). x .at) end-is
@@ -190,14 +192,8 @@ module _ (t a : List ℕ) (b : AreBytes t) (w : whole t a ≡ true) (end : RowPl
           }
 
   -- taken out
-  module _ (u : ℕ) (there : isSome (lookup byNumber u (s .U)) ≡ true) (place : Lookup) (place-is : place ≡ uploadPlace s u)
-      (parts : PassedParts) (parts-told : (x : Upload) → lookup byNumber u (s .U) ≡ some x → parts ≡ passedParts s u x) where
-    abbrev y : Upload
-    y = is-some (lookup byNumber u (s .U)) there .0
-
-    found : lookup byNumber u (s .U) ≡ some y
-    found = is-some (lookup byNumber u (s .U)) there .1
-
+  module _ (u : ℕ) (y : Upload) (found : lookup byNumber u (s .U) ≡ some y) (here : RowPlace) (here-is : here ≡ uploadRowOf s u)
+      (parts : PassedParts) (parts-told : parts ≡ passedParts s u y) where
     abbrev gone : List Row
     gone = uploadRow u y ∷ partRows (y .parts)
 
@@ -205,65 +201,41 @@ module _ (t a : List ℕ) (b : AreBytes t) (w : whole t a ≡ true) (end : RowPl
     unfolding throughParts beforeParts
     through = append-assoc (beforeUpload s u) (uploadRow u y ∷ []) (partRows (y .parts))
 
-    at-is : place .at ≡ headerLength + length (encodeRows (beforeUpload s u))
-    unfolding uploadPlace
-    at-is = ap (λ (k : Lookup). k .at) place-is
+    here-after : PlacedAfter (rowsOf s) (beforeUpload s u) (fromUpload s u) here
+    here-after = placed-after (rowsOf s) (beforeUpload s u) (fromUpload s u) here (upload-place s u) here-is
 
-    base-is : place .base ≡ length (contentsOf (beforeUpload s u))
-    unfolding uploadPlace
-    base-is = ap (λ (k : Lookup). k .base) place-is
+    next-after : PlacedAfter (rowsOf s) (throughParts s u y) (afterUpload s u) (parts .next)
+    unfolding passedParts
+    next-after =
+        placed-after (rowsOf s) (throughParts s u y) (afterUpload s u) (parts .next) (parts-after s u y found)
+        (ap (λ (k : PassedParts). k .next) parts-told ∙ sym (place-after (rowsOf s) (throughParts s u y) (afterUpload s u) (parts-after s u y found)))
 
     count-is : parts .count ≡ length (y .parts)
     unfolding passedParts
-    count-is = ap (λ (k : PassedParts). k .count) (parts-told y found)
+    count-is = ap (λ (k : PassedParts). k .count) parts-told
 
-    at-through : parts .next .at ≡ headerLength + length (encodeRows (throughParts s u y))
-    unfolding passedParts
-    at-through = ap (λ (k : PassedParts). k .next .at) (parts-told y found)
+    -- what a sum over rows is before the upload, with it, in all, and without it
+    record Summed (f : List Row → ℕ) : Type 0 where
+      passed : f (throughParts s u y) ≡ f (beforeUpload s u) + f gone
+      all : f (rowsOf s) ≡ f (throughParts s u y) + f (afterUpload s u)
+      left : f (rowsOf (withoutUpload s u)) ≡ f (beforeUpload s u) + f (afterUpload s u)
 
-    base-through : parts .next .base ≡ length (contentsOf (throughParts s u y))
-    unfolding passedParts
-    base-through = ap (λ (k : PassedParts). k .next .base) (parts-told y found)
+    summed : (f : List Row → ℕ) → ((xs ys : List Row) → f (xs ++ ys) ≡ f xs + f ys) → Summed f
+    summed f adds =
+        record {
+          passed = ap f through ∙ adds (beforeUpload s u) gone;
+          all = ap f (parts-after s u y found) ∙ adds (throughParts s u y) (afterUpload s u);
+          left = ap f (without-upload-rows s u y found) ∙ adds (beforeUpload s u) (afterUpload s u);
+        }
 
-    parts-at : parts .next .at ≡ place .at + length (encodeRows gone)
-    parts-at =
-        omega (
-          arith,
-          at-through,
-          at-is,
-          ap length (ap encodeRows through ∙ encode-append (beforeUpload s u) gone),
-          length-append (encodeRows (beforeUpload s u)) (encodeRows gone),
-        )
+    rows-summed : Summed length
+    rows-summed = summed length length-append
 
-    parts-base : parts .next .base ≡ place .base + length (contentsOf gone)
-    parts-base =
-        omega (
-          arith,
-          base-through,
-          base-is,
-          ap length (ap contentsOf through ∙ contents-append (beforeUpload s u) gone),
-          length-append (contentsOf (beforeUpload s u)) (contentsOf gone),
-        )
+    bytes-summed : Summed (λ rs. length (encodeRows rs))
+    bytes-summed = summed (λ rs. length (encodeRows rs)) (λ xs ys. ap length (encode-append xs ys) ∙ length-append (encodeRows xs) (encodeRows ys))
 
-    rows-length : end .at ≡ parts .next .at + length (encodeRows (afterUpload s u))
-    rows-length =
-        omega (
-          arith,
-          used-is,
-          at-through,
-          ap length (ap encodeRows (parts-after s u y found) ∙ encode-append (throughParts s u y) (afterUpload s u)),
-          length-append (encodeRows (throughParts s u y)) (encodeRows (afterUpload s u)),
-        )
-
-    data-length : end .base ≡ parts .next .base + length (contentsOf (afterUpload s u))
-    data-length =
-        omega (
-          arith,
-          held-is,
-          base-through,
-          ap length (ap contentsOf (parts-after s u y found) ∙ contents-append (throughParts s u y) (afterUpload s u)),
-          length-append (contentsOf (throughParts s u y)) (contentsOf (afterUpload s u)),
-        )
+    data-summed : Summed (λ rs. length (contentsOf rs))
+    data-summed = summed (λ rs. length (contentsOf rs)) (λ xs ys. ap length (contents-append xs ys) ∙ length-append (contentsOf xs) (contentsOf ys))
 
     abbrev closed : Header
     closed = record { arena = header .arena; next = header .next; objects = header .objects; uploads = header .uploads - 1; parts = header .parts - parts .count }
@@ -274,34 +246,64 @@ module _ (t a : List ℕ) (b : AreBytes t) (w : whole t a ≡ true) (end : RowPl
         let less : total partsIn (s .U) - parts .count ≡ total partsIn (withoutUpload s u .U) = omega (arith, count-is, rw found at (total-remove numbers partsIn u (s .U))) in
         rw (header-is, one, less)
 
+    -- where the rows end then
+    abbrev left : RowPlace
+    left =
+        record {
+          row = end .row - (parts .next .row - here .row);
+          at = end .at - (parts .next .at - here .at);
+          base = end .base - (parts .next .base - here .base);
+        }
+
+    left-is : left ≡ placeAfter (rowsOf (withoutUpload s u))
+    left-is =
+        let h = here-after in
+        let n = next-after in
+        let rows = rows-summed in
+        let bytes = bytes-summed in
+        let content = data-summed in
+        let r : left .row ≡ length (rowsOf (withoutUpload s u)) = omega (arith, rows-are) in
+        let t : left .at ≡ headerLength + length (encodeRows (rowsOf (withoutUpload s u))) = omega (arith, used-is) in
+        let b : left .base ≡ length (contentsOf (rowsOf (withoutUpload s u))) = omega (arith, held-is) in
+        λ i. record { row = r i; at = t i; base = b i }
+
     pub record Removal : Type 0 where
-      pub span : place .at ≤ parts .next .at
-      pub size : place .base ≤ parts .next .base
+      pub some-rows : here .row ≤ parts .next .row
+      pub span : here .at ≤ parts .next .at
+      pub size : here .base ≤ parts .next .base
       pub uploads : 1 ≤ header .uploads
       pub count : parts .count ≤ header .parts
       pub few : header .parts ≤ partsMost
-      pub rows : (headerLength ≤ place .at) × (place .at + (parts .next .at - place .at) ≤ end .at) × (end .at ≤ length t)
-      pub content : (place .base + (parts .next .base - place .base) ≤ end .base) × (end .base ≤ length a)
-      pub stands : (t′ a′ : List ℕ) → t′ ≡ headed (spliced t (place .at) (parts .next .at - place .at) (end .at) []) closed
-          → a′ ≡ spliced a (place .base) (parts .next .base - place .base) (end .base) [] → length t′ ≡ length t → length a′ ≡ length a → Stands t′ a′ (withoutUpload s u)
+      pub within : parts .next .row - here .row ≤ end .row
+      pub rows : (headerLength ≤ here .at) × (here .at + (parts .next .at - here .at) ≤ end .at) × (end .at ≤ length t)
+      pub content : (here .base + (parts .next .base - here .base) ≤ end .base) × (end .base ≤ length a)
+      pub stands : (t′ a′ : List ℕ) → t′ ≡ headed (spliced t (here .at) (parts .next .at - here .at) (end .at) []) closed
+          → a′ ≡ spliced a (here .base) (parts .next .base - here .base) (end .base) [] → length t′ ≡ length t → length a′ ≡ length a → Stands t′ a′ (withoutUpload s u)
+      pub ends : (t′ a′ : List ℕ) → Stands t′ a′ (withoutUpload s u) → left ≡ placeAfter (rowsOf (stateOf t′ a′))
 
     pub removal : Removal
     removal =
-        let span : place .at ≤ parts .next .at = omega (arith, parts-at) in
-        let size : place .base ≤ parts .next .base = omega (arith, parts-base) in
+        let h = here-after in
+        let n = next-after in
+        let rows = rows-summed in
+        let bytes = bytes-summed in
+        let content = data-summed in
         record {
-          span = span;
-          size = size;
+          some-rows = omega arith;
+          span = omega arith;
+          size = omega arith;
           uploads = omega (arith, uploads-are, rw found at (length-remove numbers u (s .U)));
           count = omega (arith, count-is, parts-are, total-share numbers partsIn u y (s .U) found);
           few = let l = stands .valid .parts in omega (arith, parts-are);
+          within = omega (arith, rows-are);
           rows =
               let f = tables-fit (length a) s (stands .small) (stands .valid) in
-              (omega (arith, at-is), omega (arith, rows-length), omega (arith, used-is, stands .size));
-          content = let v = stands .valid .room in (omega (arith, data-length), omega (arith, held-is, length-contents s));
+              (omega arith, omega (arith, used-is), omega (arith, used-is, stands .size));
+          content = let v = stands .valid .room in (omega (arith, held-is), omega (arith, held-is, length-contents s));
           stands =
               λ t′ a′ e e′ l l′.
               removed t a s stands (withoutUpload s u) (without-upload-valid (length a) s u (stands .valid)) _ t′ a′ _ closed-is e l l′ (beforeUpload s u) gone (afterUpload s u)
-              (place .at) (parts .next .at - place .at) (end .at) (place .base) (parts .next .base - place .base) (end .base) (upload-found s u y found) (without-upload-rows s u y found)
-              at-is (omega (arith, parts-at)) used-is refl base-is (omega (arith, parts-base)) held-is e′;
+              (here .at) (parts .next .at - here .at) (end .at) (here .base) (parts .next .base - here .base) (end .base) (upload-found s u y found) (without-upload-rows s u y found)
+              (h .at) (omega arith) used-is refl (h .base) (omega arith) held-is e′;
+          ends = λ t′ a′ z. left-is ∙ ap (λ (x : State). placeAfter (rowsOf x)) (sym (stands-state t′ a′ _ z));
         }

@@ -1,5 +1,4 @@
 // An upload opened, and taken out with its parts.
-use find::Lookup;
 use find::RowPlace;
 use layout::Header;
 use md5::words::Digest;
@@ -9,9 +8,9 @@ ghost use mathlib.Core.Bool.{true};
 ghost use Rattle.machine.specs.Pairs.{pairsOk, pairList};
 ghost use Rattle.machine.specs.State.{withUpload, withoutUpload, withNext};
 ghost use Rattle.machine.specs.Steps.{newUpload};
-ghost use Rattle.layout.specs.Memory.{stateOf};
-ghost use Rattle.find.specs.Places.{placeAfter, uploadPlace};
-ghost use Rattle.find.specs.Known.{rowsIn, WholeOpen};
+ghost use Rattle.layout.specs.Memory.{Stands};
+ghost use Rattle.find.specs.Places.{placeAfter};
+ghost use Rattle.find.specs.Known.{rowsIn, WholeOpenAt, OfOpenAt};
 ghost use Rattle.edit.specs.Blocks.{keptOf};
 ghost use Rattle.edit.specs.Edits.{MayBecome, Becomes};
 
@@ -61,25 +60,20 @@ pub fn open_upload(
     edit::rows::replace_rows(tables, used, 0, used, h, digest, path, &lengths[..n], after);
 }
 
-// The upload with this number, taken out with its parts. `place` is what its lookup answers.
-pub fn remove_upload(tables: &mut [u8], arena: &mut [u8], upload: u32, place: Lookup)
-    requires { ⌜ WholeOpen (now tables) (now arena) upload × (place ≡ uploadPlace (stateOf (now tables) (now arena)) upload) ⌝ }
-    ensures { λ _. ⌜ Becomes (now (tables .entry)) (now (arena .entry)) (now (tables .exit)) (now (arena .exit))
-        (λ s. withoutUpload s upload) ⌝ }
+// The open upload whose row is at `here`, taken out with its parts. `end` is the end of the rows; the answer is where
+// they end then.
+pub fn remove_upload(tables: &mut [u8], arena: &mut [u8], here: RowPlace, end: RowPlace) -> RowPlace
+    requires { ⌜ WholeOpenAt (now tables) (now arena) here × (end ≡ placeAfter (rowsIn (now tables) (now arena))) ⌝ }
+    ensures { λ r. ⌜ OfOpenAt (now (tables .entry)) (now (arena .entry)) here
+        (λ s u x. Stands (now (tables .exit)) (now (arena .exit)) (withoutUpload s u))
+        × (r ≡ placeAfter (rowsIn (now (tables .exit)) (now (arena .exit)))) ⌝ }
 {
-    let at = place.at;
-    let base = place.base;
-    let here = RowPlace {
-        row: place.row,
-        at,
-        base,
-    };
     let parts = find_uploads::pass_parts(tables, arena, here);
     let next = parts.next;
-    let end = find_uploads::rows_end_after(tables, arena, next);
     let header = layout::headers::read_header(tables);
-    let n = next.at - at;
-    let m = next.base - base;
+    let rows = next.row - here.row;
+    let n = next.at - here.at;
+    let m = next.base - here.base;
     let after = Header {
         arena: header.arena,
         next: header.next,
@@ -87,6 +81,11 @@ pub fn remove_upload(tables: &mut [u8], arena: &mut [u8], upload: u32, place: Lo
         uploads: header.uploads - 1,
         parts: header.parts - parts.count as u16,
     };
-    edit::rows::remove_rows(tables, at, n, end.at, after);
-    buffer::remove(arena, base, m, end.base);
+    edit::rows::remove_rows(tables, here.at, n, end.at, after);
+    buffer::remove(arena, here.base, m, end.base);
+    RowPlace {
+        row: end.row - rows,
+        at: end.at - n,
+        base: end.base - m,
+    }
 }

@@ -1,21 +1,19 @@
 -- Where the rows of a state stand. Assumes nothing.
 use Prim.Native.Nat.{ℕ, suc, _+_, _≤_}
 use mathlib.Core.Path.{_≡_}
-use mathlib.Core.Bool.{Bool, true, false}
+use mathlib.Core.Bool.{Bool}
 use mathlib.Core.List.{List, [], _∷_, _++_}
 use lib.ListN.{length, take, drop}
 use Rattle.order.specs.Order.{byBytes}
-use Rattle.machine.specs.Map.{Map, isSome, byNumber, lookup, place}
+use Rattle.machine.specs.Map.{isSome, byNumber, lookup, place}
 use Rattle.machine.specs.Names.{Bytes}
 use Rattle.machine.specs.State.{Upload, State}
-use Rattle.machine.specs.Steps.{due}
 use Rattle.row.specs.Row.{Row, encodeRows, contentsOf}
 use Rattle.layout.specs.Memory.{objectRows, uploadRow, partRows, uploadRows, rowsOf}
 use Rattle.find.specs.declared.RowPlace.{RowPlace}
 use Rattle.layout.specs.Header.{headerLength}
 use Rattle.find.specs.declared.Lookup.{Lookup}
 use Rattle.find.specs.declared.PassedParts.{PassedParts}
-use Rattle.find.specs.declared.Numbered.{Numbered}
 use Rattle.find.specs.RowPlaces.{rowPlaceAt}
 
 -- a lookup that answers a place, and the place that a lookup answers
@@ -92,14 +90,6 @@ firstUploadRow s = rowPlaceAt (rowsOf s) (length (objectRows (s .O)))
 -- how many parts an upload has, and the place of the row after them
 unfoldable pub passedParts : State → ℕ → Upload → PassedParts
 passedParts s u x = record { count = length (x .parts); next = placeAfter (throughParts s u x) }
-
--- the number of the first upload, and of the first that started before a stamp
-unfoldable pub firstOf : Map ℕ Upload → Numbered
-firstOf [] = record { found = false; number = 0 }
-firstOf (e ∷ m) = record { found = true; number = e .0 }
-
-abbrev pub firstDue : (stamp : ℕ) → State → Numbered
-firstDue t s = firstOf (due t (s .U))
 
 -- the paths of the first i objects are below p, and the next row begins at `at`
 pub record Passed (s : State) (p : Bytes) (i at base : ℕ) : Type 0 where

@@ -34,12 +34,6 @@ pub struct RowPlace {
     pub base: usize,
 }
 
-// Whether there is such a row, and the number in it; where there is none, the number says nothing.
-pub struct Numbered {
-    pub found: bool,
-    pub number: u32,
-}
-
 // How many parts an upload has, and the place of the row after them.
 pub struct PassedParts {
     pub count: usize,

@@ -6,10 +6,11 @@ use mathlib.Core.List.{List, [], _∷_, _++_, append-nil}
 use mathlib.Core.Option.{some}
 use native.Mathlib.Omega.{arith}
 use lib.ListN.{length, take, drop, length-append, length-drop}
-use lib.Seq.{take-at, drop-at, drop-drop}
-use Rattle.machine.specs.Map.{isSome, byNumber, lookup, place}
+use lib.Seq.{take-at, drop-at, drop-append-le, drop-drop}
+use Rattle.machine.specs.Map.{isSome, Map, byNumber, lookup, place, Ascending}
 use Rattle.machine.specs.Names.{Bytes}
 use Rattle.machine.specs.State.{Upload, State}
+use Rattle.machine.specs.Steps.{due}
 use Rattle.row.specs.Row.{Row, encodeRows, contentsOf}
 use Rattle.layout.specs.Rules.{uploadKind, partKind}
 use Rattle.layout.specs.Header.{headerLength}
@@ -17,15 +18,14 @@ use Rattle.layout.specs.Memory.{objectRows, uploadRow, partRows, uploadRows, ro
 use Rattle.layout.proofs.UploadLaws.{length-part-rows}
 use Rattle.find.specs.declared.RowPlace.{RowPlace}
 use Rattle.find.specs.declared.Lookup.{Lookup}
-use Rattle.find.specs.declared.Numbered.{Numbered}
 use Rattle.find.specs.declared.PassedParts.{PassedParts}
 use Rattle.find_uploads.specs.declared.search.Goal.{Goal}
 use Rattle.find_uploads.specs.declared.search.Goal.the-variants as goal
-use Rattle.find.specs.Places.{placeAfter, lookupAfter, placeOf, beforeObject, fromObject, objectPlace, beforeUpload, beforeParts, beforePart, throughParts, fromUpload, afterUpload, fromPart, uploadPlace, partPlace, uploadRowOf, partsRowOf, passedParts, firstDue}
+use Rattle.find.specs.Places.{placeAfter, lookupAfter, placeOf, beforeObject, fromObject, objectPlace, beforeUpload, beforeParts, beforePart, throughParts, fromUpload, afterUpload, fromPart, uploadPlace, partPlace, uploadRowOf, partsRowOf, passedParts}
 use Rattle.find.specs.RowPlaces.{rowPlaceAt, IsRow, IsRowPlace}
-use Rattle.find_uploads.specs.Search.{reach, stopsOf, sought, leads, leader}
+use Rattle.find_uploads.specs.Search.{reach, stopsOf, sought, dueFrom, leads}
 use Rattle.find.proofs.Splits.{object-place, upload-place, upload-found, parts-place, parts-after, part-place}
-use Rattle.find_uploads.proofs.Searches.{reach-end, reach-uploads, upload-leads, reach-part, part-leads, reach-next-from, due-uploads}
+use Rattle.find_uploads.proofs.Searches.{reach-end, reach-uploads, upload-leads, reach-part, part-leads, reach-next-from, reach-none-due, reach-first-due}
 use Rattle.find.proofs.Found.{is-some}
 
 -- Row places -------------------------------------------------------------------------------------------------------------
@@ -45,6 +45,17 @@ reach-length stop (r ∷ rs) = go (stop r) (reach-length stop rs)
     go : (b : Bool) → reach stop rs ≤ length rs → cond b 0 (suc (reach stop rs)) ≤ suc (length rs)
     go true h = omega arith
     go false h = omega arith
+
+-- a search that passes the rows xs and stops there goes on through what else follows them
+reach-past : (stop : Row → Bool) (xs ys zs : List Row) → reach stop (xs ++ ys) ≡ length xs → reach stop (xs ++ zs) ≡ length xs + reach stop zs
+unfolding reach
+reach-past stop [] ys zs e = omega arith
+reach-past stop (x ∷ xs) ys zs e = go (stop x) e (reach-past stop xs ys zs)
+  where
+    go : (b : Bool) → cond b 0 (suc (reach stop (xs ++ ys))) ≡ suc (length xs) → (reach stop (xs ++ ys) ≡ length xs → reach stop (xs ++ zs) ≡ length xs + reach stop zs)
+        → cond b 0 (suc (reach stop (xs ++ zs))) ≡ suc (length xs) + reach stop zs
+    go true h i = absurd (omega arith)
+    go false h i = omega (arith, i (omega arith))
 
 pub sought-row-place : (g : Goal) (rs : List Row) (p : RowPlace) (i : ℕ) → p ≡ sought g rs i → i ≤ length rs → IsRowPlace rs p
 unfolding sought
@@ -81,6 +92,19 @@ sought-passes g rs xs ys zs i e n r =
     let d : drop i rs ≡ ys = ap (λ (j : ℕ). drop j rs) n ∙ ap (drop (length xs)) e ∙ drop-at xs ys (length xs) refl in
     let m : i + reach (stopsOf g) (drop i rs) ≡ length (xs ++ zs) = omega (arith, ap (reach (stopsOf g)) d, length-append xs zs) in
     ap (rowPlaceAt rs) m
+
+-- a search that stopped after the rows xs answers, where other rows follow them, what the search from there answers
+sought-again : (g : Goal) (rs xs ys zs : List Row) (i : ℕ) → rs ≡ xs ++ ys → i ≤ length xs → sought g rs i ≡ rowPlaceAt rs (length xs)
+    → sought g (xs ++ zs) i ≡ sought g (xs ++ zs) (length xs)
+unfolding sought rowPlaceAt
+sought-again g rs xs ys zs i e l q =
+    let stop = stopsOf g in
+    let n : i + reach stop (drop i rs) ≡ length xs = sym (place-row rs _ _ (sym q)) in
+    let stopped : reach stop (drop i xs ++ ys) ≡ length (drop i xs) =
+    omega (arith, ap (λ (l : List Row). reach stop (drop i l)) e, ap (reach stop) (drop-append-le i xs ys l), length-drop i xs) in
+    let m : i + reach stop (drop i (xs ++ zs)) ≡ length xs + reach stop (drop (length xs) (xs ++ zs)) =
+    omega (arith, ap (reach stop) (drop-append-le i xs zs l), reach-past stop (drop i xs) ys zs stopped, length-drop i xs, ap (reach stop) (drop-at xs zs (length xs) refl)) in
+    ap (rowPlaceAt (xs ++ zs)) m
 
 -- The end of the rows ----------------------------------------------------------------------------------------------------
 
@@ -146,19 +170,38 @@ pub upload-lookup : (s : State) (u : ℕ) (l : Lookup) → l ≡ uploadPlace s u
 unfolding uploadPlace
 upload-lookup s u l e = ap placeOf e ∙ sym (place-after (rowsOf s) (beforeUpload s u) (fromUpload s u) (upload-place s u))
 
--- the first that started before a stamp
-pub due-answer : (t : ℕ) (s : State) (p : RowPlace) (r : Numbered) → p ≡ sought (goal.Due t) (rowsOf s) (length (objectRows (s .O)))
-    → r ≡ leader uploadKind (drop (p .row) (rowsOf s)) → r ≡ firstDue t s
-unfolding sought rowsOf
-due-answer t s p r e f =
-    let O = objectRows (s .O) in
-    let rest : drop (length O) (rowsOf s) ≡ uploadRows (s .U) = drop-at O (uploadRows (s .U)) (length O) refl in
-    let m : ℕ = reach (stopsOf (goal.Due t)) (uploadRows (s .U)) in
-    let n : p .row ≡ length O + m = place-row (rowsOf s) p _ e ∙ ap (λ (rs : List Row). length O + reach (stopsOf (goal.Due t)) rs) rest in
-    f
-    ∙ ap (λ (i : ℕ). leader uploadKind (drop i (rowsOf s))) n
-    ∙ ap (leader uploadKind) (sym (drop-drop m (length O) (rowsOf s)) ∙ ap (drop m) rest)
-    ∙ due-uploads t (s .U)
+-- the search for one that started before a stamp, from the first on
+module _ (t : ℕ) (s : State) (p : RowPlace) (e : p ≡ dueFrom t (rowsOf s) (length (objectRows (s .O)))) where
+  pub none-due-answer : due t (s .U) ≡ [] → p .row ≡ length (rowsOf s)
+  unfolding rowsOf
+  none-due-answer d =
+      let O = objectRows (s .O) in
+      let U = uploadRows (s .U) in
+      place-row (rowsOf s) p _ (e ∙ sought-passes (goal.Due t) (rowsOf s) O U U (length O) refl refl (reach-none-due t (s .U) d))
+
+  pub first-due-answer : (u : ℕ) (x : Upload) (rest : Map ℕ Upload) → Ascending byNumber (s .U) → due t (s .U) ≡ (u, x) ∷ rest → p ≡ uploadRowOf s u
+  unfolding beforeUpload rowsOf
+  first-due-answer u x rest a d =
+      let O = objectRows (s .O) in
+      let U = s .U in
+      e ∙ sought-passes (goal.Due t) (rowsOf s) O (uploadRows U) (uploadRows (take (place byNumber u U) U)) (length O) refl refl (reach-first-due t u x rest U a d)
+
+  -- where other rows follow those before upload u: the place of its row is that of the first of them, or the end, and the search from there answers
+  -- what the search from the first upload does
+  module _ (u : ℕ) (q : p ≡ uploadRowOf s u) (rs ys : List Row) (split : rs ≡ beforeUpload s u ++ ys) where
+    pub place-stays : IsRowPlace rs p
+    place-stays =
+        let xs = beforeUpload s u in
+        is-row-place rs p (length xs) (q ∙ place-after (rowsOf s) xs (fromUpload s u) (upload-place s u) ∙ sym (place-after rs xs ys split)) (omega (arith, ap length split, length-append xs ys))
+
+    pub search-goes-on : dueFrom t rs (p .row) ≡ dueFrom t rs (length (objectRows (s .O)))
+    unfolding beforeUpload
+    search-goes-on =
+        let O = objectRows (s .O) in
+        let xs = beforeUpload s u in
+        let l : length O ≤ length xs = omega (arith, length-append O (uploadRows (take (place byNumber u (s .U)) (s .U)))) in
+        let n = place-row (rowsOf s) p (length xs) q in
+        rw (split, n) (sym (sought-again (goal.Due t) (rowsOf s) xs (fromUpload s u) ys (length O) (upload-place s u) l (sym e ∙ q)))
 
 -- Parts ------------------------------------------------------------------------------------------------------------------
 

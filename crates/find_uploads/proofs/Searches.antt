@@ -1,21 +1,25 @@
 -- What the searches along the rows find. Assumes nothing.
 use Prim.Native.Nat.{ℕ, zero, suc, _+_, _≤_, compare}
 use mathlib.Core.Path.{_≡_, refl, sym, ap, _∙_}
-use mathlib.Core.Bool.{Bool, true, false}
+use mathlib.Core.Bool.{Bool, true, false, cond}
 use mathlib.Core.List.{List, [], _∷_, _++_}
+use mathlib.Core.Option.{some}
 use native.Mathlib.Omega.{arith}
 use borrow.Author.Tests.{eq-eqb, ne-eqb}
 use lib.ListN.{length, take, drop, length-append}
-use Rattle.order.proofs.OrderLaws.{cases, alike, below}
-use Rattle.machine.specs.Map.{isSome, Map, byNumber, lookup, place}
+use Rattle.order.proofs.OrderLaws.{cases, alike, below, numbers}
+use Rattle.machine.specs.Map.{isSome, Map, byNumber, lookup, place, Ascending}
 use Rattle.machine.specs.State.{Part, Upload}
 use Rattle.machine.specs.Steps.{isDue, due}
+use Rattle.machine.proofs.Options.{none-some}
+use Rattle.machine.proofs.MapLaws.{above-chain, lookup-above}
+use Rattle.machine.proofs.Sweeping.{first-due}
 use Rattle.row.specs.Row.{Row}
 use Rattle.layout.specs.Rules.{uploadKind, partKind}
-use Rattle.layout.specs.Memory.{partRows, uploadRows}
+use Rattle.layout.specs.Memory.{partRow, partRows, uploadRows}
+use Rattle.find_uploads.specs.declared.search.Goal.{Goal}
 use Rattle.find_uploads.specs.declared.search.Goal.the-variants as goal
-use Rattle.find_uploads.specs.Search.{reach, stopsAt, stopsOf, leads, leader}
-use Rattle.find.specs.Places.{firstOf}
+use Rattle.find_uploads.specs.Search.{reach, stopsAt, stopsOf, leads}
 
 -- to the end of the rows
 pub reach-end : (rs : List Row) → reach (stopsOf goal.End) rs ≡ length rs
@@ -24,10 +28,11 @@ reach-end [] = refl
 reach-end (r ∷ rs) = ap suc (reach-end rs)
 
 -- to an upload, from the uploads on
-reach-over-parts : (u : ℕ) (ps : Map ℕ Part) (rs : List Row) → reach (stopsOf (goal.Upload u)) (partRows ps ++ rs) ≡ length (partRows ps) + reach (stopsOf (goal.Upload u)) rs
-unfolding reach partRows stopsAt
-reach-over-parts u [] rs = omega arith
-reach-over-parts u (e ∷ ps) rs = rw (reach-over-parts u ps rs) (omega arith)
+reach-over-parts : (g : Goal) → ((n : ℕ) (p : Part) → stopsOf g (partRow n p) ≡ false) → (ps : Map ℕ Part) (rs : List Row)
+    → reach (stopsOf g) (partRows ps ++ rs) ≡ length (partRows ps) + reach (stopsOf g) rs
+unfolding reach partRows
+reach-over-parts g passes [] rs = omega arith
+reach-over-parts g passes (e ∷ ps) rs = rw (passes (e .0) (e .1), reach-over-parts g passes ps rs) (omega arith)
 
 pub reach-uploads : (u : ℕ) (m : Map ℕ Upload) → reach (stopsOf (goal.Upload u)) (uploadRows m) ≡ length (uploadRows (take (place byNumber u m) m))
 unfolding reach uploadRows stopsAt
@@ -36,7 +41,7 @@ reach-uploads u (e ∷ m) =
     cases (compare u (e .0))
     (λ q. rw q)
     (λ q. rw q)
-    (λ q. rw q (ap suc (reach-over-parts u (e .1 .parts) (uploadRows m) ∙ rw (length-append, reach-uploads u m))))
+    (λ q. rw q (ap suc (reach-over-parts (goal.Upload u) (λ n p. refl) (e .1 .parts) (uploadRows m) ∙ rw (length-append, reach-uploads u m))))
 
 pub upload-leads : (u : ℕ) (m : Map ℕ Upload) → leads uploadKind u (uploadRows (drop (place byNumber u m) m)) ≡ isSome (lookup byNumber u m)
 unfolding leads uploadRows
@@ -88,23 +93,33 @@ reach-next-from zero ps m l = omega (arith, reach-next ps m)
 reach-next-from (suc j) [] m l = absurd (omega arith)
 reach-next-from (suc j) (e ∷ ps) m l = omega (arith, reach-next-from j ps m (omega arith))
 
--- to an upload that started before a stamp: the first row there is the upload's
+-- to an upload that started before a stamp: after all rows where none is due, else at the row of the first that is
 module _ (t : ℕ) where
-  -- the rows from where the search stops
-  abbrev onward : List Row → List Row
-  onward rs = drop (reach (stopsOf (goal.Due t)) rs) rs
-
-  due-parts : (ps : Map ℕ Part) (rs : List Row) → leader uploadKind (onward (partRows ps ++ rs)) ≡ leader uploadKind (onward rs)
-  unfolding reach partRows stopsAt
-  due-parts [] rs = refl
-  due-parts (e ∷ ps) rs = due-parts ps rs
-
-  pub due-uploads : (m : Map ℕ Upload) → leader uploadKind (onward (uploadRows m)) ≡ firstOf (due t m)
-  unfolding reach leader uploadRows stopsAt firstOf due
-  due-uploads [] = refl
-  due-uploads (e ∷ m) = go (isDue t (e .1)) refl (due-parts (e .1 .parts) (uploadRows m) ∙ due-uploads m)
+  pub reach-none-due : (m : Map ℕ Upload) → due t m ≡ [] → reach (stopsOf (goal.Due t)) (uploadRows m) ≡ length (uploadRows m)
+  unfolding reach uploadRows stopsAt due
+  reach-none-due [] e = refl
+  reach-none-due (w ∷ m) e = go (isDue t (w .1)) refl e (reach-none-due m)
     where
-      go : (b : Bool) → isDue t (e .1) ≡ b → leader uploadKind (onward (partRows (e .1 .parts) ++ uploadRows m)) ≡ firstOf (due t m)
-          → leader uploadKind (onward (uploadRows (e ∷ m))) ≡ firstOf (due t (e ∷ m))
-      go true q h = rw q
-      go false q h = rw q h
+      go : (b : Bool) → isDue t (w .1) ≡ b → cond b (w ∷ due t m) (due t m) ≡ [] → (due t m ≡ [] → reach (stopsOf (goal.Due t)) (uploadRows m) ≡ length (uploadRows m))
+          → reach (stopsOf (goal.Due t)) (uploadRows (w ∷ m)) ≡ length (uploadRows (w ∷ m))
+      go true q h i = absurd (let z : _≡_ {A = ℕ} 0 1 = cc in omega arith)
+      go false q h i = rw q (ap suc (reach-over-parts (goal.Due t) (λ n p. refl) (w .1 .parts) (uploadRows m) ∙ rw (length-append, i h)))
+
+  pub reach-first-due : (u : ℕ) (x : Upload) (rest m : Map ℕ Upload) → Ascending byNumber m → due t m ≡ (u, x) ∷ rest
+      → reach (stopsOf (goal.Due t)) (uploadRows m) ≡ length (uploadRows (take (place byNumber u m) m))
+  unfolding reach uploadRows stopsAt due
+  reach-first-due u x rest [] a e = refl
+  reach-first-due u x rest (w ∷ m) a e = go (isDue t (w .1)) refl e (reach-first-due u x rest m (a .1))
+    where
+      go : (b : Bool) → isDue t (w .1) ≡ b → cond b (w ∷ due t m) (due t m) ≡ (u, x) ∷ rest
+          → (due t m ≡ (u, x) ∷ rest → reach (stopsOf (goal.Due t)) (uploadRows m) ≡ length (uploadRows (take (place byNumber u m) m)))
+          → reach (stopsOf (goal.Due t)) (uploadRows (w ∷ m)) ≡ length (uploadRows (take (place byNumber u (w ∷ m)) (w ∷ m)))
+      go true q h i =
+          let is : w .0 ≡ u = cc in
+          rw (q, is, numbers .self u)
+      go false q h i =
+          let there : lookup byNumber u m ≡ some x = first-due t u x rest m (a .1) h .0 in
+          cases (compare u (w .0))
+          (λ o. absurd (none-some (sym (lookup-above numbers u m (above-chain numbers u (w .0) m o (a .0))) ∙ there)))
+          (λ o. absurd (none-some (sym (lookup-above numbers u m (rw (alike u (w .0) o) (a .0))) ∙ there)))
+          (λ o. rw (o, q) (ap suc (reach-over-parts (goal.Due t) (λ n p. refl) (w .1 .parts) (uploadRows m) ∙ rw (length-append, i h))))

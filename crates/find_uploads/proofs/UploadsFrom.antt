@@ -1,31 +1,24 @@
 -- Where the test "whole" finds that the rows of uploads begin, the first upload's row stands, or would stand. Assumes nothing.
 use Prim.Native.Nat.{ℕ, zero, suc, _+_, _≤_}
-use mathlib.Core.Path.{_≡_, refl, sym, ap, _∙_}
+use mathlib.Core.Path.{_≡_, refl, ap, _∙_}
 use mathlib.Core.List.{List}
 use native.Mathlib.Nat.{add-zero}
 use native.Mathlib.Omega.{arith}
 use lib.ListN.{length, drop}
-use Rattle.machine.specs.Map.{Map}
-use Rattle.machine.specs.Names.{Bytes}
-use Rattle.machine.specs.State.{Object, State}
+use Rattle.machine.specs.State.{State}
 use Rattle.row.specs.declared.Head.{Head}
-use Rattle.row.specs.Row.{Row, encodeRows, contentsOf, headAt, span}
+use Rattle.row.specs.Row.{encodeRows, contentsOf, headAt, span}
 use Rattle.layout.specs.declared.Header.{Header}
 use Rattle.layout.specs.Header.{headerAt, headerLength}
-use Rattle.layout.specs.Memory.{objectRows, uploadRows, rowsOf, Stands}
+use Rattle.layout.specs.Memory.{objectRows, rowsOf, Stands}
 use Rattle.layout.proofs.ObjectLaws.{length-object-rows}
 use Rattle.layout.proofs.StandsLaws.{header-back}
 use Rattle.scan_objects.specs.declared.Offset.{Offset}
 use Rattle.scan_objects.specs.Scan.{past, pastAll, first, uploadsFrom}
-use Rattle.find.specs.declared.RowPlace.{RowPlace}
 use Rattle.find.specs.RowPlaces.{rowPlaceAt}
 use Rattle.find.specs.Places.{firstUploadRow}
 use Rattle.find_uploads.proofs.Walk.{Reached, rowPlace, reached-place, row-turn}
-use Rattle.find_uploads.proofs.Answers.{place-after, uploads-within}
-
--- the offset after the rows rs
-abbrev offsetAfter : List Row → Offset
-offsetAfter rs = record { at = headerLength + length (encodeRows rs); base = length (contentsOf rs) }
+use Rattle.find_uploads.proofs.Answers.{uploads-within}
 
 module _ (t a : List ℕ) (s : State) (h : Stands t a s) where
   -- n rows after row i stands row i + n
@@ -53,15 +46,3 @@ module _ (t a : List ℕ) (s : State) (h : Stands t a s) where
       let m : n ≡ 0 + N = omega arith in
       let k = passed-rows N 0 first first-reached (omega (arith, uploads-within s)) in
       (λ j. rowPlace (m j) (e j .at) (e j .base)) ∙ reached-place s (0 + N) _ _ k ∙ ap (rowPlaceAt (rowsOf s)) rows
-
-  -- by the objects alone
-  uploads-after : uploadsFrom t ≡ offsetAfter (objectRows (s .O))
-  unfolding rowsOf
-  uploads-after =
-      ap (λ (p : RowPlace). record { at = p .at; base = p .base })
-      (first-upload-row (uploadsFrom t) (length (s .O)) refl refl ∙ place-after (rowsOf s) (objectRows (s .O)) (uploadRows (s .U)) refl)
-
--- memory that stands for the same objects has its uploads at the same place
-pub uploads-stay : (t a : List ℕ) (s : State) → Stands t a s → (t′ a′ : List ℕ) (s′ : State) → Stands t′ a′ s′ → s .O ≡ s′ .O → uploadsFrom t ≡ uploadsFrom t′
-uploads-stay t a s h t′ a′ s′ h′ e =
-    uploads-after t a s h ∙ ap (λ (m : Map Bytes Object). offsetAfter (objectRows m)) e ∙ sym (uploads-after t′ a′ s′ h′)

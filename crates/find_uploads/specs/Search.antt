@@ -8,7 +8,6 @@ use Rattle.row.specs.declared.Head.{Head}
 use Rattle.row.specs.Row.{Row, headOf}
 use Rattle.layout.specs.Rules.{uploadKind}
 use Rattle.find.specs.declared.RowPlace.{RowPlace}
-use Rattle.find.specs.declared.Numbered.{Numbered}
 use Rattle.find.specs.RowPlaces.{rowPlaceAt}
 use Rattle.find_uploads.specs.declared.search.Goal.{Goal}
 use Rattle.find_uploads.specs.declared.search.Goal.the-variants.{End, Upload, NextUpload, Part, Due}
@@ -33,12 +32,11 @@ stopsOf g r = stopsAt g (headOf r)
 unfoldable pub sought : Goal → List Row → ℕ → RowPlace
 sought g rs i = rowPlaceAt rs (i + reach (stopsOf g) (drop i rs))
 
+-- the row of the first upload, from row i on, that started before a stamp, or the end of the rows
+abbrev pub dueFrom : (stamp : ℕ) → List Row → ℕ → RowPlace
+dueFrom t = sought (Due t)
+
 -- the first row is of this kind and has this number
 unfoldable pub leads : (kind number : ℕ) → List Row → Bool
 leads kind number [] = false
 leads kind number (r ∷ rs) = eqb (r .kind) kind && eqb (r .number) number
-
--- the number of the first row, if that is of this kind
-unfoldable pub leader : (kind : ℕ) → List Row → Numbered
-leader kind [] = record { found = false; number = 0 }
-leader kind (r ∷ rs) = record { found = eqb (r .kind) kind; number = r .number }

@@ -1,5 +1,4 @@
 // A search along the rows.
-use find::Numbered;
 use find::RowPlace;
 use find::read_counts;
 use row::Head;
@@ -9,7 +8,7 @@ ghost use Prim.Native.Nat.{_+_, _≤_};
 ghost use lib.ListN.{length, drop};
 ghost use Rattle.layout.specs.Memory.{stateOf, objectRows};
 ghost use Rattle.find.specs.RowPlaces.{IsRowPlace, rowPlaceAt};
-ghost use Rattle.find_uploads.specs.Search.{stopsAt, sought, leads, leader};
+ghost use Rattle.find_uploads.specs.Search.{stopsAt, sought, leads};
 ghost use Rattle.find.specs.Places.{firstUploadRow};
 ghost use Rattle.find.specs.Known.{rowsIn, WholeFrom, WholeRow, WholePlace};
 
@@ -122,31 +121,15 @@ pub(crate) fn seek_uploads(tables: &[u8], arena: &[u8], uploads: Offset, goal: G
     seek(tables, arena, first, goal)
 }
 
-// The number of the row there; none where the rows end or the row is of another kind.
-pub(crate) fn number_of(tables: &[u8], arena: &[u8], here: RowPlace, kind: u8) -> Numbered
-    requires { ⌜ WholePlace (now tables) (now arena) here ⌝ }
-    ensures { λ r. ⌜ r ≡ leader kind (drop (here .row) (rowsIn (now (tables .entry)) (now (arena .entry)))) ⌝ }
-{
-    let counts = read_counts(tables, arena);
-    let rows = counts.rows;
-    if rows <= here.row {
-        return Numbered {
-            found: false,
-            number: 0,
-        };
-    }
-    let h = row::read_head(tables, here.at);
-    Numbered {
-        found: h.kind == kind,
-        number: h.number,
-    }
-}
-
 // Whether a row of this kind with this number stands there.
 pub(crate) fn stands(tables: &[u8], arena: &[u8], here: RowPlace, kind: u8, number: u32) -> bool
     requires { ⌜ WholePlace (now tables) (now arena) here ⌝ }
     ensures { λ r. ⌜ r ≡ leads kind number (drop (here .row) (rowsIn (now (tables .entry)) (now (arena .entry)))) ⌝ }
 {
-    let there = number_of(tables, arena, here, kind);
-    there.found && there.number == number
+    let counts = read_counts(tables, arena);
+    if counts.rows <= here.row {
+        return false;
+    }
+    let h = row::read_head(tables, here.at);
+    h.kind == kind && h.number == number
 }

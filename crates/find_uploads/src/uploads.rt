@@ -1,12 +1,10 @@
 // Where an upload and its parts stand, and where the rows end. `uploads` is where the test "whole" found the rows of uploads.
 use crate::search::Goal;
 use crate::search::next_row;
-use crate::search::number_of;
 use crate::search::seek;
 use crate::search::seek_uploads;
 use crate::search::stands;
 use find::Lookup;
-use find::Numbered;
 use find::PassedParts;
 use find::RowPlace;
 use find::lookup_at;
@@ -16,8 +14,9 @@ ghost use mathlib.Core.Path.{_≡_};
 ghost use Prim.Native.Nat.{_+_, _≤_};
 ghost use lib.ListN.{length};
 ghost use Rattle.layout.specs.Memory.{stateOf};
-ghost use Rattle.find.specs.Places.{placeOf, placeAfter, uploadPlace, partPlace, passedParts, firstDue};
+ghost use Rattle.find.specs.Places.{placeOf, placeAfter, uploadPlace, partPlace, passedParts};
 ghost use Rattle.find.specs.Known.{rowsIn, WholeFrom, WholeRow, WholePlace, OfOpenAt, OfOpenBefore};
+ghost use Rattle.find_uploads.specs.Search.{dueFrom};
 
 // The end of the rows.
 pub fn rows_end(tables: &[u8], arena: &[u8], uploads: Offset) -> RowPlace
@@ -99,11 +98,10 @@ pub fn pass_parts(tables: &[u8], arena: &[u8], here: RowPlace) -> PassedParts
     pass_parts_from(tables, arena, first, first)
 }
 
-// The number of the first upload that started before a stamp.
-pub fn first_due(tables: &[u8], arena: &[u8], uploads: Offset, stamp: u64) -> Numbered
-    requires { ⌜ WholeFrom (now tables) (now arena) uploads ⌝ }
-    ensures { λ r. ⌜ r ≡ firstDue stamp (stateOf (now (tables .entry)) (now (arena .entry))) ⌝ }
+// From a row on, the first upload that started before a stamp, or the end of the rows.
+pub fn find_due(tables: &[u8], arena: &[u8], from: RowPlace, stamp: u64) -> RowPlace
+    requires { ⌜ WholePlace (now tables) (now arena) from ⌝ }
+    ensures { λ r. ⌜ r ≡ dueFrom stamp (rowsIn (now (tables .entry)) (now (arena .entry))) (from .row) ⌝ }
 {
-    let here = seek_uploads(tables, arena, uploads, Goal::Due(stamp));
-    number_of(tables, arena, here, layout::UPLOAD_KIND)
+    seek(tables, arena, from, Goal::Due(stamp))
 }

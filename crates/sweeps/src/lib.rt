@@ -4,14 +4,14 @@ use scan_objects::Scan;
 use types::Stamp;
 use types::Sweep;
 use types::SweepAnswer;
-use types::UploadNumber;
 ghost use Rattle.machine.specs.Calls.{SWEEP};
 ghost use Rattle.find.specs.Known.{WholeFrom};
 ghost use Rattle.contract.specs.Answers.{sweepReply};
 ghost use Rattle.contract.specs.Made.{memory, Made};
 ghost use Rattle.sweeps.specs.Swept.{Swept};
 
-// The sweep over whole memory whose uploads begin at `uploads`: no ABORT moves an object, so they go on beginning there.
+// The sweep over whole memory whose uploads begin at `uploads`, in one pass over their rows: where an upload is taken out
+// stands then what stood after it, and the search goes on there.
 fn sweep_whole(tables: &mut [u8], arena: &mut [u8], uploads: Offset, stamp: u64, most: u32) -> Sweep
     requires { ⌜ WholeFrom (now tables) (now arena) uploads ⌝ }
     ensures { λ r. ⌜ Swept stamp most
@@ -19,20 +19,19 @@ fn sweep_whole(tables: &mut [u8], arena: &mut [u8], uploads: Offset, stamp: u64,
         r
         (memory (now (tables .exit)) (now (arena .exit))) ⌝ }
 {
+    let first = find_uploads::first_upload(tables, arena, uploads);
+    let mut here = find_uploads::find_due(tables, arena, first, stamp);
+    let mut end = find_uploads::rows_end(tables, arena, uploads);
     let mut count: u32 = 0;
-    while count < most {
-        let due = find_uploads::first_due(tables, arena, uploads, stamp);
-        if !due.found {
-            return Sweep { count, more: false };
+    while here.row < end.row {
+        if count == most {
+            return Sweep { count, more: true };
         }
-        aborts::abort_whole(tables, arena, uploads, UploadNumber(due.number));
+        end = edit_uploads::uploads::remove_upload(tables, arena, here, end);
+        here = find_uploads::find_due(tables, arena, here, stamp);
         count += 1;
     }
-    let due = find_uploads::first_due(tables, arena, uploads, stamp);
-    Sweep {
-        count,
-        more: due.found,
-    }
+    Sweep { count, more: false }
 }
 
 // SWEEP.

@@ -33,7 +33,7 @@ pub record NotedAt (s : State) (prefix : Bytes) (notes : List ℕ) (k : ℕ) : T
   pub place : placeNoted notes k ≡ uploadRowOf s number .at
   pub parts : partsNoted notes k ≡ length (upload .parts)
 
--- the first n notes are
+-- each of the first n notes is
 abbrev pub AllNoted : (s : State) (prefix : Bytes) (notes : List ℕ) (n : ℕ) → Type 0
 AllNoted s prefix notes n = (k : ℕ) → k < n → NotedAt s prefix notes k
 

@@ -1,14 +1,14 @@
 // ABORT: an open upload leaves the store with its parts.
 use find::Lookup;
-use scan_objects::Offset;
-use scan_objects::Scan;
+use scan::StoreScan;
+use scan_objects::Offsets;
 use types::DoneAnswer;
 use types::UploadNumber;
 ghost use mathlib.Core.Path.{_≡_};
 ghost use Rattle.machine.specs.Calls.{ABORT};
 ghost use Rattle.layout.specs.Memory.{stateOf};
 ghost use Rattle.find.specs.Places.{uploadPlace};
-ghost use Rattle.find.specs.Known.{WholeFrom};
+ghost use Rattle.find.specs.Known.{Scanned};
 ghost use Rattle.contract.specs.Answers.{WellNumbered, doneReply};
 ghost use Rattle.contract.specs.Made.{memory, outcome, resultOf, Made, MadeWhole};
 
@@ -18,13 +18,13 @@ struct AbortPlace {
     place: Lookup,
 }
 
-// ABORT's refusal over whole memory whose uploads begin at `uploads`, 0 for none, and what the lookup of its upload answers.
-fn abort_judge(tables: &[u8], arena: &[u8], uploads: Offset, upload: UploadNumber) -> AbortPlace
-    requires { ⌜ WholeFrom (now tables) (now arena) uploads ⌝ }
+// ABORT's refusal over whole memory whose rows stand at `offsets`, 0 for none, and what the lookup of its upload answers.
+fn abort_judge(tables: &[u8], arena: &[u8], offsets: Offsets, upload: UploadNumber) -> AbortPlace
+    requires { ⌜ Scanned (now tables) (now arena) offsets ⌝ }
     ensures { λ r. ⌜ (r .refusal ≡ resultOf (outcome (ABORT (upload .0)) (memory (now (tables .entry)) (now (arena .entry)))))
         × (r .place ≡ uploadPlace (stateOf (now (tables .entry)) (now (arena .entry))) (upload .0)) ⌝ }
 {
-    let place = find_uploads::find_upload(tables, arena, uploads, upload.0);
+    let place = find_uploads::find_upload(tables, arena, offsets, upload.0);
     if place.found {
         return AbortPlace { refusal: 0, place };
     }
@@ -34,22 +34,22 @@ fn abort_judge(tables: &[u8], arena: &[u8], uploads: Offset, upload: UploadNumbe
     }
 }
 
-// ABORT over whole memory whose uploads begin at `uploads`.
+// ABORT over whole memory whose rows stand at `offsets`.
 pub fn abort_whole(
     tables: &mut [u8],
     arena: &mut [u8],
-    uploads: Offset,
+    offsets: Offsets,
     upload: UploadNumber,
 ) -> DoneAnswer
-    requires { ⌜ WholeFrom (now tables) (now arena) uploads ⌝ }
+    requires { ⌜ Scanned (now tables) (now arena) offsets ⌝ }
     ensures { λ r. ⌜ MadeWhole (ABORT (upload .0)) (memory (now (tables .entry)) (now (arena .entry))) (doneReply r) (memory (now (tables .exit)) (now (arena .exit))) × WellNumbered r ⌝ }
 {
-    let judged = abort_judge(tables, arena, uploads, upload);
+    let judged = abort_judge(tables, arena, offsets, upload);
     if judged.refusal != 0 {
         return DoneAnswer::Refused(judged.refusal);
     }
     let here = find::place_of(judged.place);
-    let end = find_uploads::rows_end(tables, arena, uploads);
+    let end = find_uploads::rows_end(tables, arena, offsets);
     edit_uploads::uploads::remove_upload(tables, arena, here, end);
     DoneAnswer::Done
 }
@@ -58,8 +58,8 @@ pub fn abort_whole(
 pub fn abort(tables: &mut [u8], arena: &mut [u8], upload: UploadNumber) -> DoneAnswer
     ensures { λ r. ⌜ Made (ABORT (upload .0)) (memory (now (tables .entry)) (now (arena .entry))) (doneReply r) (memory (now (tables .exit)) (now (arena .exit))) × WellNumbered r ⌝ }
 {
-    let Scan::Good(uploads) = scan::scan_store(tables, arena) else {
+    let StoreScan::Good(offsets) = scan::scan_store(tables, arena) else {
         return DoneAnswer::Refused(types::NOT_A_STORE);
     };
-    abort_whole(tables, arena, uploads, upload)
+    abort_whole(tables, arena, offsets, upload)
 }

@@ -4,8 +4,8 @@ use find::PassedParts;
 use find::RowPlace;
 use join::Bounds;
 use row::Head;
-use scan_objects::Offset;
-use scan_objects::Scan;
+use scan::StoreScan;
+use scan_objects::Offsets;
 use types::DoneAnswer;
 use types::UploadNumber;
 ghost use mathlib.Core.Path.{_≡_};
@@ -16,7 +16,7 @@ ghost use Rattle.machine.specs.State.{Object, withObject, withoutUpload, counte
 ghost use Rattle.machine.specs.Calls.{COMMIT, tableFull, code};
 ghost use Rattle.machine.specs.Fits.{member, fits};
 ghost use Rattle.find.specs.Places.{objectPlace, passedParts};
-ghost use Rattle.find.specs.Known.{rowsIn, WholeFrom, WholeOpenAt, WholePlace, OfOpenAt, OfOpenBefore};
+ghost use Rattle.find.specs.Known.{rowsIn, Scanned, WholeOpenAt, WholePlace, OfOpenAt, OfOpenBefore};
 ghost use Rattle.contract.specs.Answers.{WellNumbered, doneReply, partList};
 ghost use Rattle.contract.specs.Made.{memory, outcome, resultOf, Made, MadeWhole};
 ghost use Rattle.join_order.specs.Region.{InOrder};
@@ -214,23 +214,23 @@ fn refused(n: u8) -> CommitRoom
     }
 }
 
-// COMMIT's refusal over whole memory whose uploads begin at `uploads`, 0 for none; of an accepted one, what the
+// COMMIT's refusal over whole memory whose rows stand at `offsets`, 0 for none; of an accepted one, what the
 // change takes. Upload and path are looked up one time each.
 fn commit_judge(
     tables: &[u8],
     arena: &[u8],
-    uploads: Offset,
+    offsets: Offsets,
     upload: UploadNumber,
     list: &[u8],
 ) -> CommitRoom
-    requires { ⌜ WholeFrom (now tables) (now arena) uploads ⌝ }
+    requires { ⌜ Scanned (now tables) (now arena) offsets ⌝ }
     ensures { λ r. ⌜ (r .refusal ≡ resultOf (outcome (COMMIT (upload .0) (partList (now (list .entry))))
         (memory (now (tables .entry)) (now (arena .entry)))))
         × (r .refusal ≡ 0
         → JoinPlaced (now (tables .entry)) (now (arena .entry)) (upload .0) (r .bounds) (r .place)
         (now (list .entry)) (r .ascends)) ⌝ }
 {
-    let opened = find_uploads::find_upload(tables, arena, uploads, upload.0);
+    let opened = find_uploads::find_upload(tables, arena, offsets, upload.0);
     if !opened.found {
         return refused(types::BAD_REQUEST);
     }
@@ -244,8 +244,7 @@ fn commit_judge(
         return refused(path.refusal);
     }
     let parts = judged.parts;
-    let next = parts.next;
-    let end = find_uploads::rows_end_after(tables, arena, next);
+    let end = find_uploads::rows_end(tables, arena, offsets);
     let bounds = join::upload_bounds(tables, arena, here, parts, end);
     let target = path.place;
     CommitRoom {
@@ -256,18 +255,18 @@ fn commit_judge(
     }
 }
 
-// COMMIT over whole memory whose uploads begin at `uploads`.
+// COMMIT over whole memory whose rows stand at `offsets`.
 pub fn commit_whole(
     tables: &mut [u8],
     arena: &mut [u8],
-    uploads: Offset,
+    offsets: Offsets,
     upload: UploadNumber,
     list: &[u8],
 ) -> DoneAnswer
-    requires { ⌜ WholeFrom (now tables) (now arena) uploads ⌝ }
+    requires { ⌜ Scanned (now tables) (now arena) offsets ⌝ }
     ensures { λ r. ⌜ MadeWhole (COMMIT (upload .0) (partList (now (list .entry)))) (memory (now (tables .entry)) (now (arena .entry))) (doneReply r) (memory (now (tables .exit)) (now (arena .exit))) × WellNumbered r ⌝ }
 {
-    let room = commit_judge(tables, arena, uploads, upload, list);
+    let room = commit_judge(tables, arena, offsets, upload, list);
     if room.refusal != 0 {
         return DoneAnswer::Refused(room.refusal);
     }
@@ -287,8 +286,8 @@ pub fn commit_whole(
 pub fn commit(tables: &mut [u8], arena: &mut [u8], upload: UploadNumber, list: &[u8]) -> DoneAnswer
     ensures { λ r. ⌜ Made (COMMIT (upload .0) (partList (now (list .entry)))) (memory (now (tables .entry)) (now (arena .entry))) (doneReply r) (memory (now (tables .exit)) (now (arena .exit))) × WellNumbered r ⌝ }
 {
-    let Scan::Good(uploads) = scan::scan_store(tables, arena) else {
+    let StoreScan::Good(offsets) = scan::scan_store(tables, arena) else {
         return DoneAnswer::Refused(types::NOT_A_STORE);
     };
-    commit_whole(tables, arena, uploads, upload, list)
+    commit_whole(tables, arena, offsets, upload, list)
 }

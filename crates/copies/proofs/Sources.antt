@@ -1,11 +1,10 @@
 -- COPY: the source, its refusals in checking order, and what it leaves. Assumes nothing.
 use Prim.Native.Nat.{ℕ, _+_, _-_, _≤_}
 use mathlib.Core.Path.{_≡_, refl, sym, ap, ap₂, _∙_, subst}
-use mathlib.Core.Bool.{Bool, true, false, _&&_, cond}
+use mathlib.Core.Bool.{true, false, _&&_}
 use mathlib.Core.List.{List, _++_, append-assoc}
 use mathlib.Core.Option.{some}
 use native.Mathlib.Omega.{arith}
-use lib.Dec.{ltb}
 use lib.ListN.{length, take, drop, take-append-drop}
 use lib.Seq.{take-at, drop-drop}
 use Rattle.number.specs.Number.{AreBytes}
@@ -24,13 +23,10 @@ use Rattle.stored_pairs.specs.Stored.{pairBytes, sumOf}
 use Rattle.stored_pairs.proofs.StoredLaws.{sum-lengths, drop-pairs}
 use Rattle.row.specs.declared.Head.{Head}
 use Rattle.row.specs.Row.{headAt, lengthsAt}
-use Rattle.layout.specs.Memory.{whole, stateOf, rowsOf, Stands, arenaMost}
+use Rattle.layout.specs.Memory.{whole, stateOf, Stands, arenaMost}
 use Rattle.layout.proofs.WholeLaws.{whole-stands}
 use Rattle.find.specs.declared.Lookup.{Lookup}
-use Rattle.find.specs.Places.{placeOf, objectPlace}
-use Rattle.find.specs.RowPlaces.{IsRowPlace}
 use Rattle.find.proofs.Found.{is-none}
-use Rattle.find_uploads.proofs.Answers.{object-row-place}
 use Rattle.edit_copy.specs.Copy.{contentIn, pairsIn, contentAt, keptAt, copied, Copiable}
 use Rattle.edit_copy.proofs.Source.{ObjectThere, lengths-there, size-is, block-inside, block-there}
 use Rattle.room.specs.Judged.{PutResult}
@@ -38,14 +34,6 @@ use Rattle.room.proofs.PutAt.{put-at-accepted, plain-is}
 use Rattle.contract.specs.Made.{Memory, memory, stateIn, outcome, resultOf}
 use Rattle.contract.proofs.Judging.{result-pass, result-stop, passed, result-found, result-missing, was-found}
 use Rattle.copies.specs.Source.{sourceOutcome}
-
--- the further of two paths' lookups answers the place of a row, or the end of them all
-pub further-place : (s : State) (p q : Bytes) (from to l : Lookup) → from ≡ objectPlace s p → to ≡ objectPlace s q → l ≡ cond (ltb (from .row) (to .row)) to from → IsRowPlace (rowsOf s) (placeOf l)
-further-place s p q from to l e f = go (ltb (from .row) (to .row))
-  where
-    go : (b : Bool) → l ≡ cond b to from → IsRowPlace (rowsOf s) (placeOf l)
-    go true is = object-row-place s q l (is ∙ f)
-    go false is = object-row-place s p l (is ∙ e)
 
 -- the source, by the head that is read of its row
 module _ (t a p : List ℕ) (place : Lookup) (o : ObjectThere t a p place) (head : Head) (head-is : head ≡ headAt (drop (place .at) t)) where

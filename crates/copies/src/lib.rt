@@ -2,16 +2,17 @@
 use find::Lookup;
 use find::RowPlace;
 use md5::words::Digest;
+use scan::StoreScan;
+use scan_objects::Offsets;
 use types::DoneAnswer;
 use types::Stamp;
 ghost use mathlib.Core.Path.{_≡_};
-ghost use mathlib.Core.Bool.{true, cond};
-ghost use lib.Dec.{ltb};
+ghost use mathlib.Core.Bool.{true};
 ghost use lib.ListN.{length};
 ghost use Rattle.md5.specs.Md5.{md5};
 ghost use Rattle.machine.specs.Calls.{COPY};
-ghost use Rattle.layout.specs.Memory.{whole, stateOf};
-ghost use Rattle.find.specs.Known.{WholeLookup, OfPath};
+ghost use Rattle.layout.specs.Memory.{stateOf};
+ghost use Rattle.find.specs.Known.{Scanned, WholeLookup, OfPath};
 ghost use Rattle.edit_copy.specs.Copy.{contentAt, CopyPlaced};
 ghost use Rattle.contract.specs.Answers.{WellNumbered, doneReply};
 ghost use Rattle.copies.specs.Source.{sourceOutcome};
@@ -40,23 +41,17 @@ fn refused(n: u8) -> CopyRoom
     }
 }
 
-// Of two lookups the one whose row is the later.
-fn further(a: Lookup, b: Lookup) -> Lookup
-    ensures { λ r. ⌜ r ≡ cond (ltb (a .row) (b .row)) b a ⌝ }
-{
-    if a.row < b.row { b } else { a }
-}
-
 // The refusal of COPY whose arguments keep their rules: not found, table full, arena full or 0; of an accepted one,
-// where source and copy stand. The end of the rows is looked for from the further place on: no row is passed twice.
+// where source and copy stand. The rows stand at `offsets`.
 fn source_judge(
     tables: &[u8],
     arena: &[u8],
+    offsets: Offsets,
     stamp: Stamp,
     source: &[u8],
     destination: &[u8],
 ) -> CopyRoom
-    requires { ⌜ whole (now tables) (now arena) ≡ true ⌝ }
+    requires { ⌜ Scanned (now tables) (now arena) offsets ⌝ }
     ensures { λ r. ⌜ (r .refusal ≡ resultOf (sourceOutcome (length (now (arena .entry)))
         (stateOf (now (tables .entry)) (now (arena .entry))) (stamp .0)
         (now (source .entry)) (now (destination .entry))))
@@ -70,7 +65,7 @@ fn source_judge(
     }
     let h = row::read_head(tables, from.at);
     let to = looked_up.second;
-    let end = find_uploads::rows_end_from(tables, arena, further(from, to));
+    let end = find_uploads::rows_end(tables, arena, offsets);
     let room = room::object_room(tables, arena, to, end, h.size as usize);
     let place = room.place;
     CopyRoom {
@@ -81,15 +76,16 @@ fn source_judge(
     }
 }
 
-// COPY's refusal over whole memory, 0 for none; of an accepted one, where source and copy stand.
+// COPY's refusal over whole memory whose rows stand at `offsets`, 0 for none; of an accepted one, where source and copy stand.
 fn copy_judge(
     tables: &[u8],
     arena: &[u8],
+    offsets: Offsets,
     stamp: Stamp,
     source: &[u8],
     destination: &[u8],
 ) -> CopyRoom
-    requires { ⌜ whole (now tables) (now arena) ≡ true ⌝ }
+    requires { ⌜ Scanned (now tables) (now arena) offsets ⌝ }
     ensures { λ r. ⌜ (r .refusal ≡ resultOf (outcome (COPY (stamp .0) (now (source .entry)) (now (destination .entry)))
         (memory (now (tables .entry)) (now (arena .entry)))))
         × (r .refusal ≡ 0 → CopyPlaced (now (tables .entry)) (now (arena .entry)) (now (source .entry))
@@ -104,7 +100,7 @@ fn copy_judge(
     if !names::new_path_ok(destination) {
         return refused(types::BAD_REQUEST);
     }
-    source_judge(tables, arena, stamp, source, destination)
+    source_judge(tables, arena, offsets, stamp, source, destination)
 }
 
 // The digest of the data of the object that a lookup found, which stand in its block after its pairs.
@@ -120,18 +116,19 @@ fn source_digest(tables: &[u8], arena: &[u8], source: Lookup) -> Digest
     md5::digest(&arena[from..to])
 }
 
-// COPY over whole memory.
+// COPY over whole memory whose rows stand at `offsets`.
 pub fn copy_whole(
     tables: &mut [u8],
     arena: &mut [u8],
+    offsets: Offsets,
     stamp: Stamp,
     source: &[u8],
     destination: &[u8],
 ) -> DoneAnswer
-    requires { ⌜ whole (now tables) (now arena) ≡ true ⌝ }
+    requires { ⌜ Scanned (now tables) (now arena) offsets ⌝ }
     ensures { λ r. ⌜ MadeWhole (COPY (stamp .0) (now (source .entry)) (now (destination .entry))) (memory (now (tables .entry)) (now (arena .entry))) (doneReply r) (memory (now (tables .exit)) (now (arena .exit))) × WellNumbered r ⌝ }
 {
-    let room = copy_judge(tables, arena, stamp, source, destination);
+    let room = copy_judge(tables, arena, offsets, stamp, source, destination);
     if room.refusal != 0 {
         return DoneAnswer::Refused(room.refusal);
     }
@@ -160,8 +157,8 @@ pub fn copy(
 ) -> DoneAnswer
     ensures { λ r. ⌜ Made (COPY (stamp .0) (now (source .entry)) (now (destination .entry))) (memory (now (tables .entry)) (now (arena .entry))) (doneReply r) (memory (now (tables .exit)) (now (arena .exit))) × WellNumbered r ⌝ }
 {
-    if !scan::whole(tables, arena) {
+    let StoreScan::Good(offsets) = scan::scan_store(tables, arena) else {
         return DoneAnswer::Refused(types::NOT_A_STORE);
-    }
-    copy_whole(tables, arena, stamp, source, destination)
+    };
+    copy_whole(tables, arena, offsets, stamp, source, destination)
 }

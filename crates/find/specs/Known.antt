@@ -9,8 +9,8 @@ use Rattle.machine.specs.Names.{Bytes}
 use Rattle.machine.specs.State.{Upload, State}
 use Rattle.row.specs.Row.{Row}
 use Rattle.layout.specs.Memory.{whole, stateOf, rowsOf}
-use Rattle.scan_objects.specs.declared.Offset.{Offset}
-use Rattle.scan_objects.specs.Scan.{uploadsFrom}
+use Rattle.scan_objects.specs.declared.Offsets.{Offsets}
+use Rattle.scan_objects.specs.Scan.{offsetsIn}
 use Rattle.find.specs.declared.RowPlace.{RowPlace}
 use Rattle.find.specs.declared.Lookup.{Lookup}
 use Rattle.find.specs.Places.{objectPlace, uploadRowOf, partsRowOf}
@@ -21,9 +21,9 @@ module _ (t a : List ℕ) where
   abbrev pub rowsIn : List Row
   rowsIn = rowsOf (stateOf t a)
 
-  -- t and a are whole, and the rows of uploads begin at o
-  abbrev pub WholeFrom : Offset → Type 0
-  WholeFrom o = (whole t a ≡ true) × (o ≡ uploadsFrom t)
+  -- t and a are whole, and the test found the rows of uploads to begin, and all rows to end, at o
+  abbrev pub Scanned : Offsets → Type 0
+  Scanned o = (whole t a ≡ true) × (o ≡ offsetsIn t)
 
   -- t and a are whole, and upload u is open
   abbrev pub WholeOpen : ℕ → Type 0

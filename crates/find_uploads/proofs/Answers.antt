@@ -239,18 +239,6 @@ module _ (s : State) (u : ℕ) (x : Upload) (f : lookup byNumber u (s .U) ≡ so
       let k = q ∙ ap (rowPlaceAt rs) m ∙ place-after rs (throughParts s u x) (afterUpload s u) (parts-after s u x f) in
       λ i. record { count = c i; next = k i }
 
--- the places that a lookup of a part, and the pass over all, answer are of a row, or after them all
-pub part-row-place : (s : State) (u : ℕ) (x : Upload) (n : ℕ) (l : Lookup) → lookup byNumber u (s .U) ≡ some x → l ≡ partPlace s u x n → IsRowPlace (rowsOf s) (placeOf l)
-unfolding partPlace
-part-row-place s u x n l f e = lookup-place _ (rowsOf s) (beforePart s u x n) (fromPart s u x n) l e (part-place s u x f n)
-
-pub next-row-place : (s : State) (u : ℕ) (x : Upload) (p : PassedParts) → lookup byNumber u (s .U) ≡ some x → p ≡ passedParts s u x → IsRowPlace (rowsOf s) (p .next)
-unfolding passedParts
-next-row-place s u x p f e =
-    is-row-place (rowsOf s) (p .next) (length (throughParts s u x))
-    (ap (λ (q : PassedParts). q .next) e ∙ sym (place-after (rowsOf s) (throughParts s u x) (afterUpload s u) (parts-after s u x f)))
-    (omega (arith, ap length (parts-after s u x f), length-append (throughParts s u x) (afterUpload s u)))
-
 pub sought-after : (g : Goal) (rs : List Row) (p : RowPlace) (i : ℕ) → p ≡ sought g rs i → i ≤ p .row
 unfolding sought
 sought-after g rs p i e = omega (arith, place-row rs p _ e)

@@ -11,5 +11,4 @@ pub use uploads::find_upload;
 pub use uploads::pass_parts;
 pub use uploads::pass_parts_from;
 pub use uploads::rows_end;
-pub use uploads::rows_end_after;
 pub use uploads::rows_end_from;

@@ -2,7 +2,7 @@
 use find::RowPlace;
 use find::read_counts;
 use row::Head;
-use scan_objects::Offset;
+use scan_objects::Offsets;
 ghost use mathlib.Core.Path.{_≡_};
 ghost use Prim.Native.Nat.{_+_, _≤_};
 ghost use lib.ListN.{length, drop};
@@ -10,7 +10,7 @@ ghost use Rattle.layout.specs.Memory.{stateOf, objectRows};
 ghost use Rattle.find.specs.RowPlaces.{IsRowPlace, rowPlaceAt};
 ghost use Rattle.find_uploads.specs.Search.{stopsAt, sought, leads};
 ghost use Rattle.find.specs.Places.{firstUploadRow};
-ghost use Rattle.find.specs.Known.{rowsIn, WholeFrom, WholeRow, WholePlace};
+ghost use Rattle.find.specs.Known.{rowsIn, Scanned, WholeRow, WholePlace};
 
 // Where a search along the rows stops: after them all; at the upload with a number, or the first above it; at the next
 // upload; at the part with a number, the first above it, or the next upload; at the next upload that started before a
@@ -98,12 +98,13 @@ pub(crate) fn seek(tables: &[u8], arena: &[u8], from: RowPlace, goal: Goal) -> R
     here
 }
 
-// The place of the first upload's row, or where it would stand. `uploads` is where the test "whole" found it.
-pub fn first_upload(tables: &[u8], arena: &[u8], uploads: Offset) -> RowPlace
-    requires { ⌜ WholeFrom (now tables) (now arena) uploads ⌝ }
+// The place of the first upload's row, or where it would stand. `offsets` is what the test "whole" found.
+pub fn first_upload(tables: &[u8], arena: &[u8], offsets: Offsets) -> RowPlace
+    requires { ⌜ Scanned (now tables) (now arena) offsets ⌝ }
     ensures { λ r. ⌜ r ≡ firstUploadRow (stateOf (now (tables .entry)) (now (arena .entry))) ⌝ }
 {
     let counts = read_counts(tables, arena);
+    let uploads = offsets.uploads;
     RowPlace {
         row: counts.objects,
         at: uploads.at,
@@ -112,12 +113,12 @@ pub fn first_upload(tables: &[u8], arena: &[u8], uploads: Offset) -> RowPlace
 }
 
 // The search from there on.
-pub(crate) fn seek_uploads(tables: &[u8], arena: &[u8], uploads: Offset, goal: Goal) -> RowPlace
-    requires { ⌜ WholeFrom (now tables) (now arena) uploads ⌝ }
+pub(crate) fn seek_uploads(tables: &[u8], arena: &[u8], offsets: Offsets, goal: Goal) -> RowPlace
+    requires { ⌜ Scanned (now tables) (now arena) offsets ⌝ }
     ensures { λ r. ⌜ r ≡ sought goal (rowsIn (now (tables .entry)) (now (arena .entry)))
         (length (objectRows (stateOf (now (tables .entry)) (now (arena .entry)) .O))) ⌝ }
 {
-    let first = first_upload(tables, arena, uploads);
+    let first = first_upload(tables, arena, offsets);
     seek(tables, arena, first, goal)
 }
 

@@ -1,4 +1,4 @@
-// Where an upload and its parts stand, and where the rows end. `uploads` is where the test "whole" found the rows of uploads.
+// Where an upload and its parts stand, and where the rows end. `offsets` is what the test "whole" found.
 use crate::search::Goal;
 use crate::search::next_row;
 use crate::search::seek;
@@ -9,32 +9,31 @@ use find::PassedParts;
 use find::RowPlace;
 use find::lookup_at;
 use find::place_of;
-use scan_objects::Offset;
+use find::read_counts;
+use scan_objects::Offsets;
 ghost use mathlib.Core.Path.{_≡_};
 ghost use Prim.Native.Nat.{_+_, _≤_};
 ghost use lib.ListN.{length};
 ghost use Rattle.layout.specs.Memory.{stateOf};
 ghost use Rattle.find.specs.Places.{placeOf, placeAfter, uploadPlace, partPlace, passedParts};
-ghost use Rattle.find.specs.Known.{rowsIn, WholeFrom, WholeRow, WholePlace, OfOpenAt, OfOpenBefore};
+ghost use Rattle.find.specs.Known.{rowsIn, Scanned, WholeRow, WholePlace, OfOpenAt, OfOpenBefore};
 ghost use Rattle.find_uploads.specs.Search.{dueFrom};
 
 // The end of the rows.
-pub fn rows_end(tables: &[u8], arena: &[u8], uploads: Offset) -> RowPlace
-    requires { ⌜ WholeFrom (now tables) (now arena) uploads ⌝ }
+pub fn rows_end(tables: &[u8], arena: &[u8], offsets: Offsets) -> RowPlace
+    requires { ⌜ Scanned (now tables) (now arena) offsets ⌝ }
     ensures { λ r. ⌜ r ≡ placeAfter (rowsIn (now (tables .entry)) (now (arena .entry))) ⌝ }
 {
-    seek_uploads(tables, arena, uploads, Goal::End)
+    let counts = read_counts(tables, arena);
+    let end = offsets.end;
+    RowPlace {
+        row: counts.rows,
+        at: end.at,
+        base: end.base,
+    }
 }
 
-// The same from a row on.
-pub fn rows_end_after(tables: &[u8], arena: &[u8], from: RowPlace) -> RowPlace
-    requires { ⌜ WholePlace (now tables) (now arena) from ⌝ }
-    ensures { λ r. ⌜ r ≡ placeAfter (rowsIn (now (tables .entry)) (now (arena .entry))) ⌝ }
-{
-    seek(tables, arena, from, Goal::End)
-}
-
-// The same from the place that a lookup answers on.
+// The same by a search from the place that a lookup answers on.
 pub fn rows_end_from(tables: &[u8], arena: &[u8], place: Lookup) -> RowPlace
     requires { ⌜ WholePlace (now tables) (now arena) (placeOf place) ⌝ }
     ensures { λ r. ⌜ r ≡ placeAfter (rowsIn (now (tables .entry)) (now (arena .entry))) ⌝ }
@@ -44,11 +43,11 @@ pub fn rows_end_from(tables: &[u8], arena: &[u8], place: Lookup) -> RowPlace
 }
 
 // The place of the upload with this number.
-pub fn find_upload(tables: &[u8], arena: &[u8], uploads: Offset, upload: u32) -> Lookup
-    requires { ⌜ WholeFrom (now tables) (now arena) uploads ⌝ }
+pub fn find_upload(tables: &[u8], arena: &[u8], offsets: Offsets, upload: u32) -> Lookup
+    requires { ⌜ Scanned (now tables) (now arena) offsets ⌝ }
     ensures { λ r. ⌜ r ≡ uploadPlace (stateOf (now (tables .entry)) (now (arena .entry))) upload ⌝ }
 {
-    let here = seek_uploads(tables, arena, uploads, Goal::Upload(upload));
+    let here = seek_uploads(tables, arena, offsets, Goal::Upload(upload));
     let found = stands(tables, arena, here, layout::UPLOAD_KIND, upload);
     lookup_at(found, here)
 }

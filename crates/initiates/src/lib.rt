@@ -1,7 +1,7 @@
 // INITIATE: an upload is opened, without parts, under a number that was never used.
 use find::RowPlace;
-use scan_objects::Offset;
-use scan_objects::Scan;
+use scan::StoreScan;
+use scan_objects::Offsets;
 use types::InitiateAnswer;
 use types::Stamp;
 use types::UploadNumber;
@@ -10,7 +10,7 @@ ghost use mathlib.Core.Bool.{true};
 ghost use Rattle.machine.specs.Pairs.{pairsOk, pairMap, pairList};
 ghost use Rattle.machine.specs.Calls.{INITIATE};
 ghost use Rattle.find.specs.Places.{placeAfter};
-ghost use Rattle.find.specs.Known.{rowsIn, WholeFrom};
+ghost use Rattle.find.specs.Known.{rowsIn, Scanned};
 ghost use Rattle.contract.specs.Answers.{initiateReply};
 ghost use Rattle.contract.specs.Made.{memory, outcome, resultOf, Made, MadeWhole};
 ghost use Rattle.initiates.specs.Initiate.{OpenResult};
@@ -37,8 +37,8 @@ fn refused(n: u8) -> OpenRoom
 
 // The refusal of an upload with pairs that are taken: table full, arena full, numbers used up or 0; of an accepted one,
 // the end of the rows.
-fn initiate_room(tables: &[u8], arena: &[u8], uploads: Offset, pairs: &[u8]) -> OpenRoom
-    requires { ⌜ WholeFrom (now tables) (now arena) uploads × (pairsOk (pairList (now pairs)) ≡ true) ⌝ }
+fn initiate_room(tables: &[u8], arena: &[u8], offsets: Offsets, pairs: &[u8]) -> OpenRoom
+    requires { ⌜ Scanned (now tables) (now arena) offsets × (pairsOk (pairList (now pairs)) ≡ true) ⌝ }
     ensures { λ r. ⌜ OpenResult (now (tables .entry)) (now (arena .entry)) (pairMap (pairList (now (pairs .entry)))) (r .refusal)
         × (r .refusal ≡ 0 → r .end ≡ placeAfter (rowsIn (now (tables .entry)) (now (arena .entry)))) ⌝ }
 {
@@ -47,7 +47,7 @@ fn initiate_room(tables: &[u8], arena: &[u8], uploads: Offset, pairs: &[u8]) -> 
     if layout::UPLOADS_MOST <= open {
         return refused(types::TABLE_FULL);
     }
-    let end = find_uploads::rows_end(tables, arena, uploads);
+    let end = find_uploads::rows_end(tables, arena, offsets);
     let held = end.base;
     let n = pairs::held(pairs);
     let full = room::arena_judge(held, n, arena.len());
@@ -61,17 +61,17 @@ fn initiate_room(tables: &[u8], arena: &[u8], uploads: Offset, pairs: &[u8]) -> 
     OpenRoom { refusal: 0, end }
 }
 
-// INITIATE's refusal over whole memory whose uploads begin at `uploads`, 0 for none; of an accepted one, the end of the
+// INITIATE's refusal over whole memory whose rows stand at `offsets`, 0 for none; of an accepted one, the end of the
 // rows.
 fn initiate_judge(
     tables: &[u8],
     arena: &[u8],
-    uploads: Offset,
+    offsets: Offsets,
     stamp: Stamp,
     path: &[u8],
     pairs: &[u8],
 ) -> OpenRoom
-    requires { ⌜ WholeFrom (now tables) (now arena) uploads ⌝ }
+    requires { ⌜ Scanned (now tables) (now arena) offsets ⌝ }
     ensures { λ r. ⌜ (r .refusal ≡ resultOf (outcome (INITIATE (stamp .0) (now (path .entry)) (pairList (now (pairs .entry))))
         (memory (now (tables .entry)) (now (arena .entry)))))
         × (r .refusal ≡ 0 → r .end ≡ placeAfter (rowsIn (now (tables .entry)) (now (arena .entry)))) ⌝ }
@@ -85,24 +85,24 @@ fn initiate_judge(
     if !pairs::judge(pairs) {
         return refused(types::BAD_REQUEST);
     }
-    initiate_room(tables, arena, uploads, pairs)
+    initiate_room(tables, arena, offsets, pairs)
 }
 
-// INITIATE over whole memory whose uploads begin at `uploads`.
+// INITIATE over whole memory whose rows stand at `offsets`.
 pub fn initiate_whole(
     tables: &mut [u8],
     arena: &mut [u8],
-    uploads: Offset,
+    offsets: Offsets,
     stamp: Stamp,
     path: &[u8],
     pairs: &[u8],
 ) -> InitiateAnswer
-    requires { ⌜ WholeFrom (now tables) (now arena) uploads ⌝ }
+    requires { ⌜ Scanned (now tables) (now arena) offsets ⌝ }
     ensures { λ r. ⌜ MadeWhole (INITIATE (stamp .0) (now (path .entry)) (pairList (now (pairs .entry))))
         (memory (now (tables .entry)) (now (arena .entry))) (initiateReply r)
         (memory (now (tables .exit)) (now (arena .exit))) ⌝ }
 {
-    let room = initiate_judge(tables, arena, uploads, stamp, path, pairs);
+    let room = initiate_judge(tables, arena, offsets, stamp, path, pairs);
     if room.refusal != 0 {
         return InitiateAnswer::Refused(room.refusal);
     }
@@ -123,8 +123,8 @@ pub fn initiate(
         (memory (now (tables .entry)) (now (arena .entry))) (initiateReply r)
         (memory (now (tables .exit)) (now (arena .exit))) ⌝ }
 {
-    let Scan::Good(uploads) = scan::scan_store(tables, arena) else {
+    let StoreScan::Good(offsets) = scan::scan_store(tables, arena) else {
         return InitiateAnswer::Refused(types::NOT_A_STORE);
     };
-    initiate_whole(tables, arena, uploads, stamp, path, pairs)
+    initiate_whole(tables, arena, offsets, stamp, path, pairs)
 }

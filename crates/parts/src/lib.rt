@@ -1,8 +1,8 @@
 // PART: a part of an open upload is set.
 use find::Lookup;
 use room::Room;
-use scan_objects::Offset;
-use scan_objects::Scan;
+use scan::StoreScan;
+use scan_objects::Offsets;
 use types::Etag;
 use types::PartAnswer;
 use types::PartNumber;
@@ -13,7 +13,7 @@ ghost use Rattle.machine.specs.Calls.{PART};
 ghost use Rattle.machine.specs.Steps.{partAt};
 ghost use Rattle.layout.specs.Memory.{stateOf};
 ghost use Rattle.find.specs.Places.{uploadPlace};
-ghost use Rattle.find.specs.Known.{WholeFrom, WholeOpen};
+ghost use Rattle.find.specs.Known.{Scanned, WholeOpen};
 ghost use Rattle.edit_uploads.specs.Parts.{PartPlaced};
 ghost use Rattle.contract.specs.Answers.{partReply};
 ghost use Rattle.contract.specs.Made.{memory, outcome, resultOf, Made, MadeWhole};
@@ -23,19 +23,21 @@ ghost use Rattle.contract.specs.Made.{memory, outcome, resultOf, Made, MadeWhol
 fn part_room(
     tables: &[u8],
     arena: &[u8],
+    offsets: Offsets,
     upload: UploadNumber,
     opened: Lookup,
     number: PartNumber,
     content: &[u8],
 ) -> Room
     requires { ⌜ WholeOpen (now tables) (now arena) (upload .0)
-        × (opened ≡ uploadPlace (stateOf (now tables) (now arena)) (upload .0)) ⌝ }
+        × (opened ≡ uploadPlace (stateOf (now tables) (now arena)) (upload .0))
+        × Scanned (now tables) (now arena) offsets ⌝ }
     ensures { λ r. ⌜ (r .refusal ≡ resultOf (partAt (length (now (arena .entry)))
         (stateOf (now (tables .entry)) (now (arena .entry))) (upload .0) (number .0) (now (content .entry))))
         × PartPlaced (now (tables .entry)) (now (arena .entry)) (upload .0) (number .0) (r .place) (r .end) ⌝ }
 {
     let place = find_uploads::find_part_after(tables, arena, opened, number.0);
-    let end = find_uploads::rows_end_from(tables, arena, place);
+    let end = find_uploads::rows_end(tables, arena, offsets);
     let held = end.base;
     if place.found {
         let h = row::read_head(tables, place.at);
@@ -61,16 +63,16 @@ fn part_room(
     }
 }
 
-// PART's refusal over whole memory whose uploads begin at `uploads`, 0 for none; of an accepted one, where its part goes.
+// PART's refusal over whole memory whose rows stand at `offsets`, 0 for none; of an accepted one, where its part goes.
 fn part_judge(
     tables: &[u8],
     arena: &[u8],
-    uploads: Offset,
+    offsets: Offsets,
     upload: UploadNumber,
     number: PartNumber,
     content: &[u8],
 ) -> Room
-    requires { ⌜ WholeFrom (now tables) (now arena) uploads ⌝ }
+    requires { ⌜ Scanned (now tables) (now arena) offsets ⌝ }
     ensures { λ r. ⌜ (r .refusal ≡ resultOf (outcome (PART (upload .0) (number .0) (now (content .entry)))
         (memory (now (tables .entry)) (now (arena .entry)))))
         × (r .refusal ≡ 0
@@ -79,26 +81,26 @@ fn part_judge(
     if !names::request_part_ok(number.0) {
         return room::refused(types::BAD_REQUEST);
     }
-    let place = find_uploads::find_upload(tables, arena, uploads, upload.0);
+    let place = find_uploads::find_upload(tables, arena, offsets, upload.0);
     if !place.found {
         return room::refused(types::BAD_REQUEST);
     }
-    part_room(tables, arena, upload, place, number, content)
+    part_room(tables, arena, offsets, upload, place, number, content)
 }
 
-// PART over whole memory whose uploads begin at `uploads`.
+// PART over whole memory whose rows stand at `offsets`.
 pub fn part_whole(
     tables: &mut [u8],
     arena: &mut [u8],
-    uploads: Offset,
+    offsets: Offsets,
     upload: UploadNumber,
     number: PartNumber,
     content: &[u8],
 ) -> PartAnswer
-    requires { ⌜ WholeFrom (now tables) (now arena) uploads ⌝ }
+    requires { ⌜ Scanned (now tables) (now arena) offsets ⌝ }
     ensures { λ r. ⌜ MadeWhole (PART (upload .0) (number .0) (now (content .entry))) (memory (now (tables .entry)) (now (arena .entry))) (partReply r) (memory (now (tables .exit)) (now (arena .exit))) ⌝ }
 {
-    let room = part_judge(tables, arena, uploads, upload, number, content);
+    let room = part_judge(tables, arena, offsets, upload, number, content);
     if room.refusal != 0 {
         return PartAnswer::Refused(room.refusal);
     }
@@ -126,8 +128,8 @@ pub fn part(
 ) -> PartAnswer
     ensures { λ r. ⌜ Made (PART (upload .0) (number .0) (now (content .entry))) (memory (now (tables .entry)) (now (arena .entry))) (partReply r) (memory (now (tables .exit)) (now (arena .exit))) ⌝ }
 {
-    let Scan::Good(uploads) = scan::scan_store(tables, arena) else {
+    let StoreScan::Good(offsets) = scan::scan_store(tables, arena) else {
         return PartAnswer::Refused(types::NOT_A_STORE);
     };
-    part_whole(tables, arena, uploads, upload, number, content)
+    part_whole(tables, arena, offsets, upload, number, content)
 }

@@ -1,14 +1,14 @@
 // The room for an object, the pairs of an upload or a part: refusals of PUT, COPY, INITIATE and PART, by number; 0 for none.
 use find::Lookup;
 use find::RowPlace;
+use scan_objects::Offsets;
 ghost use mathlib.Core.Path.{_≡_};
-ghost use mathlib.Core.Bool.{true, cond};
+ghost use mathlib.Core.Bool.{cond};
 ghost use Prim.Native.Nat.{_+_, _≤_};
 ghost use lib.Dec.{leb};
 ghost use Rattle.machine.specs.Calls.{arenaFull, code};
-ghost use Rattle.layout.specs.Memory.{whole};
 ghost use Rattle.find.specs.Places.{placeAfter};
-ghost use Rattle.find.specs.Known.{rowsIn, WholeLookup, OfPath};
+ghost use Rattle.find.specs.Known.{rowsIn, Scanned, WholeLookup, OfPath};
 ghost use Rattle.edit.specs.Objects.{ObjectPlaced};
 ghost use Rattle.room.specs.Judged.{PutResult};
 
@@ -63,14 +63,14 @@ pub fn object_room(tables: &[u8], arena: &[u8], place: Lookup, end: RowPlace, n:
     }
 }
 
-// The same of a path.
-pub fn object_judge(tables: &[u8], arena: &[u8], path: &[u8], n: usize) -> Room
-    requires { ⌜ whole (now tables) (now arena) ≡ true ⌝ }
+// The same of a path, in whole memory whose rows stand at `offsets`.
+pub fn object_judge(tables: &[u8], arena: &[u8], offsets: Offsets, path: &[u8], n: usize) -> Room
+    requires { ⌜ Scanned (now tables) (now arena) offsets ⌝ }
     ensures { λ r. ⌜ PutResult (now (tables .entry)) (now (arena .entry)) (now (path .entry)) n (r .refusal)
         × ObjectPlaced (now (tables .entry)) (now (arena .entry)) (now (path .entry)) (r .place) (r .end) ⌝ }
 {
     let place = find::find_object(tables, arena, path);
-    let end = find_uploads::rows_end_from(tables, arena, place);
+    let end = find_uploads::rows_end(tables, arena, offsets);
     object_room(tables, arena, place, end, n)
 }
 

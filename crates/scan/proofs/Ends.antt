@@ -15,23 +15,41 @@ use Rattle.layout.specs.Rules.{all, objectOk, objectNext, start}
 use Rattle.layout.specs.Memory.{headerOk, uploadTables, uploadArena, uploadRowsAt, objectsGood, uploadsGood, wholeOf}
 use Rattle.scan_objects.specs.declared.Offset.{Offset}
 use Rattle.layout.specs.Header.{headerAt, headerLength}
+use Rattle.scan_objects.specs.declared.Offsets.{Offsets}
 use Rattle.scan_objects.specs.declared.Scan.{Scan}
 use Rattle.scan_objects.specs.declared.Scan.the-variants.{Bad, Good}
-use Rattle.scan_objects.specs.Scan.{past, pastAll, objectScan, first, uploadsFrom}
-use Rattle.scan.specs.Scan.{entriesOk, rowsOk}
+use Rattle.scan_objects.specs.Scan.{past, pastAll, objectScan, first, uploadsFrom, rowsEnd, offsetsIn}
+use Rattle.scan.specs.declared.StoreScan.{StoreScan}
+use Rattle.scan.specs.declared.StoreScan.the-variants as store
+use Rattle.scan.specs.Scan.{entriesOk, entryScan, rowsOk, rowOffsets}
 
--- what the answer of a scan tells of what was scanned
-pub found-bad : {b : Bool} {r : Scan} (o : Offset) → r ≡ cond b (Good o) Bad → r ≡ Bad → b ≡ false
-found-bad {b} o e q = pick b (sym e ∙ q)
+-- what the answer of a scan of rows tells of them
+end-bad : {b : Bool} {r : Scan} (o : Offset) → r ≡ cond b (Good o) Bad → r ≡ Bad → b ≡ false
+end-bad {b} o e q = pick b (sym e ∙ q)
   where
     pick : (x : Bool) → cond x (Good o) Bad ≡ Bad → x ≡ false
     pick true k = cc
     pick false k = refl
 
-pub found-good : {b : Bool} {o p : Offset} {r : Scan} → r ≡ cond b (Good o) Bad → r ≡ Good p → (b ≡ true) × (p ≡ o)
-found-good {b} {o} {p} e q = pick b (sym e ∙ q)
+end-good : {b : Bool} {o p : Offset} {r : Scan} → r ≡ cond b (Good o) Bad → r ≡ Good p → (b ≡ true) × (p ≡ o)
+end-good {b} {o} {p} e q = pick b (sym e ∙ q)
   where
     pick : (x : Bool) → cond x (Good o) Bad ≡ Good p → (x ≡ true) × (p ≡ o)
+    pick true k = (refl, cc)
+    pick false k = (cc, cc)
+
+-- and that of a store
+pub found-bad : {b : Bool} {r : StoreScan} (o : Offsets) → r ≡ cond b (store.Good o) store.Bad → r ≡ store.Bad → b ≡ false
+found-bad {b} o e q = pick b (sym e ∙ q)
+  where
+    pick : (x : Bool) → cond x (store.Good o) store.Bad ≡ store.Bad → x ≡ false
+    pick true k = cc
+    pick false k = refl
+
+pub found-good : {b : Bool} {o p : Offsets} {r : StoreScan} → r ≡ cond b (store.Good o) store.Bad → r ≡ store.Good p → (b ≡ true) × (p ≡ o)
+found-good {b} {o} {p} e q = pick b (sym e ∙ q)
+  where
+    pick : (x : Bool) → cond x (store.Good o) store.Bad ≡ store.Good p → (x ≡ true) × (p ≡ o)
     pick true k = (refl, cc)
     pick false k = (cc, cc)
 
@@ -77,45 +95,52 @@ module _ (most : ℕ) (h : Header) (t a : List ℕ) (r : Scan) (e : r ≡ object
   abbrev objects : Bool
   objects = good (List ℕ) (objectOk most) objectNext (h .objects) [] (drop headerLength t) a
 
-  -- where the rows of uploads begin, if all rows stand
-  abbrev answer : Scan
-  answer = cond (rowsOk most h t a) (Good (pastAll (h .objects) first t)) Bad
+  -- where the rows stand, if all do
+  abbrev answer : StoreScan
+  answer = cond (rowsOk most h t a) (store.Good (rowOffsets h t)) store.Bad
 
-  pub rows-bad : r ≡ Bad → Bad ≡ answer
+  pub rows-bad : r ≡ Bad → store.Bad ≡ answer
   unfolding objectScan rowsOk
-  rows-bad q = let n : objects ≡ false = found-bad _ e q in rw n
+  rows-bad q = let n : objects ≡ false = end-bad _ e q in rw n
 
   module _ (p : Offset) (q : r ≡ Good p) where
     found : (objects ≡ true) × (p ≡ pastAll (h .objects) first t)
     unfolding objectScan
-    found = found-good e q
+    found = end-good e q
 
     pub rows-end : headerLength ≤ length t → (p .at ≤ length t) × (p .base ≤ length a)
     rows-end l = rw (found .1) (past-inside (List ℕ) (objectOk most) objectNext (h .objects) [] first t a (found .0) l (omega arith))
 
-    module _ (x : Bool) (y : x ≡ entriesOk most (h .next) (h .uploads) 0 (h .uploads + h .parts) start p t a) where
-      rows-judged : rowsOk most h t a ≡ x
+    module _ (x : Scan) (y : x ≡ entryScan most (h .next) (h .uploads) 0 (h .uploads + h .parts) start p t a) where
+      abbrev entries : Bool
+      entries = entriesOk most (h .next) (h .uploads) 0 (h .uploads + h .parts) start p t a
+
+      rows-judged : rowsOk most h t a ≡ entries
       unfolding rowsOk
-      rows-judged = sym (rw (found .0) (rw (found .1) at y))
+      rows-judged = rw (found .0, found .1)
 
-      pub entries-bad : not x ≡ true → Bad ≡ answer
-      entries-bad n = rw (rows-judged, not-true x n)
+      pub entries-bad : x ≡ Bad → store.Bad ≡ answer
+      unfolding entryScan
+      entries-bad n = let no : entries ≡ false = end-bad _ y n in rw (rows-judged, no)
 
-      pub rows-good : not x ≡ false → Good p ≡ answer
-      rows-good n = rw (rows-judged, not-false x n, found .1)
+      pub rows-good : (z : Offset) → x ≡ Good z → store.Good (record { uploads = p; end = z }) ≡ answer
+      unfolding entryScan rowOffsets
+      rows-good z n =
+          let w : (entries ≡ true) × (z ≡ pastAll (h .uploads + h .parts) p t) = end-good y n in
+          rw (rows-judged, w .0, w .1, found .1)
 
 -- the test "whole" of a layout, by the header and the scans
 module _ (T most : ℕ) (t a : List ℕ) where
-  -- where the rows of uploads begin, if memory is whole
-  abbrev pub scanned : Scan
-  scanned = cond (wholeOf T most t a) (Good (uploadsFrom t)) Bad
+  -- where the rows stand, if memory is whole
+  abbrev pub scanned : StoreScan
+  scanned = cond (wholeOf T most t a) (store.Good (offsetsIn t)) store.Bad
 
   whole-is : wholeOf T most t a ≡ (headerOk T (length t) (length a) (headerAt t) && rowsOk most (headerAt t) t a)
   unfolding wholeOf all rowsOk entriesOk objectsGood uploadsGood uploadRowsAt uploadTables uploadArena
   whole-is =
       rw (and-true, zero-add, past-tables (headerAt t .objects) first t, past-arena (headerAt t .objects) first t a)
 
-  pub too-short : length t < headerLength → headerLength ≤ T → Bad ≡ scanned
+  pub too-short : length t < headerLength → headerLength ≤ T → store.Bad ≡ scanned
   unfolding wholeOf all headerOk
   too-short l room = rw (ne-eqb (length t) T (λ e. omega arith))
 
@@ -123,9 +148,9 @@ module _ (T most : ℕ) (t a : List ℕ) where
     judged : headerOk T (length t) (length a) (headerAt t) ≡ b
     judged = ap (headerOk T (length t) (length a)) (sym e) ∙ sym q
 
-    pub header-bad : not b ≡ true → Bad ≡ scanned
+    pub header-bad : not b ≡ true → store.Bad ≡ scanned
     header-bad n = rw (whole-is, judged, not-true b n)
 
-    pub header-good : not b ≡ false → (r : Scan) → r ≡ cond (rowsOk most h t a) (Good (pastAll (h .objects) first t)) Bad → r ≡ scanned
-    unfolding uploadsFrom
+    pub header-good : not b ≡ false → (r : StoreScan) → r ≡ cond (rowsOk most h t a) (store.Good (rowOffsets h t)) store.Bad → r ≡ scanned
+    unfolding uploadsFrom rowsEnd rowOffsets
     header-good n r q = rw (whole-is, judged, not-false b n, ← e) q

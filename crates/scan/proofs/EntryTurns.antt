@@ -13,13 +13,14 @@ use Rattle.row.specs.Row.{Row, rowAt, rowsAt, headLength}
 use Rattle.layout.specs.declared.Mark.{Mark}
 use Rattle.scan_objects.specs.declared.Offset.{Offset}
 use Rattle.scan_objects.specs.declared.Reading.the-variants.{Short, Fits}
+use Rattle.scan_objects.specs.declared.Scan.the-variants.{Bad, Good}
 use Rattle.layout.specs.Rules.{entryRule, partRule, uploadKind, entryOk, entryNext, markAfter}
 use Rattle.layout.specs.Memory.{uploadsAmong}
 use Rattle.scan_objects.specs.Scan.{readingOf, past}
-use Rattle.scan.specs.Scan.{opensOne, entriesOk}
-use borrow.Author.Tests.{ne-eqb, not-true, not-false}
+use Rattle.scan.specs.Scan.{opensOne, entriesOk, entryScan}
+use borrow.Author.Tests.{eq-eqb, ne-eqb, not-true, not-false}
 use Rattle.scan.proofs.Readings.{part-is}
-use Rattle.scan_objects.proofs.Turns.{digestPart, pathPart, lengthsPart, contentPart, head-of, digest-of, path-of, lengths-of, content-of, rest-tables, rest-arena, more, good-end, good-short, good-wrong, good-next}
+use Rattle.scan_objects.proofs.Turns.{digestPart, pathPart, lengthsPart, contentPart, head-of, digest-of, path-of, lengths-of, content-of, rest-tables, rest-arena, more, good-end, past-end, good-short, good-wrong, good-next, past-next}
 
 pub opens-small : (h : Head) → opensOne h ≤ 1
 unfolding opensOne
@@ -30,15 +31,21 @@ opens-small h = small (eqb (h .kind) uploadKind)
     small false = lit≤ tt
 
 module _ (t a : List ℕ) (most N uploads opened n i : ℕ) (m : Mark) (o : Offset) where
-  pub entries-end : n ≤ i → entriesOk most N uploads opened (n - i) m o t a ≡ eqb opened uploads
-  unfolding entriesOk rowsAt uploadsAmong
+  entries-end : n ≤ i → entryScan most N uploads opened (n - i) m o t a ≡ cond (eqb opened uploads) (Good o) Bad
+  unfolding entryScan entriesOk rowsAt uploadsAmong
   entries-end l =
       let z : n - i ≡ 0 = omega arith in
-      rw (good-end Mark (entryOk most N) entryNext t a n i m o l, z, add-zero)
+      rw (good-end Mark (entryOk most N) entryNext t a n i m o l, past-end Mark (entryOk most N) entryNext t a n i m o l, z, add-zero)
+
+  pub entries-counted : n ≤ i → opened ≡ uploads → entryScan most N uploads opened (n - i) m o t a ≡ Good o
+  entries-counted l e = entries-end l ∙ rw (eq-eqb opened uploads e)
+
+  pub entries-miscounted : n ≤ i → (opened ≡ uploads → ⊥) → entryScan most N uploads opened (n - i) m o t a ≡ Bad
+  entries-miscounted l e = entries-end l ∙ rw (ne-eqb opened uploads e)
 
   module _ (l : i < n) where
-    pub entries-short : readingOf (drop (o .at) t) (drop (o .base) a) ≡ Short → entriesOk most N uploads opened (n - i) m o t a ≡ false
-    unfolding entriesOk
+    pub entries-short : readingOf (drop (o .at) t) (drop (o .base) a) ≡ Short → entryScan most N uploads opened (n - i) m o t a ≡ Bad
+    unfolding entryScan entriesOk
     entries-short e = rw (good-short Mark (entryOk most N) entryNext t a n i m o l e)
 
     module _ (bytes : AreBytes t) (h : Head) (f : readingOf (drop (o .at) t) (drop (o .base) a) ≡ Fits h) where
@@ -63,16 +70,17 @@ module _ (t a : List ℕ) (most N uploads opened n i : ℕ) (m : Mark) (o : Offs
             rw (head-of t a o h f bytes, digest-of t a o h f bytes, path-of t a o h f bytes, lengths-of t a o h f bytes, content-of t a o h f bytes)
             (sym e)
 
-        pub entries-wrong : not r ≡ true → entriesOk most N uploads opened (n - i) m o t a ≡ false
-        unfolding entriesOk
+        pub entries-wrong : not r ≡ true → entryScan most N uploads opened (n - i) m o t a ≡ Bad
+        unfolding entryScan entriesOk
         entries-wrong q = rw (good-wrong Mark (entryOk most N) entryNext t a n i m o l h f (judged ∙ not-true r q))
 
         pub entries-next : not r ≡ false → (x : ℕ) → x ≡ opensOne h → (k : Mark) → k ≡ markAfter m h
-            → entriesOk most N uploads opened (n - i) m o t a ≡ entriesOk most N uploads (opened + x) (n - (i + 1)) k (past o h) t a
-        unfolding entriesOk
+            → entryScan most N uploads opened (n - i) m o t a ≡ entryScan most N uploads (opened + x) (n - (i + 1)) k (past o h) t a
+        unfolding entryScan entriesOk
         entries-next q x y k z =
             rw (
               good-next Mark (entryOk most N) entryNext t a n i m o l h f (judged ∙ not-false r q),
+              past-next Mark (entryOk most N) entryNext t a n i m o l h f,
               opens-next,
               head-of t a o h f bytes,
               add-assoc opened,
@@ -82,8 +90,8 @@ module _ (t a : List ℕ) (most N uploads opened n i : ℕ) (m : Mark) (o : Offs
 
       -- a part's row is passed by its length, and opens no upload
       pub part-next : partRule m h ≡ true → (k : Mark) → k ≡ markAfter m h
-          → entriesOk most N uploads opened (n - i) m o t a
-          ≡ entriesOk most N uploads opened (n - (i + 1)) k (record { at = o .at + headLength; base = o .base + h .size }) t a
+          → entryScan most N uploads opened (n - i) m o t a
+          ≡ entryScan most N uploads opened (n - (i + 1)) k (record { at = o .at + headLength; base = o .base + h .size }) t a
       unfolding entryRule opensOne
       part-next e k z =
           let p = part-is m h e in

@@ -6,13 +6,14 @@ ghost use lib.ListN.{length, drop};
 ghost use Rattle.order.specs.Order.{same};
 ghost use Rattle.layout.specs.Rules.{entryRule, noDigest, uploadRule, partRule, markAfter, start};
 ghost use Rattle.scan_objects.specs.Scan.{readingOf};
-ghost use Rattle.scan.specs.Scan.{opensOne, entriesOk};
+ghost use Rattle.scan.specs.Scan.{opensOne, entryScan};
 ghost use Rattle.scan_objects.specs.declared.Reading.the-variants.{Fits};
 ghost use Rattle.row.specs.declared.Head.{Head};
 use layout::Mark;
 use row::Head;
 use scan_objects::Offset;
 use scan_objects::Reading;
+use scan_objects::Scan;
 use scan_objects::rows;
 
 // Where a run of parts ends: the number of the next row, its offset, and the mark after the parts.
@@ -176,8 +177,8 @@ fn pass_parts(t: &[u8], arena: &[u8], from: Offset, m: Mark, first: usize, rows:
         × (r .end .at ≤ length (now (t .entry)))
         × (r .end .base ≤ length (now (arena .entry)))
         × ((most next uploads opened : ℕ)
-        → entriesOk most next uploads opened (rows - first) m from (now (t .entry)) (now (arena .entry))
-        ≡ entriesOk most next uploads opened (rows - r .row) (r .m) (r .end) (now (t .entry)) (now (arena .entry))) ⌝ }
+        → entryScan most next uploads opened (rows - first) m from (now (t .entry)) (now (arena .entry))
+        ≡ entryScan most next uploads opened (rows - r .row) (r .m) (r .end) (now (t .entry)) (now (arena .entry))) ⌝ }
 {
     let mut at = from.at;
     let mut base = from.base;
@@ -203,8 +204,8 @@ fn pass_parts(t: &[u8], arena: &[u8], from: Offset, m: Mark, first: usize, rows:
     }
 }
 
-// Whether the rows of uploads and parts stand from `from` on, just so many of each.
-pub(crate) fn entries_ok(
+// Whether the rows of uploads and parts stand from `from` on, just so many of each, and where they end.
+pub(crate) fn scan_entries(
     t: &[u8],
     arena: &[u8],
     from: Offset,
@@ -212,9 +213,9 @@ pub(crate) fn entries_ok(
     parts: u16,
     next: u64,
     most: u8,
-) -> bool
+) -> Scan
     requires { ⌜ (from .at ≤ length (now t)) × (from .base ≤ length (now arena)) ⌝ }
-    ensures { λ r. ⌜ r ≡ entriesOk most next uploads 0 (uploads + parts) start from (now (t .entry))
+    ensures { λ r. ⌜ r ≡ entryScan most next uploads 0 (uploads + parts) start from (now (t .entry))
         (now (arena .entry)) ⌝ }
 {
     let rows = uploads as usize + parts as usize;
@@ -225,7 +226,7 @@ pub(crate) fn entries_ok(
     let mut i: usize = 0;
     while i < rows {
         let Reading::Fits(h) = rows::read_row(t, at, arena, base) else {
-            return false;
+            return Scan::Bad;
         };
         let digest = at + row::NUMBERS_LENGTH;
         let path = at + row::HEAD_LENGTH;
@@ -242,7 +243,7 @@ pub(crate) fn entries_ok(
             &t[end..after],
             &arena[base..data_end],
         ) {
-            return false;
+            return Scan::Bad;
         }
         opened += opening(h);
         let next_row = Offset {
@@ -255,5 +256,8 @@ pub(crate) fn entries_ok(
         m = run.m;
         i = run.row;
     }
-    opened == uploads as usize
+    if opened != uploads as usize {
+        return Scan::Bad;
+    }
+    Scan::Good(Offset { at, base })
 }

@@ -6,6 +6,7 @@ use lib.ListN.{drop}
 use Rattle.row.specs.declared.Head.{Head}
 use Rattle.row.specs.Row.{headAt, inside, good, headLength}
 use Rattle.scan_objects.specs.declared.Offset.{Offset}
+use Rattle.scan_objects.specs.declared.Offsets.{Offsets}
 use Rattle.scan_objects.specs.declared.Reading.{Reading}
 use Rattle.scan_objects.specs.declared.Reading.the-variants.{Short, Fits}
 use Rattle.scan_objects.specs.declared.Scan.{Scan}
@@ -37,3 +38,11 @@ first = record { at = headerLength; base = 0 }
 -- where the rows of uploads begin: after as many objects as the header says
 unfoldable pub uploadsFrom : (t : List ℕ) → Offset
 uploadsFrom t = pastAll (headerAt t .objects) first t
+
+-- where all rows end: after as many uploads and parts as the header says
+unfoldable pub rowsEnd : (t : List ℕ) → Offset
+rowsEnd t = pastAll (headerAt t .uploads + headerAt t .parts) (uploadsFrom t) t
+
+-- both
+abbrev pub offsetsIn : (t : List ℕ) → Offsets
+offsetsIn t = record { uploads = uploadsFrom t; end = rowsEnd t }

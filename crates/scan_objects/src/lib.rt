@@ -17,6 +17,12 @@ pub struct Offset {
     pub base: usize,
 }
 
+// Where the rows of uploads begin, and where all rows end.
+pub struct Offsets {
+    pub uploads: Offset,
+    pub end: Offset,
+}
+
 // What a scan of rows finds: that they do not stand, or where they end.
 pub enum Scan {
     Bad,

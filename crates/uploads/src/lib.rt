@@ -3,32 +3,32 @@ mod measuring;
 mod rows;
 mod writing;
 
-use scan_objects::Offset;
-use scan_objects::Scan;
+use scan::StoreScan;
+use scan_objects::Offsets;
 use types::ListAnswer;
 ghost use mathlib.Core.Path.{_≡_};
 ghost use mathlib.Core.List.{[]};
 ghost use Rattle.machine.specs.Calls.{UPLOADS, buffers};
 ghost use Rattle.machine.specs.Steps.{replyOf};
-ghost use Rattle.find.specs.Known.{WholeFrom};
+ghost use Rattle.find.specs.Known.{Scanned};
 ghost use Rattle.contract.specs.Answers.{listReply};
 ghost use Rattle.contract.specs.Made.{memory, outcome, Made};
 
-// UPLOADS over whole memory whose uploads begin at `uploads`. The rows are passed once: what the records need of them is noted, four
+// UPLOADS over whole memory whose rows stand at `offsets`. The rows are passed once: what the records need of them is noted, four
 // bytes for each of at most 16.
 fn uploads_whole(
     tables: &[u8],
     arena: &[u8],
-    uploads: Offset,
+    offsets: Offsets,
     prefix: &[u8],
     answer: &mut [u8],
 ) -> ListAnswer
-    requires { ⌜ WholeFrom (now tables) (now arena) uploads ⌝ }
+    requires { ⌜ Scanned (now tables) (now arena) offsets ⌝ }
     ensures { λ r. ⌜ listReply r (now (answer .exit)) ≡ replyOf (buffers (now (answer .entry)) [])
         (outcome (UPLOADS (now (prefix .entry)) (now (answer .entry)))
         (memory (now (tables .entry)) (now (arena .entry)))) ⌝ }
 {
-    let first = find_uploads::first_upload(tables, arena, uploads);
+    let first = find_uploads::first_upload(tables, arena, offsets);
     let mut notes = [0u8; 64];
     let counts = measuring::measure(tables, arena, first, prefix, &mut notes);
     if answer.len() < counts.bytes as usize {
@@ -45,8 +45,8 @@ pub fn uploads(tables: &[u8], arena: &[u8], prefix: &[u8], answer: &mut [u8]) ->
         (listReply r (now (answer .exit)))
         (memory (now (tables .entry)) (now (arena .entry))) ⌝ }
 {
-    let Scan::Good(uploads) = scan::scan_store(tables, arena) else {
+    let StoreScan::Good(offsets) = scan::scan_store(tables, arena) else {
         return ListAnswer::Refused(types::NOT_A_STORE);
     };
-    uploads_whole(tables, arena, uploads, prefix, answer)
+    uploads_whole(tables, arena, offsets, prefix, answer)
 }

@@ -1,6 +1,7 @@
 // The refusal of a call over whole memory, in checking order, or 0, and the places that were found on the way.
 use find::Lookup;
 use room::Room;
+use scan_objects::Offsets;
 use types::Stamp;
 ghost use mathlib.Core.Path.{_≡_};
 ghost use mathlib.Core.Bool.{true};
@@ -8,19 +9,21 @@ ghost use Rattle.machine.specs.Calls.{Call};
 ghost use Rattle.machine.specs.Pairs.{pairList};
 ghost use Rattle.layout.specs.Memory.{whole, stateOf};
 ghost use Rattle.find.specs.Places.{objectPlace};
+ghost use Rattle.find.specs.Known.{Scanned};
 ghost use Rattle.edit.specs.Objects.{ObjectPlaced};
 ghost use Rattle.contract.specs.Made.{memory, outcome, resultOf};
 
-// PUT's refusal; of an accepted one, where its object goes.
+// PUT's refusal, where the rows stand at `offsets`; of an accepted one, where its object goes.
 pub(crate) fn put_judge(
     tables: &[u8],
     arena: &[u8],
+    offsets: Offsets,
     stamp: Stamp,
     path: &[u8],
     content: &[u8],
     pairs: &[u8],
 ) -> Room
-    requires { ⌜ whole (now tables) (now arena) ≡ true ⌝ }
+    requires { ⌜ Scanned (now tables) (now arena) offsets ⌝ }
     ensures { λ r. ⌜ (r .refusal
         ≡ resultOf (outcome (Call.PUT (stamp .0) (now (path .entry)) (now (content .entry))
         (pairList (now (pairs .entry)))) (memory (now (tables .entry)) (now (arena .entry)))))
@@ -37,7 +40,7 @@ pub(crate) fn put_judge(
         return room::refused(types::BAD_REQUEST);
     }
     let n = pairs::held(pairs) + content.len();
-    room::object_judge(tables, arena, path, n)
+    room::object_judge(tables, arena, offsets, path, n)
 }
 
 // DELETE's refusal, or 0, and where its object stands.

@@ -2,6 +2,8 @@
 mod judges;
 
 use layout::Header;
+use scan::StoreScan;
+use scan_objects::Offsets;
 use types::DoneAnswer;
 use types::Stamp;
 ghost use mathlib.Core.Path.{_≡_};
@@ -9,6 +11,7 @@ ghost use mathlib.Core.Bool.{true};
 ghost use Rattle.machine.specs.Calls.{Call};
 ghost use Rattle.machine.specs.Pairs.{pairList};
 ghost use Rattle.layout.specs.Memory.{whole};
+ghost use Rattle.find.specs.Known.{Scanned};
 ghost use Rattle.contract.specs.Answers.{WellNumbered, doneReply};
 ghost use Rattle.contract.specs.Made.{memory, Made, MadeWhole, MadeFresh};
 
@@ -33,16 +36,17 @@ pub fn fresh(tables: &mut [u8], arena: &mut [u8]) -> u8
     0
 }
 
-// PUT over whole memory.
+// PUT over whole memory whose rows stand at `offsets`.
 pub fn put_whole(
     tables: &mut [u8],
     arena: &mut [u8],
+    offsets: Offsets,
     stamp: Stamp,
     path: &[u8],
     content: &[u8],
     pairs: &[u8],
 ) -> DoneAnswer
-    requires { ⌜ whole (now tables) (now arena) ≡ true ⌝ }
+    requires { ⌜ Scanned (now tables) (now arena) offsets ⌝ }
     ensures { λ r. ⌜ MadeWhole
         (Call.PUT (stamp .0) (now (path .entry)) (now (content .entry)) (pairList (now (pairs .entry))))
         (memory (now (tables .entry)) (now (arena .entry)))
@@ -50,7 +54,7 @@ pub fn put_whole(
         (memory (now (tables .exit)) (now (arena .exit)))
         × WellNumbered r ⌝ }
 {
-    let room = judges::put_judge(tables, arena, stamp, path, content, pairs);
+    let room = judges::put_judge(tables, arena, offsets, stamp, path, content, pairs);
     if room.refusal != 0 {
         return DoneAnswer::Refused(room.refusal);
     }
@@ -85,10 +89,10 @@ pub fn put(
         (memory (now (tables .exit)) (now (arena .exit)))
         × WellNumbered r ⌝ }
 {
-    if !scan::whole(tables, arena) {
+    let StoreScan::Good(offsets) = scan::scan_store(tables, arena) else {
         return DoneAnswer::Refused(types::NOT_A_STORE);
-    }
-    put_whole(tables, arena, stamp, path, content, pairs)
+    };
+    put_whole(tables, arena, offsets, stamp, path, content, pairs)
 }
 
 // DELETE over whole memory.

@@ -14,8 +14,7 @@ use Rattle.layout.specs.Memory.{stateOf}
 use Rattle.find.specs.declared.RowPlace.{RowPlace}
 use Rattle.find.specs.Places.{uploadRowOf}
 use Rattle.find.specs.Known.{WholeOpenAt}
-use Rattle.find.proofs.Found.{is-some}
-use Rattle.find_uploads.proofs.Answers.{upload-lookup, next-row-place}
+use Rattle.find_uploads.proofs.Answers.{upload-lookup}
 use Rattle.contract.specs.Answers.{partList}
 use Rattle.contract.specs.Made.{memory, outcome, resultOf}
 use Rattle.commits.proofs.Committing.{open-found, missing-judged, unfit-judged, room-judged}
@@ -111,23 +110,19 @@ returns-3 c =
     let r = c .refused3 .ensures in
     (r ∙ judged m, λ z. absurd (c .before .if3 .taken (sym r ∙ z)))
 
-rows-end-after-requires : tie.Need-rows-end-after-requires
-rows-end-after-requires c κs =
-    let p = c .before .before .before .before .before .before .before in
-    let k = p .before in
-    let x = is-some _ (is-open k) in
-    (start k .pre .0, next-row-place (s k) (u k) (x .0) (p .judge-list .result .parts) (x .1) (p .judge-list .ensures (u k) (x .0) (here-is k) (x .1) .2))
+rows-end-requires : tie.Need-rows-end-requires
+rows-end-requires c κs = search needs
 
 upload-bounds-requires : tie.Need-upload-bounds-requires
 upload-bounds-requires c κs =
-    let p = c .before .before .before .before .before .before .before .before in
-    (there (p .before), λ v x q e. p .judge-list .ensures v x q e .2, c .rows-end-after .ensures)
+    let p = c .before .before .before .before .before .before .before in
+    (there (p .before), λ v x q e. p .judge-list .ensures v x q e .2, c .rows-end .ensures)
 
 returns-4 : tie.Need-returns-4
 returns-4 c =
-    let m = c .before .before .before .before .before .before .before in
+    let m = c .before .before .before .before .before .before in
     let k = known m in
-    (sym (c .before .before .before .before .before .if3 .left) ∙ judged m, λ z x e. (c .before .upload-bounds .ensures (u k) x (here-is k) e, m .commit-room .ensures (u k) x (here-is k) e .1, m .before .before .before .judge-list .ensures (u k) x (here-is k) e .1))
+    (sym (c .before .before .before .before .if3 .left) ∙ judged m, λ z x e. (c .before .upload-bounds .ensures (u k) x (here-is k) e, m .commit-room .ensures (u k) x (here-is k) e .1, m .before .before .before .judge-list .ensures (u k) x (here-is k) e .1))
 
 pub commit-judge-spec : {M : Type 1} → statement M
 commit-judge-spec =
@@ -143,6 +138,6 @@ commit-judge-spec =
     commit-room-requires
     refused-requires-3
     returns-3
-    rows-end-after-requires
+    rows-end-requires
     upload-bounds-requires
     returns-4)

@@ -62,7 +62,7 @@ source-digest-requires c κs =
     let k = c .before .before in
     let is = placed k .source-place in
     let there = copy-there (memory (t k) (a k)) (start k .args .stamp .0) (p k) (q k) (zero-result k) in
-    ((start k .pre, (p k, is)), sym (place-found (stateOf (t k) (a k)) (p k) (room k .source) _ is refl) ∙ there)
+    ((start k .pre .0, (p k, is)), sym (place-found (stateOf (t k) (a k)) (p k) (room k .source) _ is refl) ∙ there)
 
 -- once its digest is known
 module _ (d : tie.After-source-digest) where
@@ -76,7 +76,7 @@ copy-object-requires : tie.Need-copy-object-requires
 copy-object-requires c κs =
     let d = c .before .before in
     let e = k d in
-    (copy-ready (t e) (a e) (p e) (q e) (start e .args .stamp .0) (d .source-digest .result) (start e .pre) (zero-result e) (digest-is d) (bytes e), placed e)
+    (copy-ready (t e) (a e) (p e) (q e) (start e .args .stamp .0) (d .source-digest .result) (start e .pre .0) (zero-result e) (digest-is d) (bytes e), placed e)
 
 same-length-3 : tie.Need-same-length-3
 same-length-3 c = search needs
@@ -89,7 +89,7 @@ returns-2 c =
     let d = c .before .before .before .before .before .before .before in
     let o = c .before .before .before .before .copy-object in
     let e = k d in
-    let stands = copy-stands (t e) (a e) (p e) (q e) (start e .args .stamp .0) (d .source-digest .result) (start e .pre) (zero-result e) (digest-is d) (o .last .0) (o .last .1 .0) (o .ensures) in
+    let stands = copy-stands (t e) (a e) (p e) (q e) (start e .args .stamp .0) (d .source-digest .result) (start e .pre .0) (zero-result e) (digest-is d) (o .last .0) (o .last .1 .0) (o .ensures) in
     (done nothing noBuffers _ (copy-accepted (memory (t e) (a e)) (start e .args .stamp .0) (p e) (q e) (zero-result e)) refl stands (o .kept .0) (o .kept .1 .0), tt)
 
 pub copy-whole-spec : {M : Type 1} → statement M

@@ -11,7 +11,7 @@ use Rattle.layout.specs.Memory.{stateOf}
 use Rattle.find.specs.declared.Lookup.{Lookup}
 use Rattle.edit.proofs.ObjectEdits.{place-found}
 use Rattle.edit_copy.proofs.Source.{ObjectThere, object-there, front-inside}
-use Rattle.copies.proofs.Sources.{further-place, judged-source, judged-missing}
+use Rattle.copies.proofs.Sources.{judged-source, judged-missing}
 use Rattle.copies.proofs.source_judge.Statement.{statement}
 use Rattle.copies.proofs.source_judge.Tie as tie
 
@@ -40,7 +40,7 @@ module _ (f : tie.After-find-two) where
 
   there : place .found ≡ true → ObjectThere t a p place
   there e =
-      object-there t a p (λ j. f .before .before .before .before .shared-slice-known .given j .fits) (start .pre) (place-found (stateOf t a) p place true (f .find-two .ensures .0) e) place (f .find-two .ensures .0)
+      object-there t a p (λ j. f .before .before .before .before .shared-slice-known .given j .fits) (start .pre .0) (place-found (stateOf t a) p place true (f .find-two .ensures .0) e) place (f .find-two .ensures .0)
 
 refused-requires : tie.Need-refused-requires
 refused-requires c κs = search needs
@@ -58,13 +58,8 @@ read-head-requires c κs =
     let z = front-inside (t f) (a f) (p f) (place f) (there f (not-false _ (c .if1 .left))) in
     omega arith
 
-further-requires : tie.Need-further-requires
-further-requires c κs = search needs
-
-rows-end-from-requires : tie.Need-rows-end-from-requires
-rows-end-from-requires c κs =
-    let f = c .before .before .before .before .before .before in
-    (start f .pre, further-place (stateOf (t f) (a f)) (p f) (q f) (place f) (f .find-two .result .second) (c .further .result) (f .find-two .ensures .0) (f .find-two .ensures .1) (c .further .ensures))
+rows-end-requires : tie.Need-rows-end-requires
+rows-end-requires c κs = search needs
 
 cast-object-room : tie.Need-cast-object-room
 cast-object-room c = search needs
@@ -72,18 +67,18 @@ cast-object-room c = search needs
 object-room-requires : tie.Need-object-room-requires
 object-room-requires c κs =
     let e = c .before in
-    let f = e .before .before .before .before .before .before .before in
-    ((start f .pre, (q f, f .find-two .ensures .1)), e .rows-end-from .ensures)
+    let f = e .before .before .before .before .before .before in
+    ((start f .pre .0, (q f, f .find-two .ensures .1)), e .rows-end .ensures)
 
 returns-2 : tie.Need-returns-2
 returns-2 c =
     let o = c .before in
     let e = o .before .before in
-    let h = e .before .before .before in
+    let h = e .before .before in
     let f = h .before .before .before .before in
     let r = o .object-room .ensures (q f) (f .find-two .ensures .1) in (
       judged-source (t f) (a f) (p f) (place f) (there f (not-false _ (h .before .if1 .left))) (h .read-head .result) (h .read-head .ensures) (o .object-room .result .refusal) (start f .args .stamp .0) (q f) (r .0),
-      λ _. record { source-place = f .find-two .ensures .0; destination-place = (r .1 .0, e .rows-end-from .ensures) },
+      λ _. record { source-place = f .find-two .ensures .0; destination-place = (r .1 .0, e .rows-end .ensures) },
     )
 
 pub source-judge-spec : {M : Type 1} → statement M
@@ -94,8 +89,7 @@ source-judge-spec =
     refused-requires
     returns
     read-head-requires
-    further-requires
-    rows-end-from-requires
+    rows-end-requires
     cast-object-room
     object-room-requires
     returns-2)

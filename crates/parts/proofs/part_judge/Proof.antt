@@ -38,7 +38,7 @@ part-room-requires c κs =
     let k = c .before .before .before .before .before .before .before .before in
     let a = k .args in
     let f = c .before .before .find-upload in
-    ((k .pre .0, open-found (memory (a .tables .now) (a .arena .now)) (a .upload .0) (a .number .0) (a .content .now) (f .result) (f .ensures) (not-false _ (c .if2 .left))), f .ensures)
+    ((k .pre .0, open-found (memory (a .tables .now) (a .arena .now)) (a .upload .0) (a .number .0) (a .content .now) (f .result) (f .ensures) (not-false _ (c .if2 .left))), f .ensures, k .pre)
 
 returns-3 : tie.Need-returns-3
 returns-3 c =

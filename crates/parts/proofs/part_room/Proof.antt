@@ -12,8 +12,7 @@ use Rattle.layout.specs.Memory.{stateOf}
 use Rattle.layout.proofs.RowCounts.{length-contents}
 use Rattle.find.specs.declared.RowPlace.{RowPlace}
 use Rattle.find.specs.Places.{placeOf, partPlace}
-use Rattle.find.proofs.Found.{is-some}
-use Rattle.find_uploads.proofs.Answers.{upload-lookup, open-row-place, part-row-place}
+use Rattle.find_uploads.proofs.Answers.{upload-lookup, open-row-place}
 use Rattle.parts.proofs.Parting.{held-inside, old-inside, old-held, judged-old, judged-full, judged-new}
 use Rattle.parts.proofs.part_room.Statement.{statement}
 use Rattle.parts.proofs.part_room.Tie as tie
@@ -54,20 +53,18 @@ module _ (f : tie.After-find-part-after) where
   told : (x : Upload) → lookup byNumber u (s .U) ≡ some x → f .find-part-after .result ≡ partPlace s u x n
   told x is-open = f .find-part-after .ensures u x (upload-lookup s u (start .args .opened) (start .pre .1)) is-open
 
-rows-end-from-requires : tie.Need-rows-end-from-requires
-rows-end-from-requires c κs =
-    let x = is-some (lookup byNumber (u c) (s c .U)) (start c .pre .0 .1) in
-    (start c .pre .0 .0, part-row-place (s c) (u c) (x .0) (n c) (c .find-part-after .result) (x .1) (told c (x .0) (x .1)))
+rows-end-requires : tie.Need-rows-end-requires
+rows-end-requires c κs = start c .pre .2
 
 -- once the end of the rows is found
-held-is : (e : tie.After-rows-end-from) → e .rows-end-from .result .base ≡ held (s (e .before))
-held-is e = ap (λ (p : RowPlace). p .base) (e .rows-end-from .ensures) ∙ length-contents (s (e .before))
+held-is : (e : tie.After-rows-end) → e .rows-end .result .base ≡ held (s (e .before))
+held-is e = ap (λ (p : RowPlace). p .base) (e .rows-end .ensures) ∙ length-contents (s (e .before))
 
 read-head-requires : tie.Need-read-head-requires
 read-head-requires c κs =
     let e = c .before in
     let f = e .before in
-    old-inside (t f) (a f) (d f) (bytes f) (start f .pre .0 .0) (u f) (n f) (start f .pre .0 .1) (f .find-part-after .result) (told f) (e .rows-end-from .result .base) (held-is e) (c .if1 .taken)
+    old-inside (t f) (a f) (d f) (bytes f) (start f .pre .0 .0) (u f) (n f) (start f .pre .0 .1) (f .find-part-after .result) (told f) (e .rows-end .result .base) (held-is e) (c .if1 .taken)
 
 cast-arena-judge : tie.Need-cast-arena-judge
 cast-arena-judge c = search needs
@@ -77,21 +74,21 @@ sub-arena-judge c =
     let e = c .before .before .before in
     let f = e .before in
     let h = c .before .read-head in
-    omega (arith, old-held (t f) (a f) (d f) (bytes f) (start f .pre .0 .0) (u f) (n f) (start f .pre .0 .1) (f .find-part-after .result) (told f) (e .rows-end-from .result .base) (held-is e) (c .before .before .if1 .taken) (h .result) (h .ensures))
+    omega (arith, old-held (t f) (a f) (d f) (bytes f) (start f .pre .0 .0) (u f) (n f) (start f .pre .0 .1) (f .find-part-after .result) (told f) (e .rows-end .result .base) (held-is e) (c .before .before .if1 .taken) (h .result) (h .ensures))
 
 arena-judge-requires : tie.Need-arena-judge-requires
 arena-judge-requires c κs =
     let e = c .before .before .before in
     let f = e .before in
-    omega (arith, held-inside (t f) (a f) (d f) (bytes f) (start f .pre .0 .0) (u f) (n f) (start f .pre .0 .1) (f .find-part-after .result) (told f) (e .rows-end-from .result .base) (held-is e))
+    omega (arith, held-inside (t f) (a f) (d f) (bytes f) (start f .pre .0 .0) (u f) (n f) (start f .pre .0 .1) (f .find-part-after .result) (told f) (e .rows-end .result .base) (held-is e))
 
 returns : tie.Need-returns
 returns c =
     let e = c .before .before .before .before in
     let f = e .before in
     let h = c .before .before .read-head in (
-      judged-old (t f) (a f) (d f) (bytes f) (start f .pre .0 .0) (u f) (n f) (start f .pre .0 .1) (f .find-part-after .result) (told f) (e .rows-end-from .result .base) (held-is e) (c .before .before .before .if1 .taken) (h .result) (h .ensures) (c .arena-judge .result) (c .arena-judge .ensures),
-      (told f, e .rows-end-from .ensures),
+      judged-old (t f) (a f) (d f) (bytes f) (start f .pre .0 .0) (u f) (n f) (start f .pre .0 .1) (f .find-part-after .result) (told f) (e .rows-end .result .base) (held-is e) (c .before .before .before .if1 .taken) (h .result) (h .ensures) (c .arena-judge .result) (c .arena-judge .ensures),
+      (told f, e .rows-end .ensures),
     )
 
 read-counts-requires : tie.Need-read-counts-requires
@@ -102,23 +99,23 @@ returns-2 c =
     let e = c .before .before .before in
     let f = e .before in
     let k = c .before .read-counts in (
-      judged-full (t f) (a f) (d f) (bytes f) (start f .pre .0 .0) (u f) (n f) (start f .pre .0 .1) (f .find-part-after .result) (told f) (e .rows-end-from .result .base) (held-is e) (c .before .before .if1 .left) (k .result .parts) (k .ensures .parts) (c .if2 .taken),
-      (told f, e .rows-end-from .ensures),
+      judged-full (t f) (a f) (d f) (bytes f) (start f .pre .0 .0) (u f) (n f) (start f .pre .0 .1) (f .find-part-after .result) (told f) (e .rows-end .result .base) (held-is e) (c .before .before .if1 .left) (k .result .parts) (k .ensures .parts) (c .if2 .taken),
+      (told f, e .rows-end .ensures),
     )
 
 arena-judge-requires-2 : tie.Need-arena-judge-requires-2
 arena-judge-requires-2 c κs =
     let e = c .before .before .before in
     let f = e .before in
-    omega (arith, held-inside (t f) (a f) (d f) (bytes f) (start f .pre .0 .0) (u f) (n f) (start f .pre .0 .1) (f .find-part-after .result) (told f) (e .rows-end-from .result .base) (held-is e))
+    omega (arith, held-inside (t f) (a f) (d f) (bytes f) (start f .pre .0 .0) (u f) (n f) (start f .pre .0 .1) (f .find-part-after .result) (told f) (e .rows-end .result .base) (held-is e))
 
 returns-3 : tie.Need-returns-3
 returns-3 c =
     let e = c .before .before .before .before in
     let f = e .before in
     let k = c .before .before .read-counts in (
-      judged-new (t f) (a f) (d f) (bytes f) (start f .pre .0 .0) (u f) (n f) (start f .pre .0 .1) (f .find-part-after .result) (told f) (e .rows-end-from .result .base) (held-is e) (c .before .before .before .if1 .left) (k .result .parts) (k .ensures .parts) (c .before .if2 .left) (c .arena-judge2 .result) (c .arena-judge2 .ensures),
-      (told f, e .rows-end-from .ensures),
+      judged-new (t f) (a f) (d f) (bytes f) (start f .pre .0 .0) (u f) (n f) (start f .pre .0 .1) (f .find-part-after .result) (told f) (e .rows-end .result .base) (held-is e) (c .before .before .before .if1 .left) (k .result .parts) (k .ensures .parts) (c .before .if2 .left) (c .arena-judge2 .result) (c .arena-judge2 .ensures),
+      (told f, e .rows-end .ensures),
     )
 
 pub part-room-spec : {M : Type 1} → statement M
@@ -126,7 +123,7 @@ part-room-spec =
     tie.close
     (tie.spec
     find-part-after-requires
-    rows-end-from-requires
+    rows-end-requires
     read-head-requires
     cast-arena-judge
     sub-arena-judge

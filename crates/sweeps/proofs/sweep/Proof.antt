@@ -11,8 +11,8 @@ use Rattle.sweeps.proofs.sweep.Tie as tie
 scan-store-requires : tie.Need-scan-store-requires
 scan-store-requires c κs = search needs
 
-enum-known-uploads : tie.Need-enum-known-uploads
-enum-known-uploads c = search needs
+enum-known-offsets : tie.Need-enum-known-offsets
+enum-known-offsets c = search needs
 
 enum-told : tie.Need-enum-told
 enum-told c = search needs
@@ -39,13 +39,13 @@ returns-2 : tie.Need-returns-2
 returns-2 c =
     let k = c .before .before .before in
     let a = k .before .before .before .before .before .before .before .args in
-    over-whole (found-good (k .before .before .scan-store .ensures) (k .uploads .given .1) .0)
+    over-whole (found-good (k .before .before .scan-store .ensures) (k .offsets .given .1) .0)
     (bad-stamp (a .stamp .0) (a .most) (memory (a .tables .now) (a .arena .now)) (said-no (c .before .stamp-ok .ensures) (c .if1 .taken)))
 
 sweep-whole-requires : tie.Need-sweep-whole-requires
 sweep-whole-requires c κs =
     let k = c .before .before .before .before .before in
-    found-good (k .before .before .scan-store .ensures) (k .uploads .given .1)
+    found-good (k .before .before .scan-store .ensures) (k .offsets .given .1)
 
 same-length-5 : tie.Need-same-length-5
 same-length-5 c = search needs
@@ -59,7 +59,7 @@ returns-3 c =
     let i = w .before .before .before in
     let k = i .before .before .before in
     let a = k .before .before .before .before .before .before .before .args in
-    over-whole (found-good (k .before .before .scan-store .ensures) (k .uploads .given .1) .0)
+    over-whole (found-good (k .before .before .scan-store .ensures) (k .offsets .given .1) .0)
     (swept-made (a .stamp .0) (a .most) (memory (a .tables .now) (a .arena .now)) (said-yes (i .before .stamp-ok .ensures) (i .if1 .left))
     (w .sweep-whole .result) _ (w .sweep-whole .ensures) (w .sweep-whole .kept .0) (w .sweep-whole .kept .1 .0))
 
@@ -68,7 +68,7 @@ sweep-spec =
     tie.close
     (tie.spec
     scan-store-requires
-    enum-known-uploads
+    enum-known-offsets
     enum-told
     same-length
     same-length-2

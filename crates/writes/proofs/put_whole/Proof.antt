@@ -37,7 +37,7 @@ put-object-requires c κs =
     let accepted = sym (k .before .before .put-judge .ensures .0) ∙ k .if1 .left in (
       k .before .before .put-judge .ensures .1 (k .if1 .left),
       pairs-taken (a .stamp .0) (a .path .now) (a .content .now) ps (d .result) (d .ensures) (a .tables .now) (a .arena .now) accepted,
-      (s .pre, put-ready (a .stamp .0) (a .path .now) (a .content .now) ps (d .result) (d .ensures) (a .tables .now) (a .arena .now) b (s .pre) accepted),
+      (s .pre .0, put-ready (a .stamp .0) (a .path .now) (a .content .now) ps (d .result) (d .ensures) (a .tables .now) (a .arena .now) b (s .pre .0) accepted),
     )
 
 same-length-3 : tie.Need-same-length-3

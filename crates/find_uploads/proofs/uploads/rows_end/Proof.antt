@@ -1,17 +1,21 @@
--- `find_uploads::uploads::rows_end` meets its contract: the search passes every row. Assumes nothing.
-use Rattle.layout.specs.Memory.{stateOf}
-use Rattle.find_uploads.proofs.Answers.{end-answer, uploads-within}
+-- `find_uploads::uploads::rows_end` meets its contract: the test "whole" has passed every row. Assumes nothing.
+use mathlib.Core.Path.{ap}
+use Rattle.scan_objects.specs.declared.Offsets.{Offsets}
+use Rattle.layout.proofs.WholeLaws.{whole-stands}
+use Rattle.find_uploads.proofs.UploadsFrom.{rows-end-place}
 use borrow.Author.Needs.{needs}
 use Rattle.find_uploads.proofs.uploads.rows_end.Statement.{statement}
 use Rattle.find_uploads.proofs.uploads.rows_end.Tie as tie
 
-seek-uploads-requires : tie.Need-seek-uploads-requires
-seek-uploads-requires c κs = search needs
+read-counts-requires : tie.Need-read-counts-requires
+read-counts-requires c κs = search needs
 
 returns : tie.Need-returns
 returns c =
-    let k = c .before .before .before in
-    end-answer _ (c .seek-uploads .result) _ (uploads-within (stateOf (k .args .tables .now) (k .args .arena .now))) (c .seek-uploads .ensures)
+    let r = c .before in
+    let k = r .before .before .before in
+    let stands = whole-stands (k .args .tables .now) (k .args .arena .now) (λ j. r .before .before .shared-slice-known .given j .fits) (k .pre .0) in
+    rows-end-place _ _ _ stands (k .args .offsets .end) (r .read-counts .result .rows) (ap (λ (o : Offsets). o .end) (k .pre .1)) (r .read-counts .ensures .rows)
 
 pub rows-end-spec : {M : Type 1} → statement M
-rows-end-spec = tie.close (tie.spec seek-uploads-requires returns)
+rows-end-spec = tie.close (tie.spec read-counts-requires returns)

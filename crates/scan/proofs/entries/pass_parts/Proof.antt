@@ -1,4 +1,4 @@
--- `scan::entries::pass_parts` meets its contract. The invariant: the test of all rows is the test of those not yet passed. Assumes nothing.
+-- `scan::entries::pass_parts` meets its contract. The invariant: the scan of all rows is the scan of those not yet passed. Assumes nothing.
 use Prim.Native.Nat.{ℕ, _+_, _-_, _≤_}
 use mathlib.Core.Path.{_≡_, refl, _∙_}
 use mathlib.Core.Bool.{true}
@@ -11,7 +11,7 @@ use Rattle.layout.specs.Rules.{partRule}
 use Rattle.scan_objects.specs.declared.Offset.{Offset}
 use Rattle.scan_objects.specs.declared.Reading.the-variants.{Fits}
 use Rattle.scan_objects.specs.Scan.{readingOf}
-use Rattle.scan.specs.Scan.{entriesOk}
+use Rattle.scan.specs.Scan.{entryScan}
 use Rattle.scan_objects.proofs.Turns.{row-in, data-in}
 use Rattle.scan.proofs.EntryTurns.{part-next}
 use borrow.Author.Needs.{needs}
@@ -21,8 +21,8 @@ use Rattle.scan.proofs.entries.pass_parts.Tie as tie
 abbrev Inv-loop : tie.InvT-loop
 Inv-loop t arena first rows at₀ base₀ after₀ i₀ at base after i =
     ((most next uploads opened : ℕ)
-    → entriesOk most next uploads opened (rows - first) after₀ (record { at = at₀; base = base₀ }) t arena
-    ≡ entriesOk most next uploads opened (rows - i) after (record { at = at; base = base }) t arena)
+    → entryScan most next uploads opened (rows - first) after₀ (record { at = at₀; base = base₀ }) t arena
+    ≡ entryScan most next uploads opened (rows - i) after (record { at = at; base = base }) t arena)
     × (at ≤ length t)
     × (base ≤ length arena)
     × (first ≤ i)

@@ -1,4 +1,4 @@
--- `scan::entries::entries_ok` meets its contract. The invariant: the scan of all rows is the scan of those not yet passed. Assumes nothing.
+-- `scan::entries::scan_entries` meets its contract. The invariant: the scan of all rows is the scan of those not yet passed. Assumes nothing.
 use Prim.Native.Nat.{ℕ, _+_, _-_, _≤_, _<_}
 use mathlib.Core.Path.{_≡_, sym, _∙_}
 use mathlib.Core.List.{List}
@@ -10,17 +10,17 @@ use Rattle.row.specs.Row.{span}
 use Rattle.scan_objects.specs.declared.Offset.{Offset}
 use Rattle.scan_objects.specs.declared.Reading.the-variants.{Fits}
 use Rattle.scan_objects.specs.Scan.{readingOf}
-use Rattle.scan.specs.Scan.{entriesOk}
+use Rattle.scan.specs.Scan.{entryScan}
 use Rattle.scan_objects.proofs.Turns.{row-in, data-in, digest-length}
-use Rattle.scan.proofs.EntryTurns.{opens-small, entries-end, entries-short, entries-wrong, entries-next}
+use Rattle.scan.proofs.EntryTurns.{opens-small, entries-counted, entries-miscounted, entries-short, entries-wrong, entries-next}
 use native.Mathlib.Omega.{arith}
-use Rattle.scan.proofs.entries.entries_ok.Statement.{statement}
-use Rattle.scan.proofs.entries.entries_ok.Tie as tie
+use Rattle.scan.proofs.entries.scan_entries.Statement.{statement}
+use Rattle.scan.proofs.entries.scan_entries.Tie as tie
 
 abbrev Inv-loop : tie.InvT-loop
 Inv-loop t arena uploads parts next most rows at₀ base₀ m₀ opened₀ i₀ at base m opened i =
-    (entriesOk most next uploads opened₀ rows m₀ (record { at = at₀; base = base₀ }) t arena
-    ≡ entriesOk most next uploads opened (rows - i) m (record { at = at; base = base }) t arena)
+    (entryScan most next uploads opened₀ rows m₀ (record { at = at₀; base = base₀ }) t arena
+    ≡ entryScan most next uploads opened (rows - i) m (record { at = at; base = base }) t arena)
     × (at ≤ length t)
     × (base ≤ length arena)
     × (i ≤ rows)
@@ -203,12 +203,18 @@ loop-again c =
 
 returns-3 : tie.Need-returns-3 Inv-loop μ-loop
 returns-3 c =
-    let k = c .before in
+    let k = c .before .before in
     let a = k .before .before .before .args in
-    sym (k .loop .inv .0 ∙ entries-end (tables k) (content k) (a .most) (a .next) (a .uploads) (k .loop .opened) (a .uploads + a .parts) (k .loop .i) (k .loop .m) (here k) (c .loop-test .left))
+    sym (k .loop .inv .0 ∙ entries-miscounted (tables k) (content k) (a .most) (a .next) (a .uploads) (k .loop .opened) (a .uploads + a .parts) (k .loop .i) (k .loop .m) (here k) (c .before .loop-test .left) (λ e. omega (arith, c .if2 .taken)))
 
-pub entries-ok-spec : {M : Type 1} → statement M
-entries-ok-spec =
+returns-4 : tie.Need-returns-4 Inv-loop μ-loop
+returns-4 c =
+    let k = c .before .before in
+    let a = k .before .before .before .args in
+    sym (k .loop .inv .0 ∙ entries-counted (tables k) (content k) (a .most) (a .next) (a .uploads) (k .loop .opened) (a .uploads + a .parts) (k .loop .i) (k .loop .m) (here k) (c .before .loop-test .left) (omega (arith, c .if2 .left)))
+
+pub scan-entries-spec : {M : Type 1} → statement M
+scan-entries-spec =
     tie.close
     (tie.spec
     Inv-loop
@@ -249,4 +255,5 @@ entries-ok-spec =
     pass-parts-requires
     loop-less
     loop-again
-    returns-3)
+    returns-3
+    returns-4)

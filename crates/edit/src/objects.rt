@@ -9,19 +9,20 @@ ghost use mathlib.Core.Path.{_≡_};
 ghost use mathlib.Core.Bool.{true};
 ghost use Rattle.machine.specs.State.{withoutObject, withObject};
 ghost use Rattle.layout.specs.Memory.{Stands};
-ghost use Rattle.find.specs.Known.{WholeLookup, OfPath};
+ghost use Rattle.find.specs.Places.{placeAfter};
+ghost use Rattle.find.specs.Known.{rowsIn, WholeLookup, OfPath};
 ghost use Rattle.machine.specs.Pairs.{pairsOk, pairList};
 ghost use Rattle.edit.specs.Blocks.{keptOf};
 ghost use Rattle.edit.specs.Edits.{MayBecome, Becomes};
 ghost use Rattle.edit.specs.Objects.{ObjectPlaced, RowPuttable, rowPut, Movable, objectAfterHeld, plainWith};
 
-// The object that a lookup found, taken out.
-pub fn remove_object(tables: &mut [u8], arena: &mut [u8], place: Lookup)
-    requires { ⌜ WholeLookup (now tables) (now arena) place × (place .found ≡ true) ⌝ }
+// The object that a lookup found, taken out. `end` is the end of the rows.
+pub fn remove_object(tables: &mut [u8], arena: &mut [u8], place: Lookup, end: RowPlace)
+    requires { ⌜ WholeLookup (now tables) (now arena) place × (place .found ≡ true)
+        × (end ≡ placeAfter (rowsIn (now tables) (now arena))) ⌝ }
     ensures { λ _. ⌜ OfPath (now (tables .entry)) (now (arena .entry)) place
         (λ s p. Stands (now (tables .exit)) (now (arena .exit)) (withoutObject s p)) ⌝ }
 {
-    let end = find_uploads::rows_end_from(tables, arena, place);
     let header = layout::headers::read_header(tables);
     let at = place.at;
     let base = place.base;

@@ -18,7 +18,6 @@ use Rattle.layout.specs.Memory.{objectRows, uploadRow, partRows, uploadRows, ro
 use Rattle.layout.proofs.UploadLaws.{length-part-rows}
 use Rattle.find.specs.declared.RowPlace.{RowPlace}
 use Rattle.find.specs.declared.Lookup.{Lookup}
-use Rattle.find.specs.declared.PassedParts.{PassedParts}
 use Rattle.find_uploads.specs.declared.search.Goal.{Goal}
 use Rattle.find_uploads.specs.declared.search.Goal.the-variants as goal
 use Rattle.find.specs.Places.{placeAfter, lookupAfter, placeOf, beforeObject, fromObject, objectPlace, beforeUpload, beforeParts, beforePart, throughParts, fromUpload, afterUpload, fromPart, uploadPlace, partPlace, uploadRowOf, partsRowOf, passedParts}

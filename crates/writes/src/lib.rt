@@ -95,7 +95,7 @@ pub fn put(
     put_whole(tables, arena, offsets, stamp, path, content, pairs)
 }
 
-// DELETE over whole memory.
+// DELETE over whole memory. The end of the rows is searched for from the object on.
 pub fn delete_whole(tables: &mut [u8], arena: &mut [u8], path: &[u8]) -> DoneAnswer
     requires { ⌜ whole (now tables) (now arena) ≡ true ⌝ }
     ensures { λ r. ⌜ MadeWhole (Call.DELETE (now (path .entry))) (memory (now (tables .entry)) (now (arena .entry))) (doneReply r) (memory (now (tables .exit)) (now (arena .exit))) × WellNumbered r ⌝ }
@@ -104,7 +104,22 @@ pub fn delete_whole(tables: &mut [u8], arena: &mut [u8], path: &[u8]) -> DoneAns
     if judged.refusal != 0 {
         return DoneAnswer::Refused(judged.refusal);
     }
-    edit::objects::remove_object(tables, arena, judged.place);
+    let end = find_uploads::rows_end_from(tables, arena, judged.place);
+    edit::objects::remove_object(tables, arena, judged.place, end);
+    DoneAnswer::Done
+}
+
+// The same where the rows stand at `offsets`: their end is known.
+fn delete_scanned(tables: &mut [u8], arena: &mut [u8], offsets: Offsets, path: &[u8]) -> DoneAnswer
+    requires { ⌜ Scanned (now tables) (now arena) offsets ⌝ }
+    ensures { λ r. ⌜ MadeWhole (Call.DELETE (now (path .entry))) (memory (now (tables .entry)) (now (arena .entry))) (doneReply r) (memory (now (tables .exit)) (now (arena .exit))) × WellNumbered r ⌝ }
+{
+    let judged = judges::delete_judge(tables, arena, path);
+    if judged.refusal != 0 {
+        return DoneAnswer::Refused(judged.refusal);
+    }
+    let end = find_uploads::rows_end(tables, arena, offsets);
+    edit::objects::remove_object(tables, arena, judged.place, end);
     DoneAnswer::Done
 }
 
@@ -112,8 +127,8 @@ pub fn delete_whole(tables: &mut [u8], arena: &mut [u8], path: &[u8]) -> DoneAns
 pub fn delete(tables: &mut [u8], arena: &mut [u8], path: &[u8]) -> DoneAnswer
     ensures { λ r. ⌜ Made (Call.DELETE (now (path .entry))) (memory (now (tables .entry)) (now (arena .entry))) (doneReply r) (memory (now (tables .exit)) (now (arena .exit))) × WellNumbered r ⌝ }
 {
-    if !scan::whole(tables, arena) {
+    let StoreScan::Good(offsets) = scan::scan_store(tables, arena) else {
         return DoneAnswer::Refused(types::NOT_A_STORE);
-    }
-    delete_whole(tables, arena, path)
+    };
+    delete_scanned(tables, arena, offsets, path)
 }

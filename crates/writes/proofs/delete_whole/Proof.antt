@@ -1,10 +1,11 @@
 -- `writes::delete_whole` meets its contract: refused, or the object removed. Assumes nothing.
-use mathlib.Core.Path.{refl, sym, _∙_}
+use mathlib.Core.Path.{sym, _∙_}
 use borrow.Author.Needs.{needs}
-use Rattle.machine.specs.Calls.{nothing, noBuffers}
+use Rattle.layout.specs.Memory.{stateOf}
+use Rattle.find_uploads.proofs.Answers.{object-row-place}
 use Rattle.contract.specs.Made.{memory}
-use Rattle.contract.proofs.MadeLaws.{judged, done}
-use Rattle.writes.proofs.Deleting.{delete-accepted}
+use Rattle.contract.proofs.MadeLaws.{judged}
+use Rattle.writes.proofs.Deleting.{delete-made}
 use Rattle.writes.proofs.delete_whole.Statement.{statement}
 use Rattle.writes.proofs.delete_whole.Tie as tie
 
@@ -20,12 +21,20 @@ same-length-2 c = search needs
 returns : tie.Need-returns
 returns c = (judged _ (c .before .before .delete-judge .ensures .0) (c .if1 .taken), c .if1 .taken)
 
-remove-object-requires : tie.Need-remove-object-requires
-remove-object-requires c κs =
+rows-end-from-requires : tie.Need-rows-end-from-requires
+rows-end-from-requires c κs =
     let k = c .before .before in
     let s = k .before .before .before .before .before .before .before .before in
+    let j = k .before .before .delete-judge in
+    (s .pre, object-row-place (stateOf (s .args .tables .now) (s .args .arena .now)) (s .args .path .now) (j .result .place) (j .ensures .1 (k .if1 .left) .1))
+
+remove-object-requires : tie.Need-remove-object-requires
+remove-object-requires c κs =
+    let e = c .before .before in
+    let k = e .before .before .before in
+    let s = k .before .before .before .before .before .before .before .before in
     let place = k .before .before .delete-judge .ensures .1 (k .if1 .left) in
-    ((s .pre, (s .args .path .now, place .1)), place .0)
+    ((s .pre, (s .args .path .now, place .1)), place .0, e .rows-end-from .ensures)
 
 same-length-3 : tie.Need-same-length-3
 same-length-3 c = search needs
@@ -35,11 +44,12 @@ same-length-4 c = search needs
 
 returns-2 : tie.Need-returns-2
 returns-2 c =
-    let k = c .before .before .before .before .before .before .before in
+    let o = c .before .before .before .before in
+    let k = o .before .before .before .before .before .before in
     let a = k .before .before .before .before .before .before .before .before .args in
-    let o = c .before .before .before .before .remove-object in
-    let accepted = delete-accepted (memory (a .tables .now) (a .arena .now)) (a .path .now) (sym (k .before .before .delete-judge .ensures .0) ∙ k .if1 .left) in
-    (done nothing noBuffers _ accepted refl (o .ensures (a .path .now) (k .before .before .delete-judge .ensures .1 (k .if1 .left) .1)) (o .kept .0) (o .kept .1 .0), tt)
+    let j = k .before .before .delete-judge .ensures in
+    delete-made (memory (a .tables .now) (a .arena .now)) (a .path .now) (sym (j .0) ∙ k .if1 .left) _
+    (o .remove-object .ensures (a .path .now) (j .1 (k .if1 .left) .1)) (o .remove-object .kept .0) (o .remove-object .kept .1 .0)
 
 pub delete-whole-spec : {M : Type 1} → statement M
 delete-whole-spec =
@@ -49,6 +59,7 @@ delete-whole-spec =
     same-length
     same-length-2
     returns
+    rows-end-from-requires
     remove-object-requires
     same-length-3
     same-length-4

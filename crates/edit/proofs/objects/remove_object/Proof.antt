@@ -11,21 +11,14 @@ use Rattle.machine.specs.Map.{isSome, lookup}
 use Rattle.layout.specs.declared.Header.{Header}
 use Rattle.layout.specs.Memory.{stateOf}
 use Rattle.find.specs.Places.{objectPlace}
-use Rattle.find_uploads.proofs.Answers.{object-row-place}
 use Rattle.edit.proofs.ObjectEdits.{place-found, header-inside, remove-head, some-object, remove-rows, remove-data, remove-stands}
 use Rattle.edit.proofs.objects.remove_object.Statement.{statement}
 use Rattle.edit.proofs.objects.remove_object.Tie as tie
 
-rows-end-from-requires : tie.Need-rows-end-from-requires
-rows-end-from-requires c κs =
-    let k = c .before .before .before .before in
-    let p = k .pre .0 .1 in
-    (k .pre .0 .0, object-row-place (stateOf (k .args .tables .now) (k .args .arena .now)) (p .0) (k .args .place) (p .1))
-
--- once the end of the rows is found
-module _ (e : tie.After-rows-end-from) where
+-- at the start of the code
+module _ (e : tie.After-slice-known2) where
   abbrev start : tie.Start
-  start = e .before .before .before .before .before
+  start = e .before .before
 
   abbrev t : List ℕ
   t = start .args .tables .now
@@ -34,7 +27,7 @@ module _ (e : tie.After-rows-end-from) where
   a = start .args .arena .now
 
   known : AreBytes t
-  known = λ j. e .before .before .before .before .slice-known .given j .fits
+  known = λ j. e .before .slice-known .given j .fits
 
   -- a path that has this place
   abbrev path : List ℕ
@@ -50,7 +43,7 @@ read-head-requires : tie.Need-read-head-requires
 read-head-requires c κs =
     let e = c .before .before .before in
     let s = start e in
-    let z = remove-head (t e) (a e) (known e) (s .pre .0 .0) (path e) (s .args .place) (s .pre .0 .1 .1) (e .rows-end-from .result) (e .rows-end-from .ensures) (there e (path e) (s .pre .0 .1 .1)) in
+    let z = remove-head (t e) (a e) (known e) (s .pre .0 .0) (path e) (s .args .place) (s .pre .0 .1 .1) (s .args .end) (s .pre .2) (there e (path e) (s .pre .0 .1 .1)) in
     omega arith
 
 span-requires : tie.Need-span-requires
@@ -59,12 +52,12 @@ span-requires c κs = search needs
 cast-m : tie.Need-cast-m
 cast-m c = search needs
 
-sub-t20 : tie.Need-sub-t20
-sub-t20 c =
+sub-t16 : tie.Need-sub-t16
+sub-t16 c =
     let e = c .before .before .before .before .before .before .before in
     let s = start e in
     let h = c .before .before .before .before .before .read-header .ensures in
-    let n = some-object (t e) (a e) (known e) (s .pre .0 .0) (path e) (s .args .place) (s .pre .0 .1 .1) (e .rows-end-from .result) (e .rows-end-from .ensures) (there e (path e) (s .pre .0 .1 .1)) in
+    let n = some-object (t e) (a e) (known e) (s .pre .0 .0) (path e) (s .args .place) (s .pre .0 .1 .1) (s .args .end) (s .pre .2) (there e (path e) (s .pre .0 .1 .1)) in
     omega (arith, ap (λ (x : Header). x .objects) h)
 
 remove-rows-requires : tie.Need-remove-rows-requires
@@ -72,7 +65,7 @@ remove-rows-requires c κs =
     let e = c .before .before .before .before .before .before .before .before in
     let s = start e in
     let h = c .before .before .before .before .read-head in
-    let r = remove-rows (t e) (a e) (known e) (s .pre .0 .0) (path e) (s .args .place) (s .pre .0 .1 .1) (e .rows-end-from .result) (e .rows-end-from .ensures) (there e (path e) (s .pre .0 .1 .1)) (h .result) (h .ensures) in
+    let r = remove-rows (t e) (a e) (known e) (s .pre .0 .0) (path e) (s .args .place) (s .pre .0 .1 .1) (s .args .end) (s .pre .2) (there e (path e) (s .pre .0 .1 .1)) (h .result) (h .ensures) in
     let w = c .before .before .before .span .ensures in
     (r .0, omega (arith, r .1), r .2)
 
@@ -81,7 +74,7 @@ remove-requires c κs =
     let e = c .before .before .before .before .before .before .before .before .before .before .before .before in
     let s = start e in
     let h = c .before .before .before .before .before .before .before .before .read-head in
-    remove-data (t e) (a e) (known e) (s .pre .0 .0) (path e) (s .args .place) (s .pre .0 .1 .1) (e .rows-end-from .result) (e .rows-end-from .ensures) (there e (path e) (s .pre .0 .1 .1)) (h .result) (h .ensures)
+    remove-data (t e) (a e) (known e) (s .pre .0 .0) (path e) (s .args .place) (s .pre .0 .1 .1) (s .args .end) (s .pre .2) (there e (path e) (s .pre .0 .1 .1)) (h .result) (h .ensures)
 
 same-length : tie.Need-same-length
 same-length c = search needs
@@ -98,19 +91,18 @@ returns c p is =
     let n = c .before .before .before .before .before .before .before .before .before .before .span in
     let rows = c .before .before .before .before .before .before .remove-rows in
     let block = c .before .before .remove in
-    remove-stands (t e) (a e) (known e) (s .pre .0 .0) p (s .args .place) is (e .rows-end-from .result) (e .rows-end-from .ensures) (there e p is) (h .result) (h .ensures)
+    remove-stands (t e) (a e) (known e) (s .pre .0 .0) p (s .args .place) is (s .args .end) (s .pre .2) (there e p is) (h .result) (h .ensures)
     (n .result) (header .result) (rows .last .0) (block .last .0) (n .ensures) (header .ensures) (rows .ensures) (block .ensures) (rows .kept .0) (block .kept .0)
 
 pub remove-object-spec : {M : Type 1} → statement M
 remove-object-spec =
     tie.close
     (tie.spec
-    rows-end-from-requires
     read-header-requires
     read-head-requires
     span-requires
     cast-m
-    sub-t20
+    sub-t16
     remove-rows-requires
     remove-requires
     same-length

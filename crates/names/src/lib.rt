@@ -1,6 +1,4 @@
 // The rules of paths, stamps and part numbers. What a request may name and what a store may hold is asked apart.
-use path_text::letters;
-use path_text::plain;
 ghost use mathlib.Core.Path.{_≡_};
 ghost use mathlib.Core.Bool.{true};
 ghost use Prim.Native.Nat.{_-_, _≤_};
@@ -18,10 +16,10 @@ fn path_ok(p: &[u8]) -> bool
     if 128 < n {
         return false;
     }
-    if plain::plain(p) {
+    if path_ascii::plain(p) {
         return true;
     }
-    letters::path(p)
+    path_utf8::path(p)
 }
 
 // A path that GET, HEAD, DELETE or COPY's source may name.
@@ -58,10 +56,10 @@ pub fn stored_path_ok_at(t: &[u8], from: usize, to: usize) -> bool
     if 128 < length {
         return false;
     }
-    if plain::plain_at(t, from, to) {
+    if path_ascii::plain_at(t, from, to) {
         return true;
     }
-    letters::path(&t[from..to])
+    path_utf8::path(&t[from..to])
 }
 
 // Whether they are 1 to 32 bytes of visible ASCII that an object may have as its path. `false` says nothing of them.
@@ -76,7 +74,7 @@ pub fn short_path_ok_at(t: &[u8], from: usize, to: usize) -> bool
     if 32 < length {
         return false;
     }
-    plain::short_at(t, from, to)
+    path_ascii::short_at(t, from, to)
 }
 
 // Whether it is a stamp: 0 is none.

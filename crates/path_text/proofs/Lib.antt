@@ -1,4 +1,0 @@
-pub mod FaultLaws
-pub mod BlockLaws
-pub mod LetterLaws
-pub mod PathLaws

@@ -22,7 +22,7 @@ pub fn write_block(
 {
     let kept = pairs::count(pairs);
     let held = pairs::held(pairs);
-    stored_pairs::write_kept(pairs, lengths, 0, arena, at);
+    write_pairs::write_kept(pairs, lengths, 0, arena, at);
     buffer::copy_at(arena, at + held, content);
     BlockSizes {
         lengths: 2 * kept,

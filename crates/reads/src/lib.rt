@@ -104,7 +104,7 @@ fn write_pairs(tables: &[u8], arena: &[u8], at: usize, base: usize, pairs: &mut 
 {
     let lengths = find::pairs::lengths(tables, at);
     let end = base + stored_pairs::sum_of(lengths);
-    stored_pairs::encode(lengths, &arena[base..end], pairs);
+    write_pairs::encode(lengths, &arena[base..end], pairs);
 }
 
 // GET of the object whose row stands at `at`, with its block at `base`.

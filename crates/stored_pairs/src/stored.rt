@@ -23,7 +23,7 @@ fn kept_after(last: &[u8], key: &[u8], value: &[u8]) -> bool
 }
 
 // Where the key or value ends that begins at `at` and has the length at i.
-pub(crate) fn end(lengths: &[u8], i: usize, at: usize) -> usize
+pub fn end(lengths: &[u8], i: usize, at: usize) -> usize
     requires { ⌜ (i < length (now lengths)) × (at ≤ 65535) ⌝ }
     ensures { λ r. ⌜ (r ≡ at + getD (now (lengths .entry)) i 0) × (r ≤ at + 255) ⌝ }
 {

@@ -1,12 +1,12 @@
--- `stored_pairs::sorting::better` meets its contract. Assumes nothing.
+-- `write_pairs::sorting::better` meets its contract. Assumes nothing.
 use mathlib.Core.Path.{ap, _∙_}
 use native.Mathlib.Omega.{arith}
 use borrow.Author.Needs.{needs}
 use Rattle.machine.specs.Pairs.{frontFits}
 use Rattle.pairs.proofs.Passing.{from-is}
-use Rattle.stored_pairs.proofs.Picking.{better-yes, better-no}
-use Rattle.stored_pairs.proofs.sorting.better.Statement.{statement}
-use Rattle.stored_pairs.proofs.sorting.better.Tie as tie
+use Rattle.write_pairs.proofs.Picking.{better-yes, better-no}
+use Rattle.write_pairs.proofs.sorting.better.Statement.{statement}
+use Rattle.write_pairs.proofs.sorting.better.Tie as tie
 
 sub-is-better : tie.Need-sub-is-better
 sub-is-better c = search needs

@@ -1,4 +1,4 @@
--- `stored_pairs::sorting::write_kept` meets its contract. The invariant: the first pairs of the map are written, and the next is picked.
+-- `write_pairs::sorting::write_kept` meets its contract. The invariant: the first pairs of the map are written, and the next is picked.
 -- Assumes nothing.
 use Prim.Native.Nat.{ℕ, _+_, _-_}
 use mathlib.Core.Path.{ap, _∙_}
@@ -8,10 +8,10 @@ use borrow.Author.Needs.{needs}
 use lib.ListN.{length}
 use Rattle.machine.specs.Pairs.{frontFits, pairMap, pairList}
 use Rattle.pairs.proofs.Passing.{from-is}
 use Rattle.stored_pairs.specs.Stored.{pairLengths}
-use Rattle.stored_pairs.proofs.Arranging.{Arranged, Here, arranged-none, arranged-here, arranged-next, arranged-all}
-use Rattle.stored_pairs.proofs.sorting.write_kept.Statement.{statement}
-use Rattle.stored_pairs.proofs.sorting.write_kept.Tie as tie
+use Rattle.write_pairs.proofs.Arranging.{Arranged, Here, arranged-none, arranged-here, arranged-next, arranged-all}
+use Rattle.write_pairs.proofs.sorting.write_kept.Statement.{statement}
+use Rattle.write_pairs.proofs.sorting.write_kept.Tie as tie
 
 abbrev Inv-loop : tie.InvT-loop
 Inv-loop pairs lengths₀ to bytes₀ at l₀ b₀ pick₀ lengths bytes l b pick = Arranged pairs lengths₀ lengths bytes₀ bytes to at l b pick

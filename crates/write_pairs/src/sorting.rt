@@ -5,8 +5,8 @@ ghost use Prim.Native.Nat.{_+_, _≤_, _<_};
 ghost use lib.ListN.{length, drop};
 ghost use Rattle.number.specs.Number.{written};
 ghost use Rattle.machine.specs.Pairs.{every, pairOk, pairMap, frontFits, pairList};
 ghost use Rattle.stored_pairs.specs.Stored.{pairLengths, pairBytes};
-ghost use Rattle.stored_pairs.specs.Picking.{isBetter, pickedFrom, IsPick, Better, Next};
+ghost use Rattle.write_pairs.specs.Picking.{isBetter, pickedFrom, IsPick, Better, Next};
 
 // The pair that is picked, if one is: where it begins.
 pub struct Pick {

@@ -1,9 +1,9 @@
--- `stored_pairs::writing::put_byte` meets its contract. Assumes nothing.
+-- `write_pairs::writing::put_byte` meets its contract. Assumes nothing.
 use native.Mathlib.Omega.{arith}
 use borrow.Author.Needs.{needs}
 use Rattle.number.proofs.Halves.{write-byte}
-use Rattle.stored_pairs.proofs.writing.put_byte.Statement.{statement}
-use Rattle.stored_pairs.proofs.writing.put_byte.Tie as tie
+use Rattle.write_pairs.proofs.writing.put_byte.Statement.{statement}
+use Rattle.write_pairs.proofs.writing.put_byte.Tie as tie
 
 slice-write-b : tie.Need-slice-write-b
 slice-write-b c = search needs

@@ -1,8 +1,8 @@
--- `stored_pairs::writing::write_bytes` meets its contract. Assumes nothing.
+-- `write_pairs::writing::write_bytes` meets its contract. Assumes nothing.
 use borrow.Author.Needs.{needs}
-use Rattle.stored_pairs.proofs.Encoding.{bytes-written}
-use Rattle.stored_pairs.proofs.writing.write_bytes.Statement.{statement}
-use Rattle.stored_pairs.proofs.writing.write_bytes.Tie as tie
+use Rattle.write_pairs.proofs.Encoding.{bytes-written}
+use Rattle.write_pairs.proofs.writing.write_bytes.Statement.{statement}
+use Rattle.write_pairs.proofs.writing.write_bytes.Tie as tie
 
 copy-at-requires : tie.Need-copy-at-requires
 copy-at-requires c κs = search needs

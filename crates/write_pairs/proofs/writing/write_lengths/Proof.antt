@@ -1,8 +1,8 @@
--- `stored_pairs::writing::write_lengths` meets its contract. Assumes nothing.
+-- `write_pairs::writing::write_lengths` meets its contract. Assumes nothing.
 use borrow.Author.Needs.{needs}
-use Rattle.stored_pairs.proofs.Encoding.{lengths-written}
-use Rattle.stored_pairs.proofs.writing.write_lengths.Statement.{statement}
-use Rattle.stored_pairs.proofs.writing.write_lengths.Tie as tie
+use Rattle.write_pairs.proofs.Encoding.{lengths-written}
+use Rattle.write_pairs.proofs.writing.write_lengths.Statement.{statement}
+use Rattle.write_pairs.proofs.writing.write_lengths.Tie as tie
 
 cast-put-byte : tie.Need-cast-put-byte
 cast-put-byte c = search needs

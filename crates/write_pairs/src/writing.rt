@@ -62,8 +62,8 @@ pub fn encode(lengths: &[u8], bytes: &[u8], answer: &mut [u8])
     let mut at = 0;
     let mut i = 0;
     while i < lengths.len() {
-        let k = crate::stored::end(lengths, i, at);
-        let v = crate::stored::end(lengths, i + 1, k);
+        let k = stored_pairs::end(lengths, i, at);
+        let v = stored_pairs::end(lengths, i + 1, k);
         write_pair(answer, i + at, &bytes[at..k], &bytes[k..v]);
         at = v;
         i += 2;

@@ -17,10 +17,10 @@ use Rattle.machine.proofs.Options.{none-some}
 use Rattle.machine.proofs.MapKeep.{records-append}
 use Rattle.machine.proofs.PairLaws.{Passes, key-short, value-short, map-ascending, map-passes, map-above}
 use Rattle.pairs.proofs.Passing.{Formed, from, from-is}
-use Rattle.stored_pairs.specs.declared.sorting.Pick.{Pick}
+use Rattle.write_pairs.specs.declared.sorting.Pick.{Pick}
 use Rattle.stored_pairs.specs.Stored.{lengthsOf, bytesOf, pairLengths, pairBytes}
-use Rattle.stored_pairs.specs.Picking.{nextAbove, pickedFrom, pickedAt, IsPick, Next}
-use Rattle.stored_pairs.proofs.Picking.{first, above, next-first, above-all, above-middle}
+use Rattle.write_pairs.specs.Picking.{nextAbove, pickedFrom, pickedAt, IsPick, Next}
+use Rattle.write_pairs.proofs.Picking.{first, above, next-first, above-all, above-middle}
 
 -- what is picked first, and what is picked after a key
 module _ (bs : Bytes) where

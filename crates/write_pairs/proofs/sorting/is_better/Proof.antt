@@ -1,10 +1,10 @@
--- `stored_pairs::sorting::is_better` meets its contract. Assumes nothing.
+-- `write_pairs::sorting::is_better` meets its contract. Assumes nothing.
 use borrow.Author.Tests.{not-true, not-false}
 use borrow.Author.Needs.{needs}
 use Rattle.machine.proofs.Tests.{said-no, said-yes}
-use Rattle.stored_pairs.proofs.Picking.{better-system, better-low, better-first, better-key}
-use Rattle.stored_pairs.proofs.sorting.is_better.Statement.{statement}
-use Rattle.stored_pairs.proofs.sorting.is_better.Tie as tie
+use Rattle.write_pairs.proofs.Picking.{better-system, better-low, better-first, better-key}
+use Rattle.write_pairs.proofs.sorting.is_better.Statement.{statement}
+use Rattle.write_pairs.proofs.sorting.is_better.Tie as tie
 
 key-requires : tie.Need-key-requires
 key-requires c κs = search needs

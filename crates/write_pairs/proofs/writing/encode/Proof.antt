@@ -1,12 +1,12 @@
--- `stored_pairs::writing::encode` meets its contract. The invariant: the pairs passed stand at the front. Assumes nothing.
+-- `write_pairs::writing::encode` meets its contract. The invariant: the pairs passed stand at the front. Assumes nothing.
 use Prim.Native.Nat.{ℕ, _+_, _-_, _≤_}
 use mathlib.Core.List.{List}
 use native.Mathlib.Omega.{arith}
 use borrow.Author.Needs.{needs}
 use lib.ListN.{length}
-use Rattle.stored_pairs.proofs.Encoding.{Encoded, Here, encoded-none, encoded-more, encoded-here, encoded-next, encoded-all}
-use Rattle.stored_pairs.proofs.writing.encode.Statement.{statement}
-use Rattle.stored_pairs.proofs.writing.encode.Tie as tie
+use Rattle.write_pairs.proofs.Encoding.{Encoded, Here, encoded-none, encoded-more, encoded-here, encoded-next, encoded-all}
+use Rattle.write_pairs.proofs.writing.encode.Statement.{statement}
+use Rattle.write_pairs.proofs.writing.encode.Tie as tie
 
 abbrev Inv-loop : tie.InvT-loop
 Inv-loop lengths bytes answer₀ at₀ i₀ answer at i = Encoded lengths bytes answer₀ answer at i

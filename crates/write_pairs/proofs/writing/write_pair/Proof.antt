@@ -1,8 +1,8 @@
--- `stored_pairs::writing::write_pair` meets its contract: four writes, one after the other. Assumes nothing.
+-- `write_pairs::writing::write_pair` meets its contract: four writes, one after the other. Assumes nothing.
 use borrow.Author.Needs.{needs}
-use Rattle.stored_pairs.proofs.Encoding.{pair-written}
-use Rattle.stored_pairs.proofs.writing.write_pair.Statement.{statement}
-use Rattle.stored_pairs.proofs.writing.write_pair.Tie as tie
+use Rattle.write_pairs.proofs.Encoding.{pair-written}
+use Rattle.write_pairs.proofs.writing.write_pair.Statement.{statement}
+use Rattle.write_pairs.proofs.writing.write_pair.Tie as tie
 
 cast-put-byte : tie.Need-cast-put-byte
 cast-put-byte c = search needs

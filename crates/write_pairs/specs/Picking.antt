@@ -8,7 +8,7 @@ use lib.ListN.{length, drop}
 use Rattle.order.specs.Order.{isBelow}
 use Rattle.machine.specs.Names.{Bytes}
 use Rattle.machine.specs.Pairs.{Pair, systemKey, kept, frontKey, frontFits, frontPair, pairList}
-use Rattle.stored_pairs.specs.declared.sorting.Pick.{Pick}
+use Rattle.write_pairs.specs.declared.sorting.Pick.{Pick}
 
 -- the key is not above that of the pair that is picked
 abbrev pub notAbove : Option Pair → Bytes → Bool

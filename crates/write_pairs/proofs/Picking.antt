@@ -15,8 +15,8 @@ use Rattle.machine.proofs.MapLaws.{above-chain, ascending-insert}
 use Rattle.machine.proofs.MapSplits.{Below, below-middle}
 use Rattle.machine.proofs.MapKeep.{keep-append}
 use Rattle.pairs.proofs.Passing.{Formed, from, from-is, here-fits, pair-here, next-formed, none-left}
-use Rattle.stored_pairs.specs.declared.sorting.Pick.{Pick}
-use Rattle.stored_pairs.specs.Picking.{notAbove, picks, nextAbove, isBetter, pickedFrom, pickedAt, IsPick, Better, Next}
+use Rattle.write_pairs.specs.declared.sorting.Pick.{Pick}
+use Rattle.write_pairs.specs.Picking.{notAbove, picks, nextAbove, isBetter, pickedFrom, pickedAt, IsPick, Better, Next}
 
 -- the first of a map
 abbrev pub first : Map Bytes Bytes → Option Pair

@@ -1,13 +1,13 @@
--- `stored_pairs::sorting::next_above` meets its contract. The invariant: the pairs not yet passed decide, with the one that is picked.
+-- `write_pairs::sorting::next_above` meets its contract. The invariant: the pairs not yet passed decide, with the one that is picked.
 -- Assumes nothing.
 use Prim.Native.Nat.{ℕ, _-_}
 use mathlib.Core.List.{List}
 use native.Mathlib.Omega.{arith}
 use lib.ListN.{length}
 use Rattle.pairs.proofs.Passing.{here-fits}
-use Rattle.stored_pairs.proofs.Picking.{Picking, picking-none, picking-all, picking-next}
-use Rattle.stored_pairs.proofs.sorting.next_above.Statement.{statement}
-use Rattle.stored_pairs.proofs.sorting.next_above.Tie as tie
+use Rattle.write_pairs.proofs.Picking.{Picking, picking-none, picking-all, picking-next}
+use Rattle.write_pairs.proofs.sorting.next_above.Statement.{statement}
+use Rattle.write_pairs.proofs.sorting.next_above.Tie as tie
 
 abbrev Inv-loop : tie.InvT-loop
 Inv-loop pairs last pick₀ at₀ pick at = Picking pairs last pick at

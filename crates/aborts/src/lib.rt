@@ -1,7 +1,7 @@
 // ABORT: an open upload leaves the store with its parts.
 use find::Lookup;
 use scan::StoreScan;
-use scan_objects::Offsets;
+use scan_rows::Offsets;
 use types::DoneAnswer;
 use types::UploadNumber;
 ghost use mathlib.Core.Path.{_≡_};

@@ -5,7 +5,7 @@ use find::RowPlace;
 use join::Bounds;
 use row::Head;
 use scan::StoreScan;
-use scan_objects::Offsets;
+use scan_rows::Offsets;
 use types::DoneAnswer;
 use types::UploadNumber;
 ghost use mathlib.Core.Path.{_≡_};

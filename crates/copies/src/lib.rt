@@ -3,7 +3,7 @@ use find::Lookup;
 use find::RowPlace;
 use md5::words::Digest;
 use scan::StoreScan;
-use scan_objects::Offsets;
+use scan_rows::Offsets;
 use types::DoneAnswer;
 use types::Stamp;
 ghost use mathlib.Core.Path.{_≡_};

@@ -9,8 +9,8 @@ use Rattle.machine.specs.Names.{Bytes}
 use Rattle.machine.specs.State.{Upload, State}
 use Rattle.row.specs.Row.{Row}
 use Rattle.layout.specs.Memory.{whole, stateOf, rowsOf}
-use Rattle.scan_objects.specs.declared.Offsets.{Offsets}
-use Rattle.scan_objects.specs.Scan.{offsetsIn}
+use Rattle.scan_rows.specs.declared.Offsets.{Offsets}
+use Rattle.scan_rows.specs.Scan.{offsetsIn}
 use Rattle.find.specs.declared.RowPlace.{RowPlace}
 use Rattle.find.specs.declared.Lookup.{Lookup}
 use Rattle.find.specs.Places.{objectPlace, uploadRowOf, partsRowOf}

@@ -15,8 +15,8 @@ use Rattle.layout.specs.Memory.{objectRows, rowsOf, Stands}
 use Rattle.layout.proofs.ObjectLaws.{length-object-rows}
 use Rattle.layout.proofs.RowCounts.{length-rows}
 use Rattle.layout.proofs.StandsLaws.{header-back}
-use Rattle.scan_objects.specs.declared.Offset.{Offset}
-use Rattle.scan_objects.specs.Scan.{past, pastAll, first, uploadsFrom, rowsEnd}
+use Rattle.scan_rows.specs.declared.Offset.{Offset}
+use Rattle.scan_rows.specs.Scan.{past, pastAll, first, uploadsFrom, rowsEnd}
 use Rattle.find.specs.RowPlaces.{rowPlaceAt}
 use Rattle.find.specs.Places.{placeAfter, firstUploadRow}
 use Rattle.find_uploads.proofs.Walk.{Reached, rowPlace, reached-place, row-turn}

@@ -2,7 +2,7 @@
 use find::RowPlace;
 use find::read_counts;
 use row::Head;
-use scan_objects::Offsets;
+use scan_rows::Offsets;
 ghost use mathlib.Core.Path.{_≡_};
 ghost use Prim.Native.Nat.{_+_, _≤_};
 ghost use lib.ListN.{length, drop};

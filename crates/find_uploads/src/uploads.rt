@@ -10,7 +10,7 @@ use find::RowPlace;
 use find::lookup_at;
 use find::place_of;
 use find::read_counts;
-use scan_objects::Offsets;
+use scan_rows::Offsets;
 ghost use mathlib.Core.Path.{_≡_};
 ghost use Prim.Native.Nat.{_+_, _≤_};
 ghost use lib.ListN.{length};

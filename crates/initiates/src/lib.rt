@@ -1,7 +1,7 @@
 // INITIATE: an upload is opened, without parts, under a number that was never used.
 use find::RowPlace;
 use scan::StoreScan;
-use scan_objects::Offsets;
+use scan_rows::Offsets;
 use types::InitiateAnswer;
 use types::Stamp;
 use types::UploadNumber;

@@ -2,7 +2,7 @@
 use find::Lookup;
 use room::Room;
 use scan::StoreScan;
-use scan_objects::Offsets;
+use scan_rows::Offsets;
 use types::Etag;
 use types::PartAnswer;
 use types::PartNumber;

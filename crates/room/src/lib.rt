@@ -1,7 +1,7 @@
 // The room for an object, the pairs of an upload or a part: refusals of PUT, COPY, INITIATE and PART, by number; 0 for none.
 use find::Lookup;
 use find::RowPlace;
-use scan_objects::Offsets;
+use scan_rows::Offsets;
 ghost use mathlib.Core.Path.{_≡_};
 ghost use mathlib.Core.Bool.{cond};
 ghost use Prim.Native.Nat.{_+_, _≤_};

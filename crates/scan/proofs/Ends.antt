@@ -13,12 +13,13 @@ use Rattle.row.proofs.RowLaws.{here-inside, rest-good}
 use Rattle.layout.specs.declared.Header.{Header}
 use Rattle.layout.specs.Rules.{all, objectOk, objectNext, start}
 use Rattle.layout.specs.Memory.{headerOk, uploadTables, uploadArena, uploadRowsAt, objectsGood, uploadsGood, wholeOf}
-use Rattle.scan_objects.specs.declared.Offset.{Offset}
+use Rattle.scan_rows.specs.declared.Offset.{Offset}
 use Rattle.layout.specs.Header.{headerAt, headerLength}
-use Rattle.scan_objects.specs.declared.Offsets.{Offsets}
-use Rattle.scan_objects.specs.declared.Scan.{Scan}
-use Rattle.scan_objects.specs.declared.Scan.the-variants.{Bad, Good}
-use Rattle.scan_objects.specs.Scan.{past, pastAll, objectScan, first, uploadsFrom, rowsEnd, offsetsIn}
+use Rattle.scan_rows.specs.declared.Offsets.{Offsets}
+use Rattle.scan_rows.specs.declared.Scan.{Scan}
+use Rattle.scan_rows.specs.declared.Scan.the-variants.{Bad, Good}
+use Rattle.scan_rows.specs.Scan.{past, pastAll, first, uploadsFrom, rowsEnd, offsetsIn}
+use Rattle.scan_objects.specs.Scan.{objectScan}
 use Rattle.scan.specs.declared.StoreScan.{StoreScan}
 use Rattle.scan.specs.declared.StoreScan.the-variants as store
 use Rattle.scan.specs.Scan.{entriesOk, entryScan, rowsOk, rowOffsets}

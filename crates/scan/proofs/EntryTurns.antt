@@ -11,16 +11,16 @@ use Rattle.number.specs.Number.{AreBytes}
 use Rattle.row.specs.declared.Head.{Head}
 use Rattle.row.specs.Row.{Row, rowAt, rowsAt, headLength}
 use Rattle.layout.specs.declared.Mark.{Mark}
-use Rattle.scan_objects.specs.declared.Offset.{Offset}
-use Rattle.scan_objects.specs.declared.Reading.the-variants.{Short, Fits}
-use Rattle.scan_objects.specs.declared.Scan.the-variants.{Bad, Good}
+use Rattle.scan_rows.specs.declared.Offset.{Offset}
+use Rattle.scan_rows.specs.declared.Reading.the-variants.{Short, Fits}
+use Rattle.scan_rows.specs.declared.Scan.the-variants.{Bad, Good}
 use Rattle.layout.specs.Rules.{entryRule, partRule, uploadKind, entryOk, entryNext, markAfter}
 use Rattle.layout.specs.Memory.{uploadsAmong}
-use Rattle.scan_objects.specs.Scan.{readingOf, past}
+use Rattle.scan_rows.specs.Scan.{readingOf, past}
 use Rattle.scan.specs.Scan.{opensOne, entriesOk, entryScan}
 use borrow.Author.Tests.{eq-eqb, ne-eqb, not-true, not-false}
 use Rattle.scan.proofs.Readings.{part-is}
-use Rattle.scan_objects.proofs.Turns.{digestPart, pathPart, lengthsPart, contentPart, head-of, digest-of, path-of, lengths-of, content-of, rest-tables, rest-arena, more, good-end, past-end, good-short, good-wrong, good-next, past-next}
+use Rattle.scan_rows.proofs.Turns.{digestPart, pathPart, lengthsPart, contentPart, head-of, digest-of, path-of, lengths-of, content-of, rest-tables, rest-arena, more, good-end, past-end, good-short, good-wrong, good-next, past-next}
 
 pub opens-small : (h : Head) → opensOne h ≤ 1
 unfolding opensOne

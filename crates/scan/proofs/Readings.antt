@@ -21,9 +21,9 @@ use Rattle.row.specs.Row.{headAt, headLength}
 use Rattle.layout.specs.declared.Mark.{Mark}
 use Rattle.layout.specs.Rules.{noDigest, partKind, pairsRule, partRule}
 use Rattle.layout.proofs.TestLaws.{all-true}
-use Rattle.scan_objects.specs.declared.Reading.the-variants.{Fits}
-use Rattle.scan_objects.specs.Scan.{readingOf}
-use Rattle.scan_objects.proofs.Readings.{row-fits}
+use Rattle.scan_rows.specs.declared.Reading.the-variants.{Fits}
+use Rattle.scan_rows.specs.Scan.{readingOf}
+use Rattle.scan_rows.proofs.Readings.{row-fits}
 
 -- sixteen bytes are 0 where the two numbers in them are
 bytes-zeros : (n : ℕ) → AreBytes (replicate n 0)

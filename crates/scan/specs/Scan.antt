@@ -11,11 +11,11 @@ use Rattle.layout.specs.declared.Header.{Header}
 use Rattle.layout.specs.Header.{headerLength}
 use Rattle.layout.specs.Rules.{uploadKind, objectOk, objectNext, entryOk, entryNext, start}
 use Rattle.layout.specs.Memory.{uploadsAmong}
-use Rattle.scan_objects.specs.declared.Offset.{Offset}
-use Rattle.scan_objects.specs.declared.Offsets.{Offsets}
-use Rattle.scan_objects.specs.declared.Scan.{Scan}
-use Rattle.scan_objects.specs.declared.Scan.the-variants.{Bad, Good}
-use Rattle.scan_objects.specs.Scan.{pastAll, first}
+use Rattle.scan_rows.specs.declared.Offset.{Offset}
+use Rattle.scan_rows.specs.declared.Offsets.{Offsets}
+use Rattle.scan_rows.specs.declared.Scan.{Scan}
+use Rattle.scan_rows.specs.declared.Scan.the-variants.{Bad, Good}
+use Rattle.scan_rows.specs.Scan.{pastAll, first}
 
 -- 1 for the row of an upload
 unfoldable pub opensOne : Head → ℕ

@@ -5,16 +5,15 @@ ghost use Prim.Native.Nat.{ℕ, _+_, _-_, _≤_};
 ghost use lib.ListN.{length, drop};
 ghost use Rattle.order.specs.Order.{same};
 ghost use Rattle.layout.specs.Rules.{entryRule, noDigest, uploadRule, partRule, markAfter, start};
-ghost use Rattle.scan_objects.specs.Scan.{readingOf};
+ghost use Rattle.scan_rows.specs.Scan.{readingOf};
 ghost use Rattle.scan.specs.Scan.{opensOne, entryScan};
-ghost use Rattle.scan_objects.specs.declared.Reading.the-variants.{Fits};
+ghost use Rattle.scan_rows.specs.declared.Reading.the-variants.{Fits};
 ghost use Rattle.row.specs.declared.Head.{Head};
 use layout::Mark;
 use row::Head;
-use scan_objects::Offset;
-use scan_objects::Reading;
-use scan_objects::Scan;
-use scan_objects::rows;
+use scan_rows::Offset;
+use scan_rows::Reading;
+use scan_rows::Scan;
 
 // Where a run of parts ends: the number of the next row, its offset, and the mark after the parts.
 struct Run {
@@ -67,7 +66,7 @@ fn upload_ok(
     if !is_zero(digest) {
         return false;
     }
-    if !rows::pairs_ok(most, h, lengths, content) {
+    if !scan_rows::pairs_ok(most, h, lengths, content) {
         return false;
     }
     h.size as usize == stored_pairs::sum_of(lengths)
@@ -225,7 +224,7 @@ pub(crate) fn scan_entries(
     let mut opened: usize = 0;
     let mut i: usize = 0;
     while i < rows {
-        let Reading::Fits(h) = rows::read_row(t, at, arena, base) else {
+        let Reading::Fits(h) = scan_rows::read_row(t, at, arena, base) else {
             return Scan::Bad;
         };
         let digest = at + row::NUMBERS_LENGTH;

@@ -9,13 +9,14 @@ use lib.ListN.{take, drop}
 use Rattle.number.specs.Number.{AreBytes}
 use Rattle.row.specs.declared.Head.{Head}
 use Rattle.row.specs.Row.{headLength, rowAt}
-use Rattle.scan_objects.specs.declared.Offset.{Offset}
-use Rattle.scan_objects.specs.declared.Reading.the-variants.{Short, Fits}
-use Rattle.scan_objects.specs.declared.Scan.the-variants.{Bad, Good}
+use Rattle.scan_rows.specs.declared.Offset.{Offset}
+use Rattle.scan_rows.specs.declared.Reading.the-variants.{Short, Fits}
+use Rattle.scan_rows.specs.declared.Scan.the-variants.{Bad, Good}
 use Rattle.layout.specs.Rules.{objectRule, objectOk, objectNext}
-use Rattle.scan_objects.specs.Scan.{readingOf, past, objectScan}
+use Rattle.scan_rows.specs.Scan.{readingOf, past}
+use Rattle.scan_objects.specs.Scan.{objectScan}
 use borrow.Author.Tests.{not-true, not-false}
-use Rattle.scan_objects.proofs.Turns.{pathPart, head-of, path-of, lengths-of, content-of, good-end, past-end, good-short, good-wrong, good-next, past-next}
+use Rattle.scan_rows.proofs.Turns.{pathPart, head-of, path-of, lengths-of, content-of, good-end, past-end, good-short, good-wrong, good-next, past-next}
 
 module _ (t a : List ℕ) (most n i : ℕ) (last : List ℕ) (o : Offset) where
   pub objects-end : n ≤ i → objectScan most (n - i) last o t a ≡ Good o

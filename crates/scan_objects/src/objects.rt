@@ -5,12 +5,11 @@ ghost use Prim.Native.Nat.{_+_, _-_, _*_, _≤_};
 ghost use lib.ListN.{length, take, drop};
 ghost use Rattle.layout.specs.Rules.{objectRule};
 ghost use Rattle.scan_objects.specs.Scan.{objectScan};
-use crate::Offset;
-use crate::Reading;
-use crate::Scan;
-use crate::rows;
 use crate::usual;
 use row::Head;
+use scan_rows::Offset;
+use scan_rows::Reading;
+use scan_rows::Scan;
 
 // Whether the row of an object, with its path from `path` to `end` and its block at `base`, may stand after one whose path
 // is `last`. Tests are in the order that takes the least time.
@@ -29,7 +28,7 @@ fn object_ok(
     ensures { λ r. ⌜ r ≡ objectRule most (now (last .entry)) h (take (end - path) (drop path (now (t .entry))))
         (take (2 * h .pairs) (drop end (now (t .entry)))) (take (h .size) (drop base (now (arena .entry)))) ⌝ }
 {
-    if !rows::numbers_ok(h) {
+    if !scan_rows::numbers_ok(h) {
         return false;
     }
     if !order::is_below(last, &t[path..end]) {
@@ -38,7 +37,7 @@ fn object_ok(
     if !names::stored_path_ok_at(t, path, end) {
         return false;
     }
-    rows::pairs_ok_at(most, h, t, end, arena, base)
+    scan_rows::pairs_ok_at(most, h, t, end, arena, base)
 }
 
 // Whether so many rows of objects stand from `from` on, after one whose path stands from `before` to there, and where they
@@ -54,7 +53,7 @@ fn scan_from(t: &[u8], arena: &[u8], from: Offset, before: usize, rows: u16, mos
     let mut last_end = at;
     let mut i: u16 = 0;
     while i < rows {
-        let Reading::Fits(h) = rows::read_row(t, at, arena, base) else {
+        let Reading::Fits(h) = scan_rows::read_row(t, at, arena, base) else {
             return Scan::Bad;
         };
         let path = at + row::HEAD_LENGTH;

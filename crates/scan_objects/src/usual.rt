@@ -7,11 +7,10 @@ ghost use Prim.Native.Nat.{ℕ, _-_, _*_, _≤_};
 ghost use lib.ListN.{length, take, drop};
 ghost use Rattle.row.specs.declared.Head.{Head};
 ghost use Rattle.layout.specs.Rules.{objectRule};
-ghost use Rattle.scan_objects.specs.declared.Reading.the-variants.{Fits};
-ghost use Rattle.scan_objects.specs.Scan.{readingOf};
-use crate::Reading;
-use crate::rows;
+ghost use Rattle.scan_rows.specs.declared.Reading.the-variants.{Fits};
+ghost use Rattle.scan_rows.specs.Scan.{readingOf};
 use row::Head;
+use scan_rows::Reading;
 
 // The head of the row at `at`, with its data at `base`, where it has no pairs, is all in t, and its data all in the arena.
 // `Short` says nothing of the row.
@@ -45,7 +44,7 @@ pub(crate) fn usual_ok(last: &[u8], h: Head, t: &[u8], path: usize, end: usize) 
         → objectRule most (now (last .entry)) h (take (end - path) (drop path (now (t .entry))))
         (take (2 * h .pairs) (drop end (now (t .entry)))) content ≡ true) ⌝ }
 {
-    if !rows::numbers_ok(h) {
+    if !scan_rows::numbers_ok(h) {
         return false;
     }
     if !order::is_below(last, &t[path..end]) {

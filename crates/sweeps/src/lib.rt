@@ -1,6 +1,6 @@
 // SWEEP: the ABORT of the uploads that started before a stamp, by ascending number, at most so many.
 use scan::StoreScan;
-use scan_objects::Offsets;
+use scan_rows::Offsets;
 use types::Stamp;
 use types::Sweep;
 use types::SweepAnswer;

@@ -1,7 +1,7 @@
 // The refusal of a call over whole memory, in checking order, or 0, and the places that were found on the way.
 use find::Lookup;
 use room::Room;
-use scan_objects::Offsets;
+use scan_rows::Offsets;
 use types::Stamp;
 ghost use mathlib.Core.Path.{_≡_};
 ghost use mathlib.Core.Bool.{true};

@@ -3,7 +3,7 @@ mod judges;
 
 use layout::Header;
 use scan::StoreScan;
-use scan_objects::Offsets;
+use scan_rows::Offsets;
 use types::DoneAnswer;
 use types::Stamp;
 ghost use mathlib.Core.Path.{_≡_};

@@ -1,6 +1,6 @@
 -- `find_uploads::search::first_upload` meets its contract: uploads begin after the objects. Assumes nothing.
 use mathlib.Core.Path.{ap}
-use Rattle.scan_objects.specs.declared.Offsets.{Offsets}
+use Rattle.scan_rows.specs.declared.Offsets.{Offsets}
 use Rattle.layout.proofs.WholeLaws.{whole-stands}
 use Rattle.find_uploads.proofs.UploadsFrom.{first-upload-row}
 use borrow.Author.Needs.{needs}

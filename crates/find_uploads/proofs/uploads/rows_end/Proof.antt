@@ -1,6 +1,6 @@
 -- `find_uploads::uploads::rows_end` meets its contract: the test "whole" has passed every row. Assumes nothing.
 use mathlib.Core.Path.{ap}
-use Rattle.scan_objects.specs.declared.Offsets.{Offsets}
+use Rattle.scan_rows.specs.declared.Offsets.{Offsets}
 use Rattle.layout.proofs.WholeLaws.{whole-stands}
 use Rattle.find_uploads.proofs.UploadsFrom.{rows-end-place}
 use borrow.Author.Needs.{needs}

@@ -8,11 +8,11 @@ use lib.ListN.{length, drop}
 use Rattle.row.specs.declared.Head.{Head}
 use Rattle.row.specs.Row.{headLength}
 use Rattle.layout.specs.Rules.{partRule}
-use Rattle.scan_objects.specs.declared.Offset.{Offset}
-use Rattle.scan_objects.specs.declared.Reading.the-variants.{Fits}
-use Rattle.scan_objects.specs.Scan.{readingOf}
+use Rattle.scan_rows.specs.declared.Offset.{Offset}
+use Rattle.scan_rows.specs.declared.Reading.the-variants.{Fits}
+use Rattle.scan_rows.specs.Scan.{readingOf}
 use Rattle.scan.specs.Scan.{entryScan}
-use Rattle.scan_objects.proofs.Turns.{row-in, data-in}
+use Rattle.scan_rows.proofs.Turns.{row-in, data-in}
 use Rattle.scan.proofs.EntryTurns.{part-next}
 use borrow.Author.Needs.{needs}
 use Rattle.scan.proofs.entries.pass_parts.Statement.{statement}

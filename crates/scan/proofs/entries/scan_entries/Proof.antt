@@ -7,11 +7,11 @@ use borrow.Author.Needs.{needs}
 use lib.ListN.{length, drop}
 use Rattle.row.specs.declared.Head.{Head}
 use Rattle.row.specs.Row.{span}
-use Rattle.scan_objects.specs.declared.Offset.{Offset}
-use Rattle.scan_objects.specs.declared.Reading.the-variants.{Fits}
-use Rattle.scan_objects.specs.Scan.{readingOf}
+use Rattle.scan_rows.specs.declared.Offset.{Offset}
+use Rattle.scan_rows.specs.declared.Reading.the-variants.{Fits}
+use Rattle.scan_rows.specs.Scan.{readingOf}
 use Rattle.scan.specs.Scan.{entryScan}
-use Rattle.scan_objects.proofs.Turns.{row-in, data-in, digest-length}
+use Rattle.scan_rows.proofs.Turns.{row-in, data-in, digest-length}
 use Rattle.scan.proofs.EntryTurns.{opens-small, entries-counted, entries-miscounted, entries-short, entries-wrong, entries-next}
 use native.Mathlib.Omega.{arith}
 use Rattle.scan.proofs.entries.scan_entries.Statement.{statement}

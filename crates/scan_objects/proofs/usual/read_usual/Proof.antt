@@ -1,7 +1,7 @@
 -- `scan_objects::usual::read_usual` meets its contract: a row without pairs ends where its path ends. Assumes nothing.
 use mathlib.Core.Path.{_∙_}
 use native.Mathlib.Omega.{arith}
-use Rattle.scan_objects.proofs.Readings.{row-fits}
+use Rattle.scan_rows.proofs.Readings.{row-fits}
 use borrow.Author.Needs.{needs}
 use Rattle.scan_objects.proofs.usual.read_usual.Statement.{statement}
 use Rattle.scan_objects.proofs.usual.read_usual.Tie as tie

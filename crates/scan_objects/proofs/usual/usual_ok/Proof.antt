@@ -4,7 +4,7 @@ use mathlib.Core.Path.{_∙_}
 use lib.ListN.{take, drop}
 use Rattle.machine.proofs.Tests.{said-yes}
 use Rattle.layout.specs.Rules.{pairsRule}
-use Rattle.scan_objects.proofs.Readings.{no-pairs}
+use Rattle.scan_rows.proofs.Readings.{no-pairs}
 use borrow.Author.Tests.{not-false}
 use borrow.Author.Needs.{needs}
 use Rattle.scan_objects.proofs.usual.usual_ok.Statement.{statement}

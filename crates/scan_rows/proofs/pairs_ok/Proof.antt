@@ -1,9 +1,9 @@
--- `scan_objects::rows::pairs_ok` meets its contract: the tests are the definition's. Assumes nothing.
+-- `scan_rows::pairs_ok` meets its contract: the tests are the definition's. Assumes nothing.
 use Rattle.layout.specs.Rules.{pairsRule}
 use Rattle.machine.proofs.Tests.{tests}
 use borrow.Author.Needs.{needs}
-use Rattle.scan_objects.proofs.rows.pairs_ok.Statement.{statement}
-use Rattle.scan_objects.proofs.rows.pairs_ok.Tie as tie
+use Rattle.scan_rows.proofs.pairs_ok.Statement.{statement}
+use Rattle.scan_rows.proofs.pairs_ok.Tie as tie
 
 returns : tie.Need-returns
 unfolding pairsRule

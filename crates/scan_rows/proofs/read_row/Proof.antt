@@ -1,4 +1,4 @@
--- `scan_objects::rows::read_row` meets its contract: the tests are those of `inside`. Assumes nothing.
+-- `scan_rows::read_row` meets its contract: the tests are those of `inside`. Assumes nothing.
 use Prim.Native.Nat.{_-_}
 use mathlib.Core.Path.{_≡_, refl}
 use mathlib.Core.Bool.{_&&_, cond}
@@ -6,12 +6,12 @@ use lib.Dec.{leb}
 use lib.ListN.{length, drop}
 use Rattle.machine.proofs.Tests.{tests}
 use Rattle.row.specs.Row.{headLength}
-use Rattle.scan_objects.specs.declared.Reading.the-variants.{Short, Fits}
-use Rattle.scan_objects.specs.Scan.{readingOf}
-use Rattle.scan_objects.proofs.Readings.{reading-is}
+use Rattle.scan_rows.specs.declared.Reading.the-variants.{Short, Fits}
+use Rattle.scan_rows.specs.Scan.{readingOf}
+use Rattle.scan_rows.proofs.Readings.{reading-is}
 use borrow.Author.Needs.{needs}
-use Rattle.scan_objects.proofs.rows.read_row.Statement.{statement}
-use Rattle.scan_objects.proofs.rows.read_row.Tie as tie
+use Rattle.scan_rows.proofs.read_row.Statement.{statement}
+use Rattle.scan_rows.proofs.read_row.Tie as tie
 
 sub-left : tie.Need-sub-left
 sub-left c = search needs

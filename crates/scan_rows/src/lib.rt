@@ -1,4 +1,4 @@
-// One row of memory that need not be whole.
+// One row, in memory that need not be whole, and where rows stand.
 ghost use mathlib.Core.Path.{_≡_};
 ghost use mathlib.Core.Bool.{_&&_, cond};
 ghost use mathlib.Core.List.{List};
@@ -8,9 +8,32 @@ ghost use lib.ListN.{length, take, drop};
 ghost use Rattle.order.specs.Order.{isBelow};
 ghost use Rattle.machine.specs.Names.{storedPathOk};
 ghost use Rattle.layout.specs.Rules.{plainKind, partsMost, pairsRule, objectRule};
-ghost use Rattle.scan_objects.specs.Scan.{readingOf};
-use crate::Reading;
+ghost use Rattle.scan_rows.specs.Scan.{readingOf};
 use row::Head;
+
+// What stands at an offset: the head of a row that fits there with its data.
+pub enum Reading {
+    Short,
+    Fits(Head),
+}
+
+// Where a row stands in the tables, and its data in the arena.
+pub struct Offset {
+    pub at: usize,
+    pub base: usize,
+}
+
+// Where the rows of uploads begin, and where all rows end.
+pub struct Offsets {
+    pub uploads: Offset,
+    pub end: Offset,
+}
+
+// What a scan of rows finds: that they do not stand, or where they end.
+pub enum Scan {
+    Bad,
+    Good(Offset),
+}
 
 // The head of the row at `at`, with its data at `base`, where the row is all in t and its data all in the arena.
 pub fn read_row(t: &[u8], at: usize, arena: &[u8], base: usize) -> Reading
@@ -43,7 +66,7 @@ fn most_parts(kind: u8) -> u16
 }
 
 // Whether a row with these numbers may be an object's. Most objects count no parts.
-pub(crate) fn numbers_ok(h: Head) -> bool
+pub fn numbers_ok(h: Head) -> bool
     ensures { λ r. ⌜ ((most : ℕ) (last path lengths content : List ℕ) → objectRule most last h path lengths content
         ≡ (r && (storedPathOk path && (isBelow last path && pairsRule most h lengths content)))) ⌝ }
 {

@@ -12,9 +12,9 @@ use Rattle.number.specs.Number.{AreBytes}
 use Rattle.row.specs.declared.Head.{Head}
 use Rattle.row.specs.Row.{Row, headAt, digestAt, pathAt, lengthsAt, spanAt, rowAt, inside, headOf, good, numbersLength, headLength, span}
 use Rattle.row.proofs.RowLaws.{Inside, inside-true, head-at}
-use Rattle.scan_objects.specs.declared.Offset.{Offset}
-use Rattle.scan_objects.specs.declared.Reading.the-variants.{Short, Fits}
-use Rattle.scan_objects.specs.Scan.{readingOf, past, pastAll}
+use Rattle.scan_rows.specs.declared.Offset.{Offset}
+use Rattle.scan_rows.specs.declared.Reading.the-variants.{Short, Fits}
+use Rattle.scan_rows.specs.Scan.{readingOf, past, pastAll}
 
 reading-short : (t a : List ℕ) → readingOf t a ≡ Short → inside t a ≡ false
 unfolding readingOf

@@ -11,8 +11,8 @@ use Rattle.stored_pairs.specs.Stored.{blockOk}
 use Rattle.stored_pairs.proofs.Blocks.{block-none}
 use Rattle.row.specs.declared.Head.{Head}
 use Rattle.row.specs.Row.{headAt, spanAt, inside, headLength, span}
-use Rattle.scan_objects.specs.declared.Reading.the-variants.{Short, Fits}
-use Rattle.scan_objects.specs.Scan.{readingOf}
+use Rattle.scan_rows.specs.declared.Reading.the-variants.{Short, Fits}
+use Rattle.scan_rows.specs.Scan.{readingOf}
 
 -- the tests of `read_row`
 pub reading-is : (t : List ℕ) (at : ℕ) (a : List ℕ) (base : ℕ) (h : Head) (n : ℕ) → h ≡ headAt (drop at t) → n ≡ span h

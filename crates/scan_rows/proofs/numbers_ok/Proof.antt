@@ -1,4 +1,4 @@
--- `scan_objects::rows::numbers_ok` meets its contract: the tests are the definition's, in another order. Assumes nothing.
+-- `scan_rows::numbers_ok` meets its contract: the tests are the definition's, in another order. Assumes nothing.
 use Prim.Native.Nat.{_≤_, _<_}
 use mathlib.Core.Logic.{⊎-elim}
 use mathlib.Core.Bool.{and-false, cond}
@@ -8,8 +8,8 @@ use Rattle.layout.specs.Rules.{all, objectRule, plainKind, partsMost}
 use borrow.Author.Tests.{lt-leb}
 use borrow.Author.Needs.{needs}
 use native.Mathlib.Omega.{arith}
-use Rattle.scan_objects.proofs.rows.numbers_ok.Statement.{statement}
-use Rattle.scan_objects.proofs.rows.numbers_ok.Tie as tie
+use Rattle.scan_rows.proofs.numbers_ok.Statement.{statement}
+use Rattle.scan_rows.proofs.numbers_ok.Tie as tie
 
 returns : tie.Need-returns
 unfolding all objectRule

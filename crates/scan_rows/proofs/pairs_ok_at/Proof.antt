@@ -1,12 +1,12 @@
--- `scan_objects::rows::pairs_ok_at` meets its contract: a row without pairs may stand; else the test is of the parts of tables and arena. Assumes nothing.
+-- `scan_rows::pairs_ok_at` meets its contract: a row without pairs may stand; else the test is of the parts of tables and arena. Assumes nothing.
 use mathlib.Core.Path.{sym, _∙_}
 use native.Mathlib.Nat.{add-sub-cancel-left}
 use lib.ListN.{drop}
 use Rattle.layout.specs.Rules.{pairsRule}
-use Rattle.scan_objects.proofs.Readings.{no-pairs}
+use Rattle.scan_rows.proofs.Readings.{no-pairs}
 use borrow.Author.Needs.{needs}
-use Rattle.scan_objects.proofs.rows.pairs_ok_at.Statement.{statement}
-use Rattle.scan_objects.proofs.rows.pairs_ok_at.Tie as tie
+use Rattle.scan_rows.proofs.pairs_ok_at.Statement.{statement}
+use Rattle.scan_rows.proofs.pairs_ok_at.Tie as tie
 
 returns : tie.Need-returns
 unfolding pairsRule

@@ -1,8 +1,8 @@
--- `scan_objects::rows::most_parts` meets its contract: the tests are the definition's. Assumes nothing.
+-- `scan_rows::most_parts` meets its contract: the tests are the definition's. Assumes nothing.
 use Rattle.machine.proofs.Tests.{tests}
 use borrow.Author.Needs.{needs}
-use Rattle.scan_objects.proofs.rows.most_parts.Statement.{statement}
-use Rattle.scan_objects.proofs.rows.most_parts.Tie as tie
+use Rattle.scan_rows.proofs.most_parts.Statement.{statement}
+use Rattle.scan_rows.proofs.most_parts.Tie as tie
 
 returns : tie.Need-returns
 returns c = search tests

@@ -20,8 +20,8 @@ pub fn write_block(
     ensures { λ r. ⌜ WrittenBlock (now (arena .entry)) at (now (pairs .entry)) (now (content .entry)) r
         (now (arena .exit)) (now (lengths .exit)) ⌝ }
 {
-    let kept = pairs::count(pairs);
-    let held = pairs::held(pairs);
+    let kept = kept_pairs::count(pairs);
+    let held = kept_pairs::held(pairs);
     write_pairs::write_kept(pairs, lengths, 0, arena, at);
     buffer::copy_at(arena, at + held, content);
     BlockSizes {
@@ -45,7 +45,7 @@ pub fn replace_block(
     ensures { λ r. ⌜ ReplacedBlock (now (arena .entry)) at old held (now (pairs .entry)) (now (content .entry)) r
         (now (arena .exit)) (now (lengths .exit)) ⌝ }
 {
-    let size = pairs::held(pairs) + content.len();
+    let size = kept_pairs::held(pairs) + content.len();
     buffer::copy_within(arena, at + old, at + size, held - (at + old));
     write_block(arena, at, pairs, content, lengths)
 }

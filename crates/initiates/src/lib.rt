@@ -49,7 +49,7 @@ fn initiate_room(tables: &[u8], arena: &[u8], offsets: Offsets, pairs: &[u8]) ->
     }
     let end = find_uploads::rows_end(tables, arena, offsets);
     let held = end.base;
-    let n = pairs::held(pairs);
+    let n = kept_pairs::held(pairs);
     let full = room::arena_judge(held, n, arena.len());
     if full != 0 {
         return refused(full);
@@ -82,7 +82,7 @@ fn initiate_judge(
     if !names::new_path_ok(path) {
         return refused(types::BAD_REQUEST);
     }
-    if !pairs::judge(pairs) {
+    if !kept_pairs::judge(pairs) {
         return refused(types::BAD_REQUEST);
     }
     initiate_room(tables, arena, offsets, pairs)

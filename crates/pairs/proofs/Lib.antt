@@ -1,4 +1,3 @@
 pub mod RuleLaws
 pub mod FrontLaws
 pub mod Passing
-pub mod Keeping

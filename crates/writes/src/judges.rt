@@ -36,10 +36,10 @@ pub(crate) fn put_judge(
     if !names::new_path_ok(path) {
         return room::refused(types::BAD_REQUEST);
     }
-    if !pairs::judge(pairs) {
+    if !kept_pairs::judge(pairs) {
         return room::refused(types::BAD_REQUEST);
     }
-    let n = pairs::held(pairs) + content.len();
+    let n = kept_pairs::held(pairs) + content.len();
     room::object_judge(tables, arena, offsets, path, n)
 }
 

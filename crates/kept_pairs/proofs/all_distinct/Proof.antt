@@ -1,14 +1,14 @@
--- `pairs::judging::all_distinct` meets its contract. The invariant: the pairs not yet passed decide. Assumes nothing.
+-- `kept_pairs::all_distinct` meets its contract. The invariant: the pairs not yet passed decide. Assumes nothing.
 use Prim.Native.Nat.{ℕ, _-_}
 use mathlib.Core.Path.{sym, _∙_}
 use mathlib.Core.List.{List}
 use native.Mathlib.Omega.{arith}
 use lib.ListN.{length}
 use Rattle.machine.specs.Pairs.{kept, distinctKeys}
-use Rattle.pairs.proofs.Keeping.{again-yes, again-no}
+use Rattle.kept_pairs.proofs.Keeping.{again-yes, again-no}
 use Rattle.pairs.proofs.Passing.{from-there, from-formed, here-fits, Undecided, undecided-none, decided, undecided-next, undecided-all}
-use Rattle.pairs.proofs.judging.all_distinct.Statement.{statement}
-use Rattle.pairs.proofs.judging.all_distinct.Tie as tie
+use Rattle.kept_pairs.proofs.all_distinct.Statement.{statement}
+use Rattle.kept_pairs.proofs.all_distinct.Tie as tie
 
 abbrev Inv-loop : tie.InvT-loop
 Inv-loop pairs at₀ at = Undecided (λ l. distinctKeys (kept l)) pairs at

@@ -1,4 +1,4 @@
--- `pairs::judging::formed` meets its contract. The invariant: the pairs not yet passed decide. Assumes nothing.
+-- `kept_pairs::formed` meets its contract. The invariant: the pairs not yet passed decide. Assumes nothing.
 use Prim.Native.Nat.{ℕ, _-_, _≤_}
 use mathlib.Core.Path.{_≡_, refl, sym, ap, _∙_}
 use mathlib.Core.List.{List}
@@ -6,9 +6,9 @@ use native.Mathlib.Omega.{arith}
 use lib.ListN.{length, drop}
 use Rattle.machine.specs.Pairs.{every, pairOk, pairList}
 use Rattle.machine.proofs.Tests.{said-no, said-yes}
 use Rattle.pairs.proofs.Passing.{none-left, formed-no, ok-fits, formed-next}
-use Rattle.pairs.proofs.judging.formed.Statement.{statement}
-use Rattle.pairs.proofs.judging.formed.Tie as tie
+use Rattle.kept_pairs.proofs.formed.Statement.{statement}
+use Rattle.kept_pairs.proofs.formed.Tie as tie
 
 abbrev Inv-loop : tie.InvT-loop
 Inv-loop pairs at₀ at = (at ≤ length pairs) × (every pairOk (pairList (drop at pairs)) ≡ every pairOk (pairList pairs))

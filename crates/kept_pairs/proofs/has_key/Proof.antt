@@ -1,13 +1,13 @@
--- `pairs::judging::has_key` meets its contract. The invariant: the pairs not yet passed decide. Assumes nothing.
+-- `kept_pairs::has_key` meets its contract. The invariant: the pairs not yet passed decide. Assumes nothing.
 use Prim.Native.Nat.{ℕ, _-_}
 use mathlib.Core.List.{List}
 use native.Mathlib.Omega.{arith}
 use lib.ListN.{length}
 use Rattle.machine.specs.Pairs.{hasKey}
-use Rattle.pairs.proofs.Keeping.{has-yes, has-no}
+use Rattle.kept_pairs.proofs.Keeping.{has-yes, has-no}
 use Rattle.pairs.proofs.Passing.{from-fits, here-fits, Undecided, undecided-none, decided, undecided-next, undecided-all}
-use Rattle.pairs.proofs.judging.has_key.Statement.{statement}
-use Rattle.pairs.proofs.judging.has_key.Tie as tie
+use Rattle.kept_pairs.proofs.has_key.Statement.{statement}
+use Rattle.kept_pairs.proofs.has_key.Tie as tie
 
 abbrev Inv-loop : tie.InvT-loop
 Inv-loop pairs key at₀ at = Undecided (hasKey key) pairs at

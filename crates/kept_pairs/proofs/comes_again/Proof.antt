@@ -1,11 +1,11 @@
--- `pairs::judging::comes_again` meets its contract. Assumes nothing.
+-- `kept_pairs::comes_again` meets its contract. Assumes nothing.
 use borrow.Author.Needs.{needs}
 use lib.ListN.{drop}
 use Rattle.machine.specs.Pairs.{pairList, frontSize}
-use Rattle.pairs.proofs.Keeping.{again-system, again-own}
+use Rattle.kept_pairs.proofs.Keeping.{again-system, again-own}
 use Rattle.pairs.proofs.Passing.{front-fits, tail-formed, after-front}
-use Rattle.pairs.proofs.judging.comes_again.Statement.{statement}
-use Rattle.pairs.proofs.judging.comes_again.Tie as tie
+use Rattle.kept_pairs.proofs.comes_again.Statement.{statement}
+use Rattle.kept_pairs.proofs.comes_again.Tie as tie
 
 key-requires : tie.Need-key-requires
 key-requires c κs = front-fits (c .before .args .rest .now) (c .before .pre .0) (c .before .pre .1)

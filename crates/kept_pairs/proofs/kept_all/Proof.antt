@@ -1,14 +1,14 @@
--- `pairs::judging::kept_all` meets its contract. The invariant: what is summed and what is to come are all. Assumes nothing.
+-- `kept_pairs::kept_all` meets its contract. The invariant: what is summed and what is to come are all. Assumes nothing.
 use Prim.Native.Nat.{ℕ, _-_}
 use mathlib.Core.Path.{refl}
 use mathlib.Core.List.{List}
 use native.Mathlib.Omega.{arith}
 use lib.ListN.{length}
 use Rattle.machine.specs.Pairs.{kept, pairsHeld}
-use Rattle.pairs.proofs.Keeping.{count-cons, held-cons}
+use Rattle.kept_pairs.proofs.Keeping.{count-cons, held-cons}
 use Rattle.pairs.proofs.Passing.{from-fits, here-fits, Summed, summed-none, summed-next, summed-all, from-inside, from-size}
-use Rattle.pairs.proofs.judging.kept_all.Statement.{statement}
-use Rattle.pairs.proofs.judging.kept_all.Tie as tie
+use Rattle.kept_pairs.proofs.kept_all.Statement.{statement}
+use Rattle.kept_pairs.proofs.kept_all.Tie as tie
 
 abbrev Inv-loop : tie.InvT-loop
 Inv-loop pairs n₀ bytes₀ at₀ n bytes at = Summed (λ l. length (kept l)) pairs at n × Summed (λ l. pairsHeld (kept l)) pairs at bytes

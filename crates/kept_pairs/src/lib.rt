@@ -13,10 +13,10 @@ fn formed(pairs: &[u8]) -> bool
 {
     let mut at = 0;
     while at < pairs.len() {
-        if !crate::front::pair_ok(&pairs[at..]) {
+        if !pairs::front::pair_ok(&pairs[at..]) {
             return false;
         }
-        at = crate::front::end(pairs, at);
+        at = pairs::front::end(pairs, at);
     }
     true
 }
@@ -35,10 +35,10 @@ fn kept_first(rest: &[u8]) -> Kept
         × (r .pairs ≤ 1)
         × (r .bytes ≤ frontSize (now (rest .entry))) ⌝ }
 {
-    if crate::rules::system_key(crate::front::key(rest)) {
+    if pairs::rules::system_key(pairs::front::key(rest)) {
         return Kept { pairs: 0, bytes: 0 };
     }
-    let bytes = crate::front::size(rest) - 2;
+    let bytes = pairs::front::size(rest) - 2;
     Kept { pairs: 1, bytes }
 }
 
@@ -55,7 +55,7 @@ fn kept_all(pairs: &[u8]) -> Kept
         let first = kept_first(&pairs[at..]);
         n += first.pairs;
         bytes += first.bytes;
-        at = crate::front::end(pairs, at);
+        at = pairs::front::end(pairs, at);
     }
     Kept { pairs: n, bytes }
 }
@@ -85,10 +85,10 @@ fn has_key(pairs: &[u8], key: &[u8]) -> bool
 {
     let mut at = 0;
     while at < pairs.len() {
-        if order::equal(key, crate::front::key(&pairs[at..])) {
+        if order::equal(key, pairs::front::key(&pairs[at..])) {
             return true;
         }
-        at = crate::front::end(pairs, at);
+        at = pairs::front::end(pairs, at);
     }
     false
 }
@@ -100,11 +100,11 @@ fn comes_again(rest: &[u8]) -> bool
         && hasKey (frontKey (now (rest .entry)))
         (pairList (drop (frontSize (now (rest .entry))) (now (rest .entry))))) ⌝ }
 {
-    let key = crate::front::key(rest);
-    if crate::rules::system_key(key) {
+    let key = pairs::front::key(rest);
+    if pairs::rules::system_key(key) {
         return false;
     }
-    let n = crate::front::size(rest);
+    let n = pairs::front::size(rest);
     has_key(&rest[n..], key)
 }
 
@@ -118,7 +118,7 @@ fn all_distinct(pairs: &[u8]) -> bool
         if comes_again(&pairs[at..]) {
             return false;
         }
-        at = crate::front::end(pairs, at);
+        at = pairs::front::end(pairs, at);
     }
     true
 }
@@ -130,7 +130,7 @@ pub fn judge(pairs: &[u8]) -> bool
     if !formed(pairs) {
         return false;
     }
-    if crate::PAIRS_MOST < count(pairs) {
+    if pairs::PAIRS_MOST < count(pairs) {
         return false;
     }
     all_distinct(pairs)

@@ -1,13 +1,13 @@
--- `pairs::judging::kept_first` meets its contract. Assumes nothing.
+-- `kept_pairs::kept_first` meets its contract. Assumes nothing.
 use mathlib.Core.Path.{sym, ap}
 use native.Mathlib.Omega.{arith}
 use borrow.Author.Needs.{needs}
 use lib.ListN.{length}
 use Rattle.machine.specs.Pairs.{pairsHeld}
 use Rattle.machine.proofs.PairBytes.{front-size}
-use Rattle.pairs.proofs.Keeping.{kept-none, kept-own}
-use Rattle.pairs.proofs.judging.kept_first.Statement.{statement}
-use Rattle.pairs.proofs.judging.kept_first.Tie as tie
+use Rattle.kept_pairs.proofs.Keeping.{kept-none, kept-own}
+use Rattle.kept_pairs.proofs.kept_first.Statement.{statement}
+use Rattle.kept_pairs.proofs.kept_first.Tie as tie
 
 key-requires : tie.Need-key-requires
 key-requires c κs = search needs

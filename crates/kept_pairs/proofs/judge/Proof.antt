@@ -1,11 +1,11 @@
--- `pairs::judging::judge` meets its contract: three tests, each over what the one before it left. Assumes nothing.
+-- `kept_pairs::judge` meets its contract: three tests, each over what the one before it left. Assumes nothing.
 use native.Mathlib.Omega.{arith}
 use borrow.Author.Needs.{needs}
-use Rattle.pairs.proofs.Keeping.{judge-form, judge-many, judge-keys}
+use Rattle.kept_pairs.proofs.Keeping.{judge-form, judge-many, judge-keys}
 use Rattle.machine.proofs.Tests.{said-no, said-yes}
 use Rattle.machine.specs.Pairs.{pairList}
-use Rattle.pairs.proofs.judging.judge.Statement.{statement}
-use Rattle.pairs.proofs.judging.judge.Tie as tie
+use Rattle.kept_pairs.proofs.judge.Statement.{statement}
+use Rattle.kept_pairs.proofs.judge.Tie as tie
 
 formed-requires : tie.Need-formed-requires
 formed-requires c κs = search needs

@@ -1,18 +1,20 @@
 -- Where rows that were passed end; what the scans say of the whole. Assumes nothing.
 use Prim.Native.Nat.{ℕ, zero, suc, _+_, _≤_, _<_}
 use mathlib.Core.Path.{_≡_, refl, sym, ap, _∙_}
-use mathlib.Core.Bool.{Bool, true, false, not, _&&_, cond, and-true}
+use mathlib.Core.Bool.{Bool, true, false, not, _&&_, cond, and-true, and-assoc}
 use mathlib.Core.List.{List, []}
 use native.Mathlib.Nat.{zero-add}
 use native.Mathlib.Omega.{arith}
 use borrow.Author.Tests.{ne-eqb, not-true, not-false}
 use lib.ListN.{length, drop, length-drop}
 use lib.Seq.{drop-drop}
+use Rattle.machine.proofs.Options.{both}
 use Rattle.row.specs.Row.{Row, headAt, span, spanAt, rowAt, pastRows, pastData, good}
 use Rattle.row.proofs.RowLaws.{here-inside, rest-good}
 use Rattle.layout.specs.declared.Header.{Header}
 use Rattle.layout.specs.Rules.{all, objectOk, objectNext, start}
 use Rattle.layout.specs.Memory.{headerOk, uploadTables, uploadArena, uploadRowsAt, objectsGood, uploadsGood, wholeOf}
+use Rattle.layout.proofs.WholeLaws.{header-is}
 use Rattle.scan_rows.specs.declared.Offset.{Offset}
 use Rattle.layout.specs.Header.{headerAt, headerLength}
 use Rattle.scan_rows.specs.declared.Offsets.{Offsets}
@@ -22,7 +24,7 @@ use Rattle.scan_rows.specs.Scan.{past, pastAll, first, uploadsFrom, rowsEnd, of
 use Rattle.scan_objects.specs.Scan.{objectScan}
 use Rattle.scan.specs.declared.StoreScan.{StoreScan}
 use Rattle.scan.specs.declared.StoreScan.the-variants as store
-use Rattle.scan.specs.Scan.{entriesOk, entryScan, rowsOk, rowOffsets}
+use Rattle.scan.specs.Scan.{entriesOk, entryScan, uploadScan, frontOk}
 
 -- what the answer of a scan of rows tells of them
 end-bad : {b : Bool} {r : Scan} (o : Offset) → r ≡ cond b (Good o) Bad → r ≡ Bad → b ≡ false
@@ -91,67 +93,64 @@ module _ (S : Type 0) (ok : S → Row → Bool) (next : S → Row → S) where
       (omega (arith, length-drop (o .at) t))
       (omega (arith, length-drop (o .base) a))
 
--- what the scan of objects says of all rows
-module _ (most : ℕ) (h : Header) (t a : List ℕ) (r : Scan) (e : r ≡ objectScan most (h .objects) [] first t a) where
-  abbrev objects : Bool
-  objects = good (List ℕ) (objectOk most) objectNext (h .objects) [] (drop headerLength t) a
-
-  -- where the rows stand, if all do
-  abbrev answer : StoreScan
-  answer = cond (rowsOk most h t a) (store.Good (rowOffsets h t)) store.Bad
-
-  pub rows-bad : r ≡ Bad → store.Bad ≡ answer
-  unfolding objectScan rowsOk
-  rows-bad q = let n : objects ≡ false = end-bad _ e q in rw n
-
-  module _ (p : Offset) (q : r ≡ Good p) where
-    found : (objects ≡ true) × (p ≡ pastAll (h .objects) first t)
-    unfolding objectScan
-    found = end-good e q
-
-    pub rows-end : headerLength ≤ length t → (p .at ≤ length t) × (p .base ≤ length a)
-    rows-end l = rw (found .1) (past-inside (List ℕ) (objectOk most) objectNext (h .objects) [] first t a (found .0) l (omega arith))
-
-    module _ (x : Scan) (y : x ≡ entryScan most (h .next) (h .uploads) 0 (h .uploads + h .parts) start p t a) where
-      abbrev entries : Bool
-      entries = entriesOk most (h .next) (h .uploads) 0 (h .uploads + h .parts) start p t a
-
-      rows-judged : rowsOk most h t a ≡ entries
-      unfolding rowsOk
-      rows-judged = rw (found .0, found .1)
-
-      pub entries-bad : x ≡ Bad → store.Bad ≡ answer
-      unfolding entryScan
-      entries-bad n = let no : entries ≡ false = end-bad _ y n in rw (rows-judged, no)
-
-      pub rows-good : (z : Offset) → x ≡ Good z → store.Good (record { uploads = p; end = z }) ≡ answer
-      unfolding entryScan rowOffsets
-      rows-good z n =
-          let w : (entries ≡ true) × (z ≡ pastAll (h .uploads + h .parts) p t) = end-good y n in
-          rw (rows-judged, w .0, w .1, found .1)
-
--- the test "whole" of a layout, by the header and the scans
+-- Tables t over arena a, by a layout whose tables have T bytes
 module _ (T most : ℕ) (t a : List ℕ) where
-  -- where the rows stand, if memory is whole
-  abbrev pub scanned : StoreScan
-  scanned = cond (wholeOf T most t a) (store.Good (offsetsIn t)) store.Bad
+  -- where the rows of uploads begin, if header and objects stand
+  abbrev front : Scan
+  front = cond (frontOk T most t a) (Good (uploadsFrom t)) Bad
 
-  whole-is : wholeOf T most t a ≡ (headerOk T (length t) (length a) (headerAt t) && rowsOk most (headerAt t) t a)
-  unfolding wholeOf all rowsOk entriesOk objectsGood uploadsGood uploadRowsAt uploadTables uploadArena
-  whole-is =
-      rw (and-true, zero-add, past-tables (headerAt t .objects) first t, past-arena (headerAt t .objects) first t a)
-
-  pub too-short : length t < headerLength → headerLength ≤ T → store.Bad ≡ scanned
-  unfolding wholeOf all headerOk
+  pub too-short : length t < headerLength → headerLength ≤ T → Bad ≡ front
+  unfolding frontOk headerOk all
   too-short l room = rw (ne-eqb (length t) T (λ e. omega arith))
 
   module _ (h : Header) (e : h ≡ headerAt t) (b : Bool) (q : b ≡ headerOk T (length t) (length a) h) where
     judged : headerOk T (length t) (length a) (headerAt t) ≡ b
     judged = ap (headerOk T (length t) (length a)) (sym e) ∙ sym q
 
-    pub header-bad : not b ≡ true → store.Bad ≡ scanned
-    header-bad n = rw (whole-is, judged, not-true b n)
+    pub header-bad : not b ≡ true → Bad ≡ front
+    unfolding frontOk
+    header-bad n = rw (judged, not-true b n)
 
-    pub header-good : not b ≡ false → (r : StoreScan) → r ≡ cond (rowsOk most h t a) (store.Good (rowOffsets h t)) store.Bad → r ≡ scanned
-    unfolding uploadsFrom rowsEnd rowOffsets
-    header-good n r q = rw (whole-is, judged, not-false b n, ← e) q
+    pub header-good : not b ≡ false → (r : Scan) → r ≡ objectScan most (h .objects) [] first t a → r ≡ front
+    unfolding frontOk objectScan uploadsFrom
+    header-good n r q = rw (judged, not-false b n, ← e) q
+
+  -- the rows of uploads and parts from o on stand as the header says
+  abbrev entries : Offset → Bool
+  entries o = let h = headerAt t in entriesOk most (h .next) (h .uploads) 0 (h .uploads + h .parts) start o t a
+
+  whole-is : wholeOf T most t a ≡ (frontOk T most t a && entries (uploadsFrom t))
+  unfolding wholeOf all frontOk uploadsFrom entriesOk objectsGood uploadsGood uploadRowsAt uploadTables uploadArena
+  whole-is =
+      rw (and-true, zero-add, past-tables (headerAt t .objects) first t, past-arena (headerAt t .objects) first t a, and-assoc)
+
+  module _ (r : Scan) (e : r ≡ front) where
+    pub front-bad : r ≡ Bad → wholeOf T most t a ≡ false
+    front-bad q = let no : frontOk T most t a ≡ false = end-bad _ e q in rw (whole-is, no)
+
+    module _ (p : Offset) (q : r ≡ Good p) where
+      stood : (frontOk T most t a ≡ true) × (p ≡ uploadsFrom t)
+      stood = end-good e q
+
+      pub front-inside : headerLength ≤ T → (headerLength ≤ length t) × (p .at ≤ length t) × (p .base ≤ length a)
+      unfolding frontOk uploadsFrom
+      front-inside room =
+          let k = both _ _ (stood .0) in
+          let size = header-is T (length t) (length a) (headerAt t) (k .0) .size in
+          let l : headerLength ≤ length t = omega arith in
+          let z = past-inside (List ℕ) (objectOk most) objectNext (headerAt t .objects) [] first t a (k .1) l (omega arith) in
+          (l, rw (stood .1) (z .0), rw (stood .1) (z .1))
+
+      module _ (x : Scan) (y : x ≡ uploadScan most p t a) where
+        whole-by : wholeOf T most t a ≡ entries p
+        whole-by = rw (whole-is, stood .0, stood .1)
+
+        pub uploads-bad : x ≡ Bad → wholeOf T most t a ≡ false
+        unfolding entryScan
+        uploads-bad n = let no : entries p ≡ false = end-bad _ y n in whole-by ∙ no
+
+        pub uploads-good : (z : Offset) → x ≡ Good z → (wholeOf T most t a ≡ true) × (record { uploads = p; end = z } ≡ offsetsIn t)
+        unfolding entryScan rowsEnd
+        uploads-good z n =
+            let w : (entries p ≡ true) × (z ≡ pastAll (headerAt t .uploads + headerAt t .parts) p t) = end-good y n in
+            (whole-by ∙ w .0, rw (w .1, stood .1))

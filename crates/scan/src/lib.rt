@@ -1,7 +1,6 @@
 // The test "whole", over any bytes.
 mod entries;
 
-use layout::Header;
 use layout::headers;
 use scan_objects::objects;
 use scan_rows::Offset;
@@ -11,9 +10,10 @@ ghost use mathlib.Core.Path.{_≡_};
 ghost use mathlib.Core.Bool.{cond};
 ghost use Prim.Native.Nat.{_≤_};
 ghost use lib.ListN.{length};
-ghost use Rattle.scan_rows.specs.Scan.{offsetsIn};
+ghost use Rattle.scan_rows.specs.declared.Scan.the-variants.{Bad, Good};
+ghost use Rattle.scan_rows.specs.Scan.{uploadsFrom, offsetsIn};
 ghost use Rattle.scan.specs.declared.StoreScan.the-variants as store;
-ghost use Rattle.scan.specs.Scan.{rowsOk, rowOffsets};
+ghost use Rattle.scan.specs.Scan.{uploadScan, frontOk};
 ghost use Rattle.layout.specs.Header.{headerLength};
 ghost use Rattle.layout.specs.Memory as memory;
 
@@ -23,58 +23,48 @@ pub enum StoreScan {
     Good(Offsets),
 }
 
-// Where the rows stand, if all do after a header.
-fn scan_rows(tables: &[u8], arena: &[u8], h: Header, most: u8) -> StoreScan
-    requires { ⌜ headerLength ≤ length (now tables) ⌝ }
-    ensures { λ r. ⌜ r ≡ cond (rowsOk most h (now (tables .entry)) (now (arena .entry)))
-        (store.Good (rowOffsets h (now (tables .entry)))) store.Bad ⌝ }
+// Where the rows of uploads begin, if header and objects stand in a layout whose tables have `length` bytes and whose rows have at
+// most `most` pairs.
+fn scan_front(tables: &[u8], arena: &[u8], length: usize, most: u8) -> Scan
+    requires { ⌜ headerLength ≤ length ⌝ }
+    ensures { λ r. ⌜ r ≡ cond (frontOk length most (now (tables .entry)) (now (arena .entry)))
+        (Good (uploadsFrom (now (tables .entry)))) Bad ⌝ }
 {
+    if tables.len() < layout::HEADER_LENGTH {
+        return Scan::Bad;
+    }
+    let h = headers::read_header(tables);
+    if !headers::header_ok(h, length, tables.len(), arena.len()) {
+        return Scan::Bad;
+    }
     let from = Offset {
         at: layout::HEADER_LENGTH,
         base: 0,
     };
-    let Scan::Good(uploads) = objects::scan_objects(tables, arena, from, h.objects, most) else {
-        return StoreScan::Bad;
-    };
-    let Scan::Good(end) = entries::scan_entries(
-        tables,
-        arena,
-        uploads,
-        h.uploads,
-        h.parts,
-        h.next,
-        most,
-    ) else {
-        return StoreScan::Bad;
-    };
-    StoreScan::Good(Offsets { uploads, end })
+    objects::scan_objects(tables, arena, from, h.objects, most)
 }
 
-// The test "whole" of a layout whose tables have `length` bytes and whose rows have at most `most` pairs; of whole memory,
-// where the rows stand.
-fn scan_of(tables: &[u8], arena: &[u8], length: usize, most: u8) -> StoreScan
-    requires { ⌜ headerLength ≤ length ⌝ }
-    ensures { λ r. ⌜ r ≡ cond (memory.wholeOf length most (now (tables .entry)) (now (arena .entry)))
-        (store.Good (offsetsIn (now (tables .entry)))) store.Bad ⌝ }
+// Where all rows end, if those of uploads and parts stand from `uploads` on as the header says.
+fn scan_uploads(tables: &[u8], arena: &[u8], uploads: Offset, most: u8) -> Scan
+    requires { ⌜ (headerLength ≤ length (now tables)) × (uploads .at ≤ length (now tables))
+        × (uploads .base ≤ length (now arena)) ⌝ }
+    ensures { λ r. ⌜ r ≡ uploadScan most uploads (now (tables .entry)) (now (arena .entry)) ⌝ }
 {
-    if tables.len() < layout::HEADER_LENGTH {
-        return StoreScan::Bad;
-    }
     let h = headers::read_header(tables);
-    if !headers::header_ok(h, length, tables.len(), arena.len()) {
-        return StoreScan::Bad;
-    }
-    scan_rows(tables, arena, h, most)
+    entries::scan_entries(tables, arena, uploads, h.uploads, h.parts, h.next, most)
 }
 
-// That test alone.
+// The test "whole" of a layout whose tables have `length` bytes and whose rows have at most `most` pairs.
 pub fn whole_of(tables: &[u8], arena: &[u8], length: usize, most: u8) -> bool
     requires { ⌜ headerLength ≤ length ⌝ }
     ensures { λ r. ⌜ r ≡ memory.wholeOf length most (now (tables .entry)) (now (arena .entry)) ⌝ }
 {
-    match scan_of(tables, arena, length, most) {
-        StoreScan::Bad => false,
-        StoreScan::Good(_) => true,
+    let Scan::Good(uploads) = scan_front(tables, arena, length, most) else {
+        return false;
+    };
+    match scan_uploads(tables, arena, uploads, most) {
+        Scan::Bad => false,
+        Scan::Good(_) => true,
     }
 }
 
@@ -83,12 +73,14 @@ pub fn scan_store(tables: &[u8], arena: &[u8]) -> StoreScan
     ensures { λ r. ⌜ r ≡ cond (memory.whole (now (tables .entry)) (now (arena .entry)))
         (store.Good (offsetsIn (now (tables .entry)))) store.Bad ⌝ }
 {
-    scan_of(
-        tables,
-        arena,
-        layout::TABLES_LENGTH,
-        pairs::PAIRS_MOST as u8,
-    )
+    let most = pairs::PAIRS_MOST as u8;
+    let Scan::Good(uploads) = scan_front(tables, arena, layout::TABLES_LENGTH, most) else {
+        return StoreScan::Bad;
+    };
+    let Scan::Good(end) = scan_uploads(tables, arena, uploads, most) else {
+        return StoreScan::Bad;
+    };
+    StoreScan::Good(Offsets { uploads, end })
 }
 
 // The test "whole".

@@ -1,4 +1,6 @@
 // Bytes copied, moved and exchanged within a buffer: each change is an equation of lists.
+#![tactic(auto)]
+
 mod blocks;
 
 ghost use Rattle.std.specs.Prelude.{◌≡◌, ◌⊎◌, ◌+◌, ◌-◌, ◌≤◌, ◌<◌, [], length, take, drop};

@@ -5,7 +5,7 @@ ghost use Rattle.base_md5.specs.Md5 as rfc;
 
 use super::words::Digest;
 
-#[derive(Drop)]
+#[derive(Clone, Copy)]
 pub enum Round {
     First,
     Second,
@@ -14,7 +14,7 @@ pub enum Round {
 }
 
 // Two numbers whose sum is F, G, H or I. `late` alone takes x, the word that the operation before has made.
-#[derive(Drop)]
+#[derive(Clone, Copy)]
 pub struct Summands {
     pub early: u32,
     pub late: u32,

@@ -1,4 +1,6 @@
 // The MD5 message digest of RFC 1321.
+#![tactic(auto)]
+
 pub mod block;
 pub mod words;
 
@@ -23,7 +25,8 @@ pub fn tail(data: &[u8], start: usize, at: usize) -> [u8; 128]
         ∷ (replicate (at - 1 - (length «data».now - start)) 0 ++ le 8 (8 * length «data».now % 2 ^ 64)) }
 {
     let mut t = [0u8; 128];
-    let left = bytes::copy(&data[start..], &mut t);
+    let left = data.len() - start;
+    t[..left].copy_from_slice(&data[start..]);
     t[left] = 128;
     base_number::put_u64(&mut t, at, bits(data.len()));
     t

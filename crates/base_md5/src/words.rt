@@ -3,7 +3,7 @@ ghost use Rattle.std.specs.Prelude.{◌≡◌};
 ghost use Rattle.base_md5.specs.Md5.{initial};
 
 // The words A, B, C and D.
-#[derive(Drop)]
+#[derive(Clone, Copy)]
 pub struct Digest {
     pub a: u32,
     pub b: u32,

@@ -1,4 +1,6 @@
 // Byte strings compared.
+#![tactic(auto)]
+
 ghost use Rattle.std.specs.Prelude.{◌≡◌, ◌+◌, ◌≤◌, ◌<◌, min, length, take, drop};
 ghost use Rattle.base_order.specs.Order.{by_bytes, is_below, same, begins, ends};
 ghost use Rattle.base_order.specs.Compared.{Common, DecidingWord, SameStart, Tells, order_of};
@@ -6,7 +8,7 @@ ghost use Rattle.base_order.specs.Big.{from_be};
 ghost use Rattle.base_number.specs.Number.{le};
 
 // How a stands to b.
-#[derive(Drop)]
+#[derive(Clone, Copy)]
 pub enum Order {
     Less,
     Equal,
@@ -95,7 +97,7 @@ fn deciding_word(a: &[u8], b: &[u8], from: usize, n: usize) -> usize
 }
 
 // Two numbers that tell how a stands to b.
-#[derive(Drop)]
+#[derive(Clone, Copy)]
 struct Numbers {
     x: u64,
     y: u64,

@@ -1,4 +1,6 @@
 // Numbers as text.
+#![tactic(auto)]
+
 ghost use Rattle.std.specs.Prelude.{◌≡◌, ◌+◌, ◌*◌, ◌≤◌, ◌<◌, ◌++◌, length};
 ghost use Rattle.base_number.specs.Number.{le, replaced_at, written};
 ghost use Rattle.base_text.specs.Text.{hex_digit, hex, decimal};

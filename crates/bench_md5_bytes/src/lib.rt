@@ -1,5 +1,7 @@
 // The digest as it was before a block's words were formed once: each step reads its word from the bytes. For bench/ alone; that it is
 // RFC 1321's is tested by crate `test_vectors`.
+#![tactic(auto)]
+
 mod block;
 
 use base_md5::words::Digest;

@@ -1,4 +1,6 @@
 // The functions that bench/ measures, exported for C. Each answers 0, or 1 where its arguments do not fit, and then changes nothing.
+#![tactic(auto)]
+
 ghost use Rattle.std.specs.Prelude.{◌≡◌, ◌+◌, ◌-◌, ◌&&◌, ◌++◌, eqb, leb, length, take, drop};
 ghost use Rattle.base_buffer.specs.Buffer.{spliced, rotated};
 ghost use Rattle.base_md5.specs.Md5.{bytes_of};

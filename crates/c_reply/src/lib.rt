@@ -1,4 +1,6 @@
 // An answer's number, and its values in a reply of 48 bytes.
+#![tactic(auto)]
+
 mod fields;
 
 ghost use Rattle.std.specs.Prelude.{◌≡◌, [], length};

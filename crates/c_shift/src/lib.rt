@@ -1,11 +1,13 @@
 // A C program's shift: each exported function called as C calls it, and all of them in one list, with what is known then.
+#![tactic(auto)]
+
 ghost use Rattle.machine.specs.Calls.{buffers};
 ghost use Rattle.call_contract.specs.Made.{memory};
 ghost use Rattle.c_history.specs.Lists.{CRun};
 ghost use Rattle.c_shift.specs.Shift.{slices, shelf_events, clear_events, sweep_events, replay_events, weigh_events, shift_events, Concluded};
 
 // What the calls on objects returned.
-#[derive(Drop)]
+#[derive(Clone, Copy)]
 pub struct Shelf {
     pub put: u32,
     pub got: u32,
@@ -16,7 +18,7 @@ pub struct Shelf {
 }
 
 // What the calls on an upload returned.
-#[derive(Drop)]
+#[derive(Clone, Copy)]
 pub struct Weighed {
     pub opened: u32,
     pub sent: u32,
@@ -148,7 +150,7 @@ fn weigh(
 }
 
 // What the calls of a shift returned.
-#[derive(Drop)]
+#[derive(Clone, Copy)]
 pub struct Shift {
     pub shelf: Shelf,
     pub cleared: u32,
@@ -157,7 +159,7 @@ pub struct Shift {
 }
 
 // What came of a shift: FRESH's refusal, or what the calls returned.
-#[derive(Drop)]
+#[derive(Clone, Copy)]
 pub enum ShiftAnswer {
     Refused(u32),
     Ran(Shift),

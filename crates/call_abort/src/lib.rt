@@ -1,4 +1,6 @@
 // ABORT: an open upload leaves the store with its parts.
+#![tactic(auto)]
+
 ghost use Rattle.std.specs.Prelude.{◌≡◌};
 ghost use Rattle.machine.specs.Calls.{ABORT};
 ghost use Rattle.mem_layout.specs.Memory.{state_of};
@@ -12,7 +14,7 @@ use mem_find::Lookup;
 use mem_scan::{Offsets, StoreScan};
 
 // ABORT's refusal, or 0, and where its upload stands.
-#[derive(Drop)]
+#[derive(Clone, Copy)]
 struct AbortPlace {
     refusal: u8,
     place: Lookup,

@@ -1,4 +1,6 @@
 // CARRY_OVER: tables of the former layout, whose rows have no pairs, carried over to tables of this one.
+#![tactic(auto)]
+
 ghost use Rattle.call_contract.specs.Answers.{WellNumbered, done_reply};
 ghost use Rattle.call_carry_over.specs.Carry.{Carried};
 

@@ -1,4 +1,6 @@
 // COMMIT: an open upload's parts become an object, in listed order.
+#![tactic(auto)]
+
 ghost use Rattle.std.specs.Prelude.{◌≡◌, cond, ◌+◌, ◌*◌, ◌≤◌, length};
 ghost use Rattle.machine.specs.State.{Object, with_object, without_upload, counted};
 ghost use Rattle.machine.specs.Calls.{COMMIT, tableFull, code};
@@ -88,7 +90,7 @@ fn pass_listed(tables: &[u8], arena: &[u8], first: RowPlace, list: &[u8]) -> Row
 
 // A judgement: whether a list names each part of an upload one time, and whether in their order; and the pass over the
 // parts.
-#[derive(Drop)]
+#[derive(Clone, Copy)]
 struct ListJudged {
     fits: bool,
     ascends: bool,
@@ -142,7 +144,7 @@ fn judge_list(tables: &[u8], arena: &[u8], here: RowPlace, list: &[u8]) -> ListJ
 }
 
 // A judgement: the refusal's number, or 0, and what the lookup of the upload's path answers.
-#[derive(Drop)]
+#[derive(Clone, Copy)]
 struct PathPlace {
     refusal: u8,
     place: Lookup,
@@ -177,7 +179,7 @@ fn commit_room(tables: &[u8], arena: &[u8], here: RowPlace) -> PathPlace
 
 // A judgement: the refusal's number, or 0; of an accepted COMMIT, the bounds of its upload, the place of its path, and
 // whether the list has the parts' numbers in their order.
-#[derive(Drop)]
+#[derive(Clone, Copy)]
 struct CommitRoom {
     refusal: u8,
     bounds: Bounds,

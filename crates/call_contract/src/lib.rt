@@ -1,1 +1,2 @@
 // What every call of the store promises.
+#![tactic(auto)]

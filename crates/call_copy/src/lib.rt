@@ -1,4 +1,6 @@
 // COPY: the destination becomes what PUT of the source's data and pairs would make.
+#![tactic(auto)]
+
 ghost use Rattle.std.specs.Prelude.{◌≡◌, true, length};
 ghost use Rattle.base_md5.specs.Md5.{md5};
 ghost use Rattle.machine.specs.Calls.{COPY};
@@ -16,7 +18,7 @@ use mem_find::{Lookup, RowPlace};
 use mem_scan::{Offsets, StoreScan};
 
 // A judgement: the refusal's number, or 0; the places of source and destination, and the end of the rows.
-#[derive(Drop)]
+#[derive(Clone, Copy)]
 struct CopyRoom {
     refusal: u8,
     source: Lookup,

@@ -1,4 +1,6 @@
 // DELETE.
+#![tactic(auto)]
+
 ghost use Rattle.std.specs.Prelude.{◌≡◌, true};
 ghost use Rattle.machine.specs.Calls.{Call};
 ghost use Rattle.mem_layout.specs.Memory.{whole, state_of};
@@ -12,7 +14,7 @@ use mem_find::Lookup;
 use mem_scan::{Offsets, StoreScan};
 
 // DELETE's refusal, or 0, and where its object stands.
-#[derive(Drop)]
+#[derive(Clone, Copy)]
 struct DeletePlace {
     pub refusal: u8,
     pub place: Lookup,

@@ -1,4 +1,6 @@
 // FRESH.
+#![tactic(auto)]
+
 ghost use Rattle.call_contract.specs.Made.{memory, MadeFresh};
 
 use mem_layout::Header;

@@ -1,4 +1,6 @@
 // GET and HEAD.
+#![tactic(auto)]
+
 ghost use Rattle.std.specs.Prelude.{◌≡◌, true, [], ◌+◌, ◌≤◌, length, drop};
 ghost use Rattle.machine.specs.Pairs.{encode_pairs};
 ghost use Rattle.machine.specs.Etags.{absent};
@@ -15,7 +17,7 @@ use call_types::{Etag, GetAnswer, Metadata, Stamp};
 
 // What the path of a GET or HEAD names: nothing, with the refusal's number; the root; or an object, by the place of its
 // row in the tables and of its block in the arena.
-#[derive(Drop)]
+#[derive(Clone, Copy)]
 enum Named {
     Refused(u8),
     Root,

@@ -1,4 +1,6 @@
 // INITIATE: an upload is opened, without parts, under a number that was never used.
+#![tactic(auto)]
+
 ghost use Rattle.std.specs.Prelude.{◌≡◌, true};
 ghost use Rattle.machine.specs.Pairs.{pairs_ok, pair_map, pair_list};
 ghost use Rattle.machine.specs.Calls.{INITIATE};
@@ -14,7 +16,7 @@ use mem_find::RowPlace;
 use mem_scan::{Offsets, StoreScan};
 
 // A judgement: the refusal's number, or 0; of an accepted upload, the end of the rows.
-#[derive(Drop)]
+#[derive(Clone, Copy)]
 struct OpenRoom {
     refusal: u8,
     end: RowPlace,

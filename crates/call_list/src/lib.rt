@@ -1,4 +1,6 @@
 // LIST.
+#![tactic(auto)]
+
 mod measuring;
 mod paths;
 mod record;

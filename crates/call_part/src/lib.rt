@@ -1,4 +1,6 @@
 // PART: a part of an open upload is set.
+#![tactic(auto)]
+
 ghost use Rattle.std.specs.Prelude.{◌≡◌, length};
 ghost use Rattle.machine.specs.Calls.{PART};
 ghost use Rattle.machine.specs.Steps.{part_at};

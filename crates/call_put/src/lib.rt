@@ -1,4 +1,6 @@
 // PUT.
+#![tactic(auto)]
+
 ghost use Rattle.std.specs.Prelude.{◌≡◌};
 ghost use Rattle.machine.specs.Calls.{Call};
 ghost use Rattle.machine.specs.Pairs.{pair_list};

@@ -1,4 +1,6 @@
 // The room for an object, the pairs of an upload or a part: refusals of PUT, COPY, INITIATE and PART, by number; 0 for none.
+#![tactic(auto)]
+
 ghost use Rattle.std.specs.Prelude.{◌≡◌, cond, ◌+◌, ◌≤◌, leb};
 ghost use Rattle.machine.specs.Calls.{arenaFull, code};
 ghost use Rattle.mem_find.specs.Places.{place_after};
@@ -21,7 +23,7 @@ pub fn arena_judge(held: usize, n: usize, arena: usize) -> u8
 }
 
 // A judgement: the refusal's number, or 0; the place of what was looked up, and the end of the rows.
-#[derive(Drop)]
+#[derive(Clone, Copy)]
 pub struct Room {
     pub refusal: u8,
     pub place: Lookup,

@@ -1,4 +1,6 @@
 // SWEEP: the ABORT of the uploads that started before a stamp, by ascending number, at most so many.
+#![tactic(auto)]
+
 ghost use Rattle.machine.specs.Calls.{SWEEP};
 ghost use Rattle.mem_scan.specs.Scanned.{Scanned};
 ghost use Rattle.call_contract.specs.Answers.{sweep_reply};

@@ -1,4 +1,6 @@
 // UPLOADS.
+#![tactic(auto)]
+
 mod measuring;
 mod rows;
 mod writing;

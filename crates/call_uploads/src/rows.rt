@@ -5,7 +5,7 @@ ghost use Rattle.call_uploads.specs.Rows.{number_at, WholeUpload, RowRead};
 use mem_find::RowPlace;
 
 // An open upload: its path stands in the tables from `from` to `to`, and `next` is the row after its parts.
-#[derive(Drop)]
+#[derive(Clone, Copy)]
 pub struct OpenUpload {
     pub from: usize,
     pub to: usize,

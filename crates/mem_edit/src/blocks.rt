@@ -2,7 +2,7 @@
 ghost use Rattle.mem_edit.specs.Blocks.{Writable, WrittenBlock, BlockReplaceable, ReplacedBlock};
 
 // How many length bytes a block's pairs have, and how many bytes the block has.
-#[derive(Drop)]
+#[derive(Clone, Copy)]
 pub struct BlockSizes {
     pub lengths: usize,
     pub bytes: usize,

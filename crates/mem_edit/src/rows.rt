@@ -12,7 +12,7 @@ use mem_layout::Header;
 use mem_row::Head;
 
 // What stands at a place that was looked up: no row, or one, with its length in the tables and its block's in the arena.
-#[derive(Drop)]
+#[derive(Clone, Copy)]
 pub struct OldRow {
     pub rows: u16,
     pub length: usize,

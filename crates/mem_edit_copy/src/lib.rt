@@ -1,4 +1,6 @@
 // An object copied, to another path or to its own.
+#![tactic(auto)]
+
 ghost use Rattle.std.specs.Prelude.{◌≡◌, ◌+◌, ◌≤◌, length};
 ghost use Rattle.mem_row.specs.Row.{head_length};
 ghost use Rattle.mem_edit.specs.Edits.{Becomes};

@@ -4,7 +4,7 @@ ghost use Rattle.mem_layout.specs.Memory.{whole, state_of};
 ghost use Rattle.mem_find.specs.Counts.{CountsOf};
 
 // How many objects, open uploads, parts over all uploads, and rows in all.
-#[derive(Drop)]
+#[derive(Clone, Copy)]
 pub struct RowCounts {
     pub objects: usize,
     pub uploads: usize,

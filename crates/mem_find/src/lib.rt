@@ -1,5 +1,7 @@
 // Readers of whole memory: where an object stands, how many rows there are, and the lengths of a row's pairs; and what
 // the readers of uploads answer.
+#![tactic(auto)]
+
 pub mod counts;
 pub mod objects;
 pub mod pairs;
@@ -13,7 +15,7 @@ pub use pairs::pairs_size;
 
 // What a search found: whether it is there, the number of its row, where that begins in the tables, and where its data
 // begin in the arena. Where it is not there, the places are those of the row before which it would stand.
-#[derive(Drop)]
+#[derive(Clone, Copy)]
 pub struct Lookup {
     pub found: bool,
     pub row: usize,
@@ -22,7 +24,7 @@ pub struct Lookup {
 }
 
 // What the searches for two paths found.
-#[derive(Drop)]
+#[derive(Clone, Copy)]
 pub struct TwoLookups {
     pub first: Lookup,
     pub second: Lookup,
@@ -30,7 +32,7 @@ pub struct TwoLookups {
 
 // The place of a row: its number among the rows, counted from 0, where it begins in the tables, and where its data
 // begin in the arena.
-#[derive(Drop)]
+#[derive(Clone, Copy)]
 pub struct RowPlace {
     pub row: usize,
     pub at: usize,
@@ -38,7 +40,7 @@ pub struct RowPlace {
 }
 
 // How many parts an upload has, and the place of the row after them.
-#[derive(Drop)]
+#[derive(Clone, Copy)]
 pub struct PassedParts {
     pub count: usize,
     pub next: RowPlace,

@@ -1,4 +1,6 @@
 // Readers of whole memory: where an upload or a part stands, and where the rows end.
+#![tactic(auto)]
+
 mod search;
 pub mod uploads;
 

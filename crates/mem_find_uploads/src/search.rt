@@ -14,7 +14,7 @@ use mem_scan::Offsets;
 // Where a search along the rows stops: after them all; at the upload with a number, or the first above it; at the next
 // upload; at the part with a number, the first above it, or the next upload; at the next upload that started before a
 // stamp.
-#[derive(Drop)]
+#[derive(Clone, Copy)]
 pub(crate) enum Goal {
     End,
     Upload(u32),

@@ -1,4 +1,6 @@
 // An upload's parts joined in listed order into an object.
+#![tactic(auto)]
+
 ghost use Rattle.std.specs.Prelude.{◌≡◌, true, [], ◌+◌, ◌-◌};
 ghost use Rattle.base_buffer.specs.Buffer.{spliced, rotated};
 ghost use Rattle.mem_layout.specs.Memory.{whole, state_of};
@@ -17,7 +19,7 @@ use mem_layout::Header;
 // Where an upload's row, its first part's row, the rows after its parts and the free bytes begin in the tables; where
 // its block and its parts' data begin in the arena, the size of both together, and what is held; how many parts it has,
 // and how many rows there are in all.
-#[derive(Drop)]
+#[derive(Clone, Copy)]
 pub struct Bounds {
     pub at: usize,
     pub first: usize,
@@ -33,7 +35,7 @@ pub struct Bounds {
 
 // What is known of an upload that was taken out: the digest of its parts' digests, the size of its pairs and their data,
 // how many parts it had; and where the rows end that are left.
-#[derive(Drop)]
+#[derive(Clone, Copy)]
 pub struct Taken {
     pub digest: Digest,
     pub size: usize,

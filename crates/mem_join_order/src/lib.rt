@@ -1,4 +1,6 @@
 // An upload's parts, brought into listed order where they stand, and the digest of their digests.
+#![tactic(auto)]
+
 mod digests;
 
 ghost use Rattle.std.specs.Prelude.{◌≡◌};
@@ -8,7 +10,7 @@ ghost use Rattle.mem_join_order.specs.Region.{ListedAt, ordered_tables, ordered_
 use base_md5::words::Digest;
 
 // The bytes of rows and of data before a part's, and the size of its data.
-#[derive(Drop)]
+#[derive(Clone, Copy)]
 pub struct Found {
     pub rows: usize,
     pub bytes: usize,

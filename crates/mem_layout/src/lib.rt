@@ -1,4 +1,6 @@
 // What tables and arena stand for: definitions, and the header.
+#![tactic(auto)]
+
 pub mod headers;
 
 // The header's length: the first row stands here.
@@ -36,14 +38,14 @@ pub const UPLOAD_KIND: u8 = 2;
 pub const PART_KIND: u8 = 3;
 
 // The upload passed last, and its part passed last; 0 for none.
-#[derive(Drop)]
+#[derive(Clone, Copy)]
 pub struct Mark {
     pub upload: u32,
     pub part: u32,
 }
 
 // The arena's length, the number that the next upload gets, and how many objects, uploads and parts there are.
-#[derive(Drop)]
+#[derive(Clone, Copy)]
 pub struct Header {
     pub arena: u32,
     pub next: u64,

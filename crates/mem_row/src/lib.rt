@@ -1,4 +1,6 @@
 // The rows of the tables: numbers, digest, path and the lengths of pairs, read and written.
+#![tactic(auto)]
+
 ghost use Rattle.std.specs.Prelude.{◌≡◌, [], ◌++◌, ◌+◌, ◌*◌, ◌≤◌, ◌<◌, length, drop};
 ghost use Rattle.base_md5.specs.Md5.{bytes_of};
 ghost use Rattle.mem_row.specs.Row.{numbers_length, head_length, span, row_bytes, head_at};
@@ -15,7 +17,7 @@ pub const HEAD_LENGTH: usize = 36;
 pub const LONGEST_ROW: usize = 180;
 
 // The numbers of a row.
-#[derive(Drop)]
+#[derive(Clone, Copy)]
 pub struct Head {
     pub size: u32,
     pub number: u32,

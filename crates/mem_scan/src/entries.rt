@@ -12,7 +12,7 @@ use mem_row::Head;
 use mem_scan_rows::{Offset, Reading, Scan};
 
 // Where a run of parts ends: the number of the next row, its offset, and the mark after the parts.
-#[derive(Drop)]
+#[derive(Clone, Copy)]
 struct Run {
     row: usize,
     end: Offset,

@@ -1,4 +1,6 @@
 // The test "whole", over any bytes.
+#![tactic(auto)]
+
 mod entries;
 
 ghost use Rattle.std.specs.Prelude.{◌≡◌, cond, ◌≤◌, length};
@@ -14,14 +16,14 @@ use mem_scan_objects::objects;
 use mem_scan_rows::{Offset, Scan};
 
 // Where the rows of uploads begin, and where all rows end.
-#[derive(Drop)]
+#[derive(Clone, Copy)]
 pub struct Offsets {
     pub uploads: Offset,
     pub end: Offset,
 }
 
 // What the test "whole" finds: that memory is not whole, or where its rows stand.
-#[derive(Drop)]
+#[derive(Clone, Copy)]
 pub enum StoreScan {
     Bad,
     Good(Offsets),

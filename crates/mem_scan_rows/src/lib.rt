@@ -1,4 +1,6 @@
 // One row, in memory that need not be whole, and where rows stand.
+#![tactic(auto)]
+
 ghost use Rattle.std.specs.Prelude.{◌≡◌, ◌&&◌, cond, List, ℕ, ◌+◌, ◌*◌, ◌≤◌, eqb, length, take, drop};
 ghost use Rattle.base_order.specs.Order.{is_below};
 ghost use Rattle.machine.specs.Names.{stored_path_ok};
@@ -8,21 +10,21 @@ ghost use Rattle.mem_scan_rows.specs.Scan.{reading_of};
 use mem_row::Head;
 
 // What stands at an offset: the head of a row that fits there with its data.
-#[derive(Drop)]
+#[derive(Clone, Copy)]
 pub enum Reading {
     Short,
     Full(Head),
 }
 
 // Where a row stands in the tables, and its data in the arena.
-#[derive(Drop)]
+#[derive(Clone, Copy)]
 pub struct Offset {
     pub at: usize,
     pub base: usize,
 }
 
 // What a scan of rows finds: that they do not stand, or where they end.
-#[derive(Drop)]
+#[derive(Clone, Copy)]
 pub enum Scan {
     Bad,
     Good(Offset),

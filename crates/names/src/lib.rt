@@ -1,4 +1,6 @@
 // The rules of paths, stamps and part numbers. What a request may name and what a store may hold is asked apart.
+#![tactic(auto)]
+
 ghost use Rattle.std.specs.Prelude.{◌≡◌, true, ◌-◌, ◌≤◌, length, take, drop};
 ghost use Rattle.machine.specs.Names.{path_ok, request_path_ok, new_path_ok, stored_path_ok, stamp_ok, request_part_ok, stored_part_ok};
 

@@ -1,4 +1,6 @@
 // Paths of visible ASCII alone.
+#![tactic(auto)]
+
 ghost use Rattle.std.specs.Prelude.{◌≡◌, cond, ◌+◌, ◌-◌, ◌≤◌, ◌<◌, ltb, eqb, length, take, drop};
 ghost use Rattle.names_ascii.specs.Faults.{fault_of, faults_beside, clean, run};
 

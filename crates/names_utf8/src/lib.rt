@@ -1,4 +1,6 @@
 // Characters of UTF-8, one after the other: the slow test, of paths that are not of visible ASCII alone.
+#![tactic(auto)]
+
 ghost use Rattle.std.specs.Prelude.{◌≡◌, true, ◌&&◌, ◌+◌, ◌≤◌, ◌<◌, leb, eqb, length};
 ghost use Rattle.machine.specs.Names.{path_ok};
 ghost use Rattle.names_utf8.specs.Letters.{width_of, least_of, most_of, Pair, Run, Letter};

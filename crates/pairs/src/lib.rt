@@ -1,4 +1,6 @@
 // The pairs of a request, one by one: where each stands, and the rules for keys and values.
+#![tactic(auto)]
+
 pub mod front;
 pub mod rules;
 

@@ -1,4 +1,6 @@
 // Whether the pairs of a request are taken, and what is kept of them.
+#![tactic(auto)]
+
 ghost use Rattle.std.specs.Prelude.{◌≡◌, true, not, ◌&&◌, [], ◌∷◌, ◌<◌, ◌≤◌, length, drop};
 ghost use Rattle.machine.specs.Pairs.{every, pair_ok, system_key, kept, has_key, distinct_keys, pairs_ok, pairs_held};
 ghost use Rattle.machine.specs.Pairs.{front_size, front_key, front_fits, front_pair, pair_list};
@@ -18,7 +20,7 @@ fn formed(pairs: &[u8]) -> bool
 }
 
 // How many pairs are kept, and how many bytes their keys and values have.
-#[derive(Drop)]
+#[derive(Clone, Copy)]
 struct Kept {
     pairs: usize,
     bytes: usize,

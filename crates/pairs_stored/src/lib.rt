@@ -1,4 +1,6 @@
 // Pairs in memory, two length bytes for each in the tables, keys and values in the arena: summed and tested.
+#![tactic(auto)]
+
 pub mod block;
 pub mod stored;
 

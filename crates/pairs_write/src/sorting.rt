@@ -6,7 +6,7 @@ ghost use Rattle.pairs_stored.specs.Stored.{pair_lengths, pair_bytes};
 ghost use Rattle.pairs_write.specs.Picking.{is_better, picked_from, IsPick, Better, Next};
 
 // The pair that is picked, if one is: where it begins.
-#[derive(Drop)]
+#[derive(Clone, Copy)]
 pub struct Pick {
     pub found: bool,
     pub at: usize,

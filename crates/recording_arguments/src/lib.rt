@@ -1,4 +1,6 @@
 // The arguments of each verb, read from a place of a line on.
+#![tactic(auto)]
+
 ghost use Rattle.std.specs.Prelude.{◌≡◌, ◌*◌, ◌≤◌, length, drop};
 ghost use Rattle.recording.specs.Read.{both, map_read};
 ghost use Rattle.recording.specs.Parse.{number, numbers, string, pairs as pair_list};
@@ -8,7 +10,7 @@ ghost use Rattle.recording_arguments.specs.Meant.{copy_meant, CopyFits, map_last
 use recording_read::{NumberRead, StringRead};
 
 // COPY's stamp, how long its two paths are, and the place after them.
-#[derive(Drop)]
+#[derive(Clone, Copy)]
 pub enum CopyRead {
     Got {
         stamp: u64,
@@ -48,7 +50,7 @@ pub fn read_copy(s: &[u8], at: usize, source: &mut [u8], destination: &mut [u8])
 }
 
 // PUT's stamp, how long its path, data and pairs are, and the place after them.
-#[derive(Drop)]
+#[derive(Clone, Copy)]
 pub enum PutRead {
     Got {
         stamp: u64,
@@ -95,7 +97,7 @@ pub fn read_put(
 }
 
 // COMMIT's upload number, how long its list is, and the place after it.
-#[derive(Drop)]
+#[derive(Clone, Copy)]
 pub enum CommitRead {
     Got {
         upload: u64,
@@ -129,7 +131,7 @@ pub fn read_commit(s: &[u8], at: usize, list: &mut [u8]) -> CommitRead
 }
 
 // How long LIST's prefix and suffix are, and the place after them.
-#[derive(Drop)]
+#[derive(Clone, Copy)]
 pub enum ListRead {
     Got {
         prefix: usize,
@@ -159,7 +161,7 @@ pub fn read_list(s: &[u8], at: usize, prefix: &mut [u8], suffix: &mut [u8]) -> L
 }
 
 // INITIATE's stamp, how long its path and pairs are, and the place after them.
-#[derive(Drop)]
+#[derive(Clone, Copy)]
 pub enum InitiateRead {
     Got {
         stamp: u64,
@@ -199,7 +201,7 @@ pub fn read_initiate(s: &[u8], at: usize, path: &mut [u8], pairs: &mut [u8]) -> 
 }
 
 // PART's upload number and part number, how long its data is, and the place after it.
-#[derive(Drop)]
+#[derive(Clone, Copy)]
 pub enum PartRead {
     Got {
         upload: u64,

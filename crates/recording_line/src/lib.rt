@@ -1,4 +1,6 @@
 // What the functions of all verbs share: the refusal of a line.
+#![tactic(auto)]
+
 ghost use Rattle.std.specs.Prelude.{◌≡◌};
 ghost use Rattle.call_contract.specs.Made.{memory};
 ghost use Rattle.recording_line.specs.Replayed.{refusal_over};

@@ -1,4 +1,6 @@
 // The lists of a recorded line: part numbers and pairs, in the bytes in which the store takes them.
+#![tactic(auto)]
+
 mod pairs;
 mod part_numbers;
 

@@ -1,4 +1,6 @@
 // Lines that say GET, HEAD, LIST and UPLOADS.
+#![tactic(auto)]
+
 ghost use Rattle.std.specs.Prelude.{◌≤◌, [], length, drop};
 ghost use Rattle.machine.specs.Names.{Bytes};
 ghost use Rattle.machine.specs.Calls.{buffers};

@@ -1,4 +1,6 @@
 // Lines that say PUT, DELETE and COPY.
+#![tactic(auto)]
+
 ghost use Rattle.std.specs.Prelude.{◌≤◌, length, drop};
 ghost use Rattle.call_contract.specs.Answers.{done_reply};
 ghost use Rattle.call_contract.specs.Made.{memory};

@@ -1,4 +1,6 @@
 // The fields of a recorded line, read from a place on.
+#![tactic(auto)]
+
 mod numbers;
 mod strings;
 mod verbs;

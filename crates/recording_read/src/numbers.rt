@@ -5,7 +5,7 @@ ghost use Rattle.recording.specs.Parse.{number};
 ghost use Rattle.recording_read.specs.Meant.{number_meant};
 
 // A number and the place after it.
-#[derive(Drop)]
+#[derive(Clone, Copy)]
 pub enum NumberRead {
     Got { value: u64, next: usize },
     No,

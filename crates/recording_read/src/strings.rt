@@ -5,7 +5,7 @@ ghost use Rattle.recording.specs.Parse.{string};
 ghost use Rattle.recording_read.specs.Meant.{string_meant, string_length, room_after};
 
 // How many bytes were decoded, and the place after the closing quote.
-#[derive(Drop)]
+#[derive(Clone, Copy)]
 pub enum StringRead {
     Got { len: usize, next: usize },
     No,

@@ -1,4 +1,6 @@
 // A recorded line replayed: the call that it says, with both answer buffers and the reply lent.
+#![tactic(auto)]
+
 ghost use Rattle.std.specs.Prelude.{◌≡◌, true, ◌≤◌, length};
 ghost use Rattle.machine.specs.Names.{Bytes};
 ghost use Rattle.machine.specs.Calls.{buffers};

@@ -1,4 +1,6 @@
 // An input replayed as it comes, piece by piece, in bounded memory.
+#![tactic(auto)]
+
 ghost use Rattle.std.specs.Prelude.{◌≡◌, ◌++◌, ◌∷◌, [], ℕ, ◌+◌, ◌*◌, ◌≤◌, ◌<◌, length, take};
 ghost use Rattle.machine.specs.Names.{Bytes};
 ghost use Rattle.machine.specs.State.{State};
@@ -41,7 +43,7 @@ fn print_result(out: &mut [u8], k: usize, res: u32)
 }
 
 // How much of a line is held after a piece, and how many bytes of results were written.
-#[derive(Drop)]
+#[derive(Clone, Copy)]
 pub struct Fed {
     pub held: usize,
     pub written: usize,

@@ -1,11 +1,13 @@
 // An input cut into its lines, as it comes, piece by piece.
+#![tactic(auto)]
+
 ghost use Rattle.std.specs.Prelude.{◌+◌, ◌≤◌, [], ◌∷◌, ◌++◌, length};
 ghost use Rattle.machine.specs.Names.{Bytes};
 ghost use Rattle.recording_split.specs.Held.{Holds, Stepped, Within};
 
 // A line is finished, and the bytes after it begin at `next`; or the bytes have ended. `held` counts the bytes that the
 // buffer holds of the line, and is one more than the buffer has where the line is longer.
-#[derive(Drop)]
+#[derive(Clone, Copy)]
 pub enum LineStep {
     Line { held: usize, next: usize },
     More { held: usize },

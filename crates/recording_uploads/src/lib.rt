@@ -1,4 +1,6 @@
 // Lines that say INITIATE, PART, COMMIT and ABORT. A number over 32 bits is no upload's, and one over 16 bits no part's.
+#![tactic(auto)]
+
 ghost use Rattle.std.specs.Prelude.{◌≤◌, length, drop};
 ghost use Rattle.call_contract.specs.Answers.{done_reply, initiate_reply, part_reply};
 ghost use Rattle.call_contract.specs.Made.{memory};

@@ -1,5 +1,7 @@
 // Replays the recording on standard input over a fresh store, with an arena and answer buffers of 65,536 bytes each, and prints the result
 // number of each line on a line, as it goes. It holds a piece of the input and the front of one line: a line of any length is one 9.
+#![tactic(auto)]
+
 ghost use Rattle.std.specs.Prelude.{◌≡◌, ◌*◌, ◌≤◌, length};
 
 use libc::{STDIN_FILENO, STDOUT_FILENO};

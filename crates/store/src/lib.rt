@@ -1,6 +1,8 @@
 // The store's calls: FRESH, document 01's eleven, and document 02's DELETE_OBJECTS, which also takes its places as bytes,
 // SWEEP and CARRY_OVER. Each promises `Made` (crate `call_contract`), FRESH `MadeFresh`, CARRY_OVER `Carried` (crate
 // `call_carry_over`), and none has a precondition.
+#![tactic(auto)]
+
 pub use call_abort::abort;
 pub use call_carry_over::carry_over;
 pub use call_commit::commit;

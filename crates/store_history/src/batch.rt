@@ -9,7 +9,7 @@ use call_types::{
 };
 
 // What the calls answered.
-#[derive(Drop)]
+#[derive(Clone, Copy)]
 pub struct Batch {
     pub opened: InitiateAnswer,
     pub first: PartAnswer,
@@ -62,7 +62,7 @@ fn weigh(
 }
 
 // What came of a batch: FRESH's refusal, or the answers.
-#[derive(Drop)]
+#[derive(Clone, Copy)]
 pub enum BatchAnswer {
     Refused(u8),
     Ran(Batch),

@@ -9,6 +9,8 @@
 // A list's entries are separated by commas, and `+` there is an odd byte; a place is start:length, and `*n` is n places 0:0; a pair is
 // key=value. Pairs may be left out, and so may `second`, the length of the second answer buffer. An arena has
 // at most 4,096 bytes, a buffer at most 1,024; it starts as dots. A line that begins with another word is a comment.
+#![tactic(auto)]
+
 mod dispatch;
 
 ghost use Rattle.std.specs.Prelude.{◌≤◌, ◌≡◌, length};

@@ -1,5 +1,7 @@
 // The digests of RFC 1321's published vectors (A.5), and of data with lengths around the edges of a block. The file stdout was made by another
 // MD5, with tools/vectors.py.
+#![tactic(auto)]
+
 ghost use Rattle.std.specs.Prelude.{◌≡◌, length};
 
 use base_md5::words::Digest;

@@ -1,0 +1,16 @@
+-- `base_md5::block::auxiliary` meets its contract: each arm sums to its round's function (`Choice`). Assumes nothing.
+use Rattle.std.proofs.Common.{◌∙◌, zero-add, rules}
+use Rattle.base_md5.proofs.Choice.{first, second}
+use Rattle.base_md5.proofs.block.auxiliary.Goals as goal
+
+pub returns-in-First : goal.returns-in-First
+returns-in-First c = rw c.enum_told-1.given.1 (zero-add _ ∙ first c.args.x c.args.y c.args.z (search rules) (search rules))
+
+pub returns-in-Second : goal.returns-in-Second
+returns-in-Second c = rw c.enum_told-in-Second-1.given.1 (second c.args.x c.args.y c.args.z (search rules))
+
+pub returns-in-Third : goal.returns-in-Third
+returns-in-Third c = rw c.enum_told-in-Third-1.given.1 (zero-add _)
+
+pub returns-in-Fourth : goal.returns-in-Fourth
+returns-in-Fourth c = rw c.enum_told-in-Fourth-1.given.1 (zero-add _)

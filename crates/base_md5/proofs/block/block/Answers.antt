@@ -1,0 +1,11 @@
+-- `base_md5::block::block` meets its contract: the rounds on its words, then the words at its start added. Assumes nothing.
+use Rattle.base_md5.specs.Md5.{compress}
+use Rattle.base_md5.proofs.Steps.{summed}
+use Rattle.std.proofs.Common.{rules}
+use Rattle.base_md5.proofs.block.block.Goals as goal
+
+pub returns : goal.returns
+unfolding compress
+returns c =
+    summed c.args.v _ (c.rounds-w.ensures c.args.m.now c.words.ensures) c.wrapping_add_u32-a.ensures
+    c.wrapping_add_u32-b.ensures c.wrapping_add_u32-c.ensures c.wrapping_add_u32-d.ensures

@@ -1,0 +1,7 @@
+-- `base_number::get_u64` meets its contract: a number is read by its halves. Assumes nothing.
+use Rattle.base_number.proofs.Halves.{get-halves}
+use borrow.Author.Rules.{rules}
+use Rattle.base_number.proofs.get_u64.Goals as goal
+
+pub returns : goal.returns
+returns c = get-halves c.args.b.now c.args.at 4 c.get_u32.result c.get_u32-2.result c.requires c.get_u32.ensures c.get_u32-2.ensures

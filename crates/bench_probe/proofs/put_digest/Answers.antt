@@ -1,0 +1,15 @@
+-- `bench_probe::put_digest` meets its contract: sixteen bytes over sixteen. Assumes nothing.
+use mathlib.Core.Path.{refl, ◌∙◌}
+use borrow.Author.Tests.{eq-eqb, ne_eqb}
+use Rattle.base_md5.specs.Md5.{bytes_of}
+use Rattle.bench_probe.proofs.Tests.{whole}
+use borrow.Author.Rules.{rules}
+use Rattle.bench_probe.proofs.put_digest.Goals as goal
+
+pub returns-then-out-ne16 : goal.returns-then-out-ne16
+returns-then-out-ne16 c = (simp (ne_eqb _ _ c.if-out-ne16.true), refl)
+
+pub returns : goal.returns
+returns c =
+    let sixteen = c.if-out-ne16.false in
+    (simp (eq-eqb _ _ sixteen), c.put.ensures ∙ whole c.args.out.now (bytes_of c.args.v) 16 sixteen)

@@ -1,0 +1,9 @@
+-- `c_reply::opened` meets its contract: a refusal, or the reply of the answer. Assumes nothing.
+use mathlib.Core.Path.{refl}
+use Rattle.c_reply.specs.Reply.{reply_bytes}
+use borrow.Author.Rules.{rules}
+use Rattle.c_reply.proofs.opened.Goals as goal
+
+pub returns-in-Opened : goal.returns-in-Opened
+unfolding reply_bytes
+returns-in-Opened c = rw c.a-in-Opened-1.given.1 (refl, c.write.ensures)

@@ -1,0 +1,37 @@
+-- `call_get::head_whole` meets its contract: the reply by what the path names. Assumes nothing.
+use Prim.Native.Nat.{ℕ}
+use mathlib.Core.List.{List}
+use borrow.Author.Rules.{rules}
+use Rattle.base_number.specs.Number.{AreBytes}
+use Rattle.call_get.proofs.Replies.{head-refused, head-root, holds, head-found}
+use Rattle.call_get.proofs.head_whole.Goals as goal
+
+pub head_object-requires : goal.head_object-requires
+head_object-requires c =
+    let t : List ℕ = c.args.tables.now in
+    let a : List ℕ = c.args.arena.now in
+    let p : List ℕ = c.args.path.now in
+    let bytes : AreBytes t = λ j. (c.shared_slice_known-1.given j).fits in
+    holds (t) (a) (p) c.look_up-named.result c.look_up-named.ensures (bytes) c.requires _ _ c.named-in-Object-1.given.1
+
+pub returns-in-Refused : goal.returns-in-Refused
+returns-in-Refused c =
+    let t : List ℕ = c.args.tables.now in
+    let a : List ℕ = c.args.arena.now in
+    let p : List ℕ = c.args.path.now in
+    head-refused (t) (a) (p) c.look_up-named.result c.look_up-named.ensures c.args.pairs.now _ c.named-1.given.1
+
+pub returns-in-Root : goal.returns-in-Root
+returns-in-Root c =
+    let t : List ℕ = c.args.tables.now in
+    let a : List ℕ = c.args.arena.now in
+    let p : List ℕ = c.args.path.now in
+    head-root (t) (a) (p) c.look_up-named.result c.look_up-named.ensures c.root.result c.root.ensures c.enum_told-1.given.1 c.args.pairs.now
+
+pub returns-in-Object : goal.returns-in-Object
+returns-in-Object c =
+    let t : List ℕ = c.args.tables.now in
+    let a : List ℕ = c.args.arena.now in
+    let p : List ℕ = c.args.path.now in
+    let bytes : AreBytes t = λ j. (c.shared_slice_known-1.given j).fits in
+    head-found (t) (a) (p) c.look_up-named.result c.look_up-named.ensures (bytes) c.requires _ _ c.named-in-Object-1.given.1 c.args.pairs.now _ c.head_object.ensures

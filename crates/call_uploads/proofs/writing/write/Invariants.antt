@@ -1,0 +1,12 @@
+-- `call_uploads::writing::write` meets its contract. The invariant: the records of the first i notes stand at the front. Assumes nothing.
+use Prim.Native.Nat.{ℕ, ◌-◌, ◌≤◌}
+use mathlib.Core.List.{List}
+use Rattle.call_uploads.proofs.Written.{Written, written_none, row-stands, written-fits, written_next, written_all}
+use native.Mathlib.Omega.{arith}
+use Rattle.call_uploads.proofs.writing.write.Given as goal
+
+abbrev pub invariant-loop-i : goal.invariant-loop-i
+invariant-loop-i l = Written l.tables l.notes l.initial.answer l.answer l.i l.to × (l.i ≤ l.records)
+
+abbrev pub decreases-loop-i : goal.decreases-loop-i
+decreases-loop-i l = l.records - l.i

@@ -1,0 +1,18 @@
+-- `mem_find_uploads::uploads::find_part_from` meets its contract: the search among the parts of an open upload. Assumes nothing.
+use mathlib.Core.Path.{◌∙◌}
+use borrow.Author.Rules.{rules}
+use Rattle.machine.specs.State.{State}
+use Rattle.mem_layout.specs.Memory.{state_of, rows_of}
+use Rattle.mem_find_uploads.proofs.Answers.{sought-row-place, found_part}
+use Rattle.mem_find_uploads.proofs.uploads.find_part_from.Goals as goal
+
+pub stands-found-requires : goal.stands-found-requires
+stands-found-requires c =
+    let s : State = state_of c.args.tables.now c.args.arena.now in
+    (c.requires.0, sought-row-place _ (rows_of (s)) c.seek-here.result c.args.first.row c.seek-here.ensures c.requires.1.1)
+
+pub returns : goal.returns
+returns c u x e f =
+    let s : State = state_of c.args.tables.now c.args.arena.now in
+    let d = c.stands-found in
+    c.lookup_at.ensures ∙ found_part (s) u x f c.args.first e c.args.number c.seek-here.result d.result c.seek-here.ensures d.ensures

@@ -1,0 +1,16 @@
+-- `mem_join_order::digests::gather` meets its contract. The invariant: the digests of the rows passed stand at the front. Assumes nothing.
+use Prim.Native.Nat.{◌+◌, ◌-◌, ◌*◌, ◌≤◌}
+use mathlib.Core.Path.{◌≡◌, refl, ◌∙◌}
+use native.Mathlib.Nat.{add-sub_cancel_left}
+use lib.ListN.{length, take, drop}
+use Rattle.mem_join_order.specs.Digests.{OrderedAt}
+use Rattle.mem_join_order.proofs.Gathering.{Gathered, gathered_none, gathered-all, row_inside, gathered_next}
+use native.Mathlib.Omega.{arith}
+use Rattle.mem_row.specs.Row.{numbers_length, head_length}
+use Rattle.mem_join_order.proofs.digests.gather.Given as goal
+
+abbrev pub invariant-loop-i : goal.invariant-loop-i
+invariant-loop-i l = (length l.all ≡ length l.initial.all) × ((k : OrderedAt l.tables l.at l.count) → Gathered l.tables l.at l.count k l.all l.i)
+
+abbrev pub decreases-loop-i : goal.decreases-loop-i
+decreases-loop-i l = l.count - l.i

@@ -1,0 +1,31 @@
+-- `mem_scan::entries::pass_parts` meets its contract. The invariant: the scan of all rows is the scan of those not yet passed. Assumes nothing.
+use Prim.Native.Nat.{ℕ, ◌+◌, ◌-◌, ◌≤◌}
+use mathlib.Core.Path.{◌≡◌, refl, ◌∙◌}
+use mathlib.Core.Bool.{true}
+use mathlib.Core.List.{List}
+use native.Mathlib.Omega.{arith}
+use lib.ListN.{length, drop}
+use Rattle.mem_row.specs.declared.Head.{Head}
+use Rattle.mem_row.specs.Row.{head_length}
+use Rattle.mem_layout.specs.Rules.{part_rule}
+use Rattle.mem_scan_rows.specs.declared.Offset.{Offset}
+use Rattle.mem_scan_rows.specs.declared.Reading.TheVariants.{Full}
+use Rattle.mem_scan_rows.specs.Scan.{reading_of}
+use Rattle.mem_scan.specs.Scan.{entry_scan}
+use Rattle.mem_scan_rows.proofs.Turns.{row_in, data-in}
+use Rattle.mem_scan.proofs.EntryTurns.{part-next}
+use borrow.Author.Rules.{rules}
+use Rattle.mem_scan.proofs.entries.pass_parts.Given as goal
+
+abbrev pub invariant-loop-i : goal.invariant-loop-i
+invariant-loop-i l =
+    ((most next uploads opened : ℕ)
+    → entry_scan most next uploads opened (l.rows - l.first) l.initial.after (record { l.at = l.initial.at; l.base = l.initial.base }) l.t l.arena
+    ≡ entry_scan most next uploads opened (l.rows - l.i) l.after (record { l.at = l.at; l.base = l.base }) l.t l.arena)
+    × (l.at ≤ length l.t)
+    × (l.base ≤ length l.arena)
+    × (l.first ≤ l.i)
+    × (l.i ≤ l.rows)
+
+abbrev pub decreases-loop-i : goal.decreases-loop-i
+decreases-loop-i l = l.rows - l.i

@@ -1,0 +1,20 @@
+-- `mem_scan::entries::read_part` meets its contract: a part's row is its head alone, so it fits where that does. Assumes nothing.
+use native.Mathlib.Omega.{arith}
+use Rattle.machine.proofs.Tests.{said-yes}
+use Rattle.mem_scan.proofs.Readings.{part-fits}
+use borrow.Author.Rules.{rules}
+use Rattle.mem_scan.proofs.entries.read_part.Goals as goal
+
+pub returns-then-t-at-lt-HEAD_LENGTH : goal.returns-then-t-at-lt-HEAD_LENGTH
+returns-then-t-at-lt-HEAD_LENGTH c = λ h e. (cc, cc)
+
+pub returns-then-not-part_ok : goal.returns-then-not-part_ok
+returns-then-not-part_ok c = λ h e. (cc, cc)
+
+pub returns-then-arena-base : goal.returns-then-arena-base
+returns-then-arena-base c = λ h e. (cc, cc)
+
+pub returns : goal.returns
+returns c =
+    let a = c.args in
+    part-fits a.m _ (said-yes c.part_ok.ensures c.if-not-part_ok.false) a.t.now a.at a.arena.now a.base c.read_head-h.ensures (omega arith) (omega arith)

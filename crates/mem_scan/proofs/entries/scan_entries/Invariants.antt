@@ -1,0 +1,29 @@
+-- `mem_scan::entries::scan_entries` meets its contract. The invariant: the scan of all rows is the scan of those not yet passed. Assumes nothing.
+use Prim.Native.Nat.{ℕ, ◌+◌, ◌-◌, ◌≤◌, ◌<◌}
+use mathlib.Core.Path.{◌≡◌, sym, ◌∙◌}
+use mathlib.Core.List.{List}
+use native.Mathlib.Nat.{sub-zero}
+use borrow.Author.Rules.{rules}
+use lib.ListN.{length, drop}
+use Rattle.mem_row.specs.declared.Head.{Head}
+use Rattle.mem_row.specs.Row.{span}
+use Rattle.mem_scan_rows.specs.declared.Offset.{Offset}
+use Rattle.mem_scan_rows.specs.declared.Reading.TheVariants.{Full}
+use Rattle.mem_scan_rows.specs.Scan.{reading_of}
+use Rattle.mem_scan.specs.Scan.{entry_scan}
+use Rattle.mem_scan_rows.proofs.Turns.{row_in, data-in, digest-length}
+use Rattle.mem_scan.proofs.EntryTurns.{opens_small, entries-counted, entries-miscounted, entries-short, entries-wrong, entries_next}
+use native.Mathlib.Omega.{arith}
+use Rattle.mem_scan.proofs.entries.scan_entries.Given as goal
+
+abbrev pub invariant-loop-i : goal.invariant-loop-i
+invariant-loop-i l =
+    (entry_scan l.most l.next l.uploads l.initial.opened l.rows l.initial.m (record { l.at = l.initial.at; l.base = l.initial.base }) l.t l.arena
+    ≡ entry_scan l.most l.next l.uploads l.opened (l.rows - l.i) l.m (record { l.at = l.at; l.base = l.base }) l.t l.arena)
+    × (l.at ≤ length l.t)
+    × (l.base ≤ length l.arena)
+    × (l.i ≤ l.rows)
+    × (l.opened ≤ l.i)
+
+abbrev pub decreases-loop-i : goal.decreases-loop-i
+decreases-loop-i l = l.rows - l.i

@@ -1,0 +1,32 @@
+-- `mem_scan::scan_store` meets its contract: memory is whole where both scans are good, and its rows stand where they say. Assumes nothing.
+use mathlib.Core.Path.{◌≡◌}
+use mathlib.Core.Bool.{false}
+use native.Mathlib.Omega.{arith}
+use Rattle.mem_layout.specs.Memory.{tables_length, whole}
+use Rattle.machine.specs.Pairs.{pairs_most}
+use Rattle.mem_scan.proofs.Ends.{front-bad, front-inside, uploads-bad, uploads-good}
+use borrow.Author.Rules.{rules}
+use Rattle.mem_scan.proofs.scan_store.Goals as goal
+
+pub returns-in_default : goal.returns-in_default
+returns-in_default c =
+    let a = c.args in
+    let no : whole a.tables.now a.arena.now ≡ false = front-bad tables_length pairs_most a.tables.now a.arena.now _ c.scan_front.ensures c.enum_told-1.given.1 in
+    rw no
+
+pub scan_uploads-requires : goal.scan_uploads-requires
+scan_uploads-requires c =
+    let a = c.args in
+    front-inside tables_length pairs_most a.tables.now a.arena.now _ c.scan_front.ensures _ c.uploads-1.given.1 (omega arith)
+
+pub returns-in_default-scan_uploads : goal.returns-in_default-scan_uploads
+returns-in_default-scan_uploads c =
+    let a = c.args in
+    let no : whole a.tables.now a.arena.now ≡ false = uploads-bad tables_length pairs_most a.tables.now a.arena.now _ c.scan_front.ensures _ c.uploads-1.given.1 _ c.scan_uploads.ensures c.enum_told-in_default-scan_uploads-1.given.1 in
+    rw no
+
+pub returns : goal.returns
+returns c =
+    let a = c.args in
+    let w = uploads-good tables_length pairs_most a.tables.now a.arena.now _ c.scan_front.ensures _ c.uploads-1.given.1 _ c.scan_uploads.ensures _ c.end-1.given.1 in
+    rw (w.0, w.1)

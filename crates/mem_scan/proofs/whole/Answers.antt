@@ -1,0 +1,11 @@
+-- `mem_scan::whole` meets its contract: a scan is good where memory is whole. Assumes nothing.
+use mathlib.Core.Path.{sym}
+use Rattle.mem_scan.proofs.Ends.{found-bad, found-good}
+use borrow.Author.Rules.{rules}
+use Rattle.mem_scan.proofs.whole.Goals as goal
+
+pub returns-in-Bad : goal.returns-in-Bad
+returns-in-Bad c = sym (found-bad _ c.scan_store.ensures c.enum_told-1.given.1)
+
+pub returns-in-Good : goal.returns-in-Good
+returns-in-Good c = sym (found-good c.scan_store.ensures c.enum_told-in-Good-1.given.1).0

@@ -1,0 +1,37 @@
+-- `names::stored_path_ok_at` meets its contract: its length, then visible ASCII, then letters. Assumes nothing.
+use Prim.Native.Nat.{◌-◌}
+use mathlib.Core.Path.{◌≡◌, sym, ◌∙◌}
+use native.Mathlib.Omega.{arith}
+use lib.ListN.{length, take, drop}
+use Rattle.machine.specs.Names.{stored_path_ok}
+use Rattle.names.proofs.PathLaws.{plain_ok, length-between, too_short, too_long}
+use borrow.Author.Rules.{rules}
+use Rattle.names.proofs.stored_path_ok_at.Goals as goal
+
+pub returns-then-length-lt1 : goal.returns-then-length-lt1
+unfolding stored_path_ok
+returns-then-length-lt1 c =
+    let a = c.args in
+    let p = take (a.to - a.from) (drop a.from a.t.now) in
+    let n : length p ≡ a.to - a.from = length-between a.t.now a.from a.to (omega arith) (omega arith) in
+    sym (too_short p (omega arith))
+
+pub returns-then-length-gt128 : goal.returns-then-length-gt128
+unfolding stored_path_ok
+returns-then-length-gt128 c =
+    let a = c.args in
+    let p = take (a.to - a.from) (drop a.from a.t.now) in
+    let n : length p ≡ a.to - a.from = length-between a.t.now a.from a.to (omega arith) (omega arith) in
+    sym (too_long p (omega arith))
+
+pub returns-then-plain_at : goal.returns-then-plain_at
+unfolding stored_path_ok
+returns-then-plain_at c =
+    let a = c.args in
+    let p = take (a.to - a.from) (drop a.from a.t.now) in
+    let n : length p ≡ a.to - a.from = length-between a.t.now a.from a.to (omega arith) (omega arith) in
+    sym (plain_ok p (omega arith) (omega arith) (sym c.plain_at.ensures ∙ c.if-plain_at.true))
+
+pub returns : goal.returns
+unfolding stored_path_ok
+returns c = c.path.ensures

@@ -1,0 +1,46 @@
+-- `names_utf8::path` meets its contract. The invariant: what is left, after `before`, is well formed and parted just where all is.
+-- Assumes nothing.
+use Prim.Native.Nat.{◌-◌, ◌≤◌}
+use mathlib.Core.Path.{◌≡◌, refl, sym, ◌∙◌}
+use mathlib.Core.Bool.{◌&&◌}
+use mathlib.Core.List.{[]}
+use native.Mathlib.Omega.{arith}
+use lib.ListN.{length, drop}
+use Rattle.machine.specs.Names.{characters, apart}
+use Rattle.names_utf8.proofs.PathLaws.{by_parts, letter-none, letter-doubled, letter-passed, letters-end}
+use Rattle.names_utf8.proofs.path.Goals as goal
+
+pub loop-i-init : goal.loop-i-init
+loop-i-init c = (refl, omega arith)
+
+pub returns-then-w-eq0 : goal.returns-then-w-eq0
+returns-then-w-eq0 c =
+    let p = c.args.p.now in
+    sym (by_parts p (omega arith) (omega arith) ∙ c.loop-i.invariant.0 ∙ letter-none p c.loop-i.i c.loop-i c.letter-w.result c.letter-w.ensures c.if-w-eq0.true)
+
+pub returns-then-doubled : goal.returns-then-doubled
+returns-then-doubled c =
+    let p = c.args.p.now in
+    let w = c.letter-w in
+    sym (by_parts p (omega arith) (omega arith)
+    ∙ c.loop-i.invariant.0
+    ∙ letter-doubled p c.loop-i.i c.loop-i w.result w.ensures (omega arith) (sym c.doubled.ensures ∙ c.if-doubled.true))
+
+pub overflow_add-i : goal.overflow_add-i
+overflow_add-i c = let w = c.letter-w in omega (arith, w.ensures.inside)
+
+pub loop-i-smaller : goal.loop-i-smaller
+loop-i-smaller c = let w = c.letter-w in omega (arith, w.ensures.inside)
+
+pub loop-i-preserved : goal.loop-i-preserved
+loop-i-preserved c =
+    let p = c.args.p.now in
+    let w = c.letter-w in (
+      c.loop-i.invariant.0 ∙ letter-passed p c.loop-i.i c.loop-i w.result w.ensures (omega arith) (sym c.doubled.ensures ∙ c.if-doubled.false),
+      w.ensures.inside,
+    )
+
+pub returns : goal.returns
+returns c =
+    let p = c.args.p.now in
+    sym (by_parts p (omega arith) (omega arith) ∙ c.loop-i.invariant.0 ∙ letters-end p c.loop-i.i c.loop-i c.loop-i-test.false)

@@ -1,0 +1,40 @@
+-- `recording_arguments::read_commit` meets its contract. Assumes nothing.
+use borrow.Author.Rules.{rules}
+use Rattle.recording_arguments.proofs.Fields.{no-head, no-tail, two-read}
+use Rattle.recording_read.specs.Meant.{number_meant, string_meant, string_length}
+use Rattle.recording_lists.specs.Packed.{packed}
+use Rattle.recording.specs.Parse.{number, numbers}
+use lib.ListN.{take, drop}
+use mathlib.Core.Path.{sym, ap, ◌∙◌}
+use native.Mathlib.Omega.{arith}
+use Rattle.recording_arguments.proofs.read_commit.Goals as goal
+
+pub returns-in_default : goal.returns-in_default
+returns-in_default c =
+    let a = c.args in
+    let s = a.s.now in
+    let n = c.number_field in
+    (no-head number numbers packed (drop a.at s) (ap (number_meant s) (sym c.enum_told-1.given.1) ∙ n.ensures), omega arith)
+
+pub returns-in_default-numbers_field : goal.returns-in_default-numbers_field
+returns-in_default-numbers_field c =
+    let a = c.args in
+    let s = a.s.now in
+    let n = c.number_field in
+    let g = c.upload-1.given in
+    let e = ap (number_meant s) (sym g.1) ∙ n.ensures in
+    let w = c.numbers_field in
+    (no-tail number numbers packed (drop a.at s) g.0.0 (drop g.0.1.0 s) e (ap (string_meant s w.new.out) (sym c.enum_told-in_default-numbers_field-1.given.1) ∙ w.ensures.0), omega arith)
+
+pub returns : goal.returns
+returns c =
+    let a = c.args in
+    let s = a.s.now in
+    let n = c.number_field in
+    let g = c.upload-1.given in
+    let e = ap (number_meant s) (sym g.1) ∙ n.ensures in
+    let w = c.numbers_field in
+    let k = c.len-1.given in (
+      two-read number numbers packed (drop a.at s) g.0.0 (drop g.0.1.0 s) e (take k.0.0 w.new.out) (drop k.0.1.0 s) (ap (string_meant s w.new.out) (sym k.1) ∙ w.ensures.0),
+      omega (arith, ap string_length (sym k.1), w.ensures.1),
+    )

@@ -1,0 +1,60 @@
+-- `recording_arguments::read_copy` meets its contract. Assumes nothing.
+use borrow.Author.Rules.{rules}
+use mathlib.Core.Path.{sym, ap, ◌∙◌}
+use native.Mathlib.Omega.{arith}
+use lib.ListN.{take, drop}
+use Rattle.recording.specs.Read.{both}
+use Rattle.recording.specs.Parse.{number, string}
+use Rattle.recording_read.specs.Meant.{number_meant, string_meant, string_length}
+use Rattle.recording_read.proofs.Places.{no-first, no_second, both_read}
+use Rattle.recording_arguments.proofs.read_copy.Goals as goal
+
+pub returns-in_default : goal.returns-in_default
+returns-in_default c =
+    let a = c.args in
+    let s = a.s.now in
+    (no-first number (both string string) (drop a.at s) (ap (number_meant s) (sym c.enum_told-1.given.1) ∙ c.number_field.ensures), tt)
+
+pub returns-in_default-string_field : goal.returns-in_default-string_field
+returns-in_default-string_field c =
+    let a = c.args in
+    let s = a.s.now in
+    let g = c.stamp-1.given in
+    let e = ap (number_meant s) (sym g.1) ∙ c.number_field.ensures in
+    let w = c.string_field in (
+      no_second number (both string string) (drop a.at s) g.0.0 (drop g.0.1.0 s) e
+          (no-first string string (drop g.0.1.0 s) (ap (string_meant s w.new.out) (sym c.enum_told-in_default-string_field-1.given.1) ∙ w.ensures.0)),
+      tt,
+    )
+
+pub returns-in_default-string_field-2 : goal.returns-in_default-string_field-2
+returns-in_default-string_field-2 c =
+    let a = c.args in
+    let s = a.s.now in
+    let g = c.stamp-1.given in
+    let e = ap (number_meant s) (sym g.1) ∙ c.number_field.ensures in
+    let w = c.string_field in
+    let h = c.n-1.given in
+    let f = ap (string_meant s w.new.out) (sym h.1) ∙ w.ensures.0 in
+    let v = c.string_field-2 in (
+      no_second number (both string string) (drop a.at s) g.0.0 (drop g.0.1.0 s) e
+          (no_second string string (drop g.0.1.0 s) (take h.0.0 w.new.out) (drop h.0.1.0 s) f (ap (string_meant s v.new.out) (sym c.enum_told-in_default-string_field-2-1.given.1) ∙ v.ensures.0)),
+      tt,
+    )
+
+pub returns : goal.returns
+returns c =
+    let a = c.args in
+    let s = a.s.now in
+    let g = c.stamp-1.given in
+    let e = ap (number_meant s) (sym g.1) ∙ c.number_field.ensures in
+    let w = c.string_field in
+    let h = c.n-1.given in
+    let f = ap (string_meant s w.new.out) (sym h.1) ∙ w.ensures.0 in
+    let v = c.string_field-2 in
+    let k = c.m-1.given in
+    let q = ap (string_meant s v.new.out) (sym k.1) ∙ v.ensures.0 in (
+      both_read number (both string string) (drop a.at s) g.0.0 (drop g.0.1.0 s) e ((take h.0.0 w.new.out), take k.0.0 v.new.out) (drop k.0.1.0 s)
+          (both_read string string (drop g.0.1.0 s) (take h.0.0 w.new.out) (drop h.0.1.0 s) f (take k.0.0 v.new.out) (drop k.0.1.0 s) q),
+      (omega (arith, ap string_length (sym h.1), w.ensures.1), omega (arith, ap string_length (sym k.1), v.ensures.1)),
+    )

@@ -1,0 +1,70 @@
+-- `recording_arguments::read_initiate` meets its contract. Assumes nothing.
+use native.Mathlib.Omega.{arith}
+use mathlib.Core.Path.{sym, ap, ◌∙◌}
+use lib.ListN.{take, drop}
+use Rattle.recording.specs.Read.{both}
+use Rattle.recording.specs.Parse.{number, string, pairs}
+use Rattle.recording_read.specs.Meant.{number_meant, string_meant, string_length}
+use Rattle.recording_lists.specs.Packed.{packed_pairs}
+use Rattle.recording_arguments.specs.Meant.{map_second}
+use Rattle.recording_arguments.proofs.Fields.{no-head, no-tail, two-read}
+use borrow.Author.Rules.{rules}
+use Rattle.recording_arguments.proofs.read_initiate.Reads as reads
+use Rattle.recording_lists.proofs.read_pairs.Reads as read-pairs-reads
+use Rattle.recording_read.proofs.number_field.Reads as number-field-reads
+use Rattle.recording_read.proofs.string_field.Reads as string-field-reads
+use Rattle.recording_arguments.proofs.read_initiate.Goals as goal
+
+-- src/lib.rt:182:9
+pub returns-in_default : goal.returns-in_default
+returns-in_default c =
+    let a = c.args in
+    let s = a.s.now in
+    (no-head number (both string pairs) (map_second packed_pairs) (drop a.at s) (ap (number_meant s) (sym c.enum_told-1.given.1) ∙ c.number_field.ensures), tt)
+
+-- src/lib.rt:185:9
+pub returns-in_default-string_field : goal.returns-in_default-string_field
+returns-in_default-string_field c =
+    let a = c.args in
+    let s = a.s.now in
+    let g = c.stamp-1.given in
+    let e = ap (number_meant s) (sym g.1) ∙ c.number_field.ensures in
+    let w = c.string_field in (
+      no-tail number (both string pairs) (map_second packed_pairs) (drop a.at s) g.0.0 (drop g.0.1.0 s) e
+          (no-head string pairs packed_pairs (drop g.0.1.0 s) (ap (string_meant s w.new.out) (sym c.enum_told-in_default-string_field-1.given.1) ∙ w.ensures.0)),
+      tt,
+    )
+
+-- src/lib.rt:188:9
+pub returns-in_default-read_pairs : goal.returns-in_default-read_pairs
+returns-in_default-read_pairs c =
+    let a = c.args in
+    let s = a.s.now in
+    let g = c.stamp-1.given in
+    let e = ap (number_meant s) (sym g.1) ∙ c.number_field.ensures in
+    let w = c.string_field in
+    let h = c.n-1.given in
+    let f = ap (string_meant s w.new.out) (sym h.1) ∙ w.ensures.0 in
+    let v = c.read_pairs in (
+      no-tail number (both string pairs) (map_second packed_pairs) (drop a.at s) g.0.0 (drop g.0.1.0 s) e
+          (no-tail string pairs packed_pairs (drop g.0.1.0 s) (take h.0.0 w.new.out) (drop h.0.1.0 s) f (ap (string_meant s v.new.out) (sym c.enum_told-in_default-read_pairs-1.given.1) ∙ v.ensures.0)),
+      tt,
+    )
+
+-- src/lib.rt:171:1
+pub returns : goal.returns
+returns c =
+    let a = c.args in
+    let s = a.s.now in
+    let g = c.stamp-1.given in
+    let e = ap (number_meant s) (sym g.1) ∙ c.number_field.ensures in
+    let w = c.string_field in
+    let h = c.n-1.given in
+    let f = ap (string_meant s w.new.out) (sym h.1) ∙ w.ensures.0 in
+    let v = c.read_pairs in
+    let k = c.m-1.given in
+    let q = ap (string_meant s v.new.out) (sym k.1) ∙ v.ensures.0 in (
+      two-read number (both string pairs) (map_second packed_pairs) (drop a.at s) g.0.0 (drop g.0.1.0 s) e ((take h.0.0 w.new.out), take k.0.0 v.new.out) (drop k.0.1.0 s)
+          (two-read string pairs packed_pairs (drop g.0.1.0 s) (take h.0.0 w.new.out) (drop h.0.1.0 s) f (take k.0.0 v.new.out) (drop k.0.1.0 s) q),
+      (omega (arith, ap string_length (sym h.1), w.ensures.1), omega (arith, ap string_length (sym k.1), v.ensures.1)),
+    )

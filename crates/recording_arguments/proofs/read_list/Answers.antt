@@ -1,0 +1,41 @@
+-- `recording_arguments::read_list` meets its contract. Assumes nothing.
+use borrow.Author.Rules.{rules}
+use Rattle.recording_read.proofs.Places.{no-first, no_second, both_read}
+use Rattle.recording_read.specs.Meant.{string_meant, string_length}
+use Rattle.recording.specs.Parse.{string}
+use lib.ListN.{take, drop}
+use mathlib.Core.Path.{sym, ap, ◌∙◌}
+use native.Mathlib.Omega.{arith}
+use Rattle.recording_arguments.proofs.read_list.Goals as goal
+
+pub returns-in_default : goal.returns-in_default
+returns-in_default c =
+    let a = c.args in
+    let s = a.s.now in
+    let w = c.string_field in
+    (no-first string string (drop a.at s) (ap (string_meant s w.new.out) (sym c.enum_told-1.given.1) ∙ w.ensures.0), tt)
+
+pub returns-in_default-string_field : goal.returns-in_default-string_field
+returns-in_default-string_field c =
+    let a = c.args in
+    let s = a.s.now in
+    let w = c.string_field in
+    let g = c.n-1.given in
+    let e = ap (string_meant s w.new.out) (sym g.1) ∙ w.ensures.0 in
+    let x = take g.0.0 w.new.out in
+    let v = c.string_field-2 in
+    (no_second string string (drop a.at s) x (drop g.0.1.0 s) e (ap (string_meant s v.new.out) (sym c.enum_told-in_default-string_field-1.given.1) ∙ v.ensures.0), tt)
+
+pub returns : goal.returns
+returns c =
+    let a = c.args in
+    let s = a.s.now in
+    let w = c.string_field in
+    let g = c.n-1.given in
+    let e = ap (string_meant s w.new.out) (sym g.1) ∙ w.ensures.0 in
+    let x = take g.0.0 w.new.out in
+    let v = c.string_field-2 in
+    let k = c.m-1.given in (
+      both_read string string (drop a.at s) x (drop g.0.1.0 s) e (take k.0.0 v.new.out) (drop k.0.1.0 s) (ap (string_meant s v.new.out) (sym k.1) ∙ v.ensures.0),
+      (omega (arith, ap string_length (sym g.1), w.ensures.1), omega (arith, ap string_length (sym k.1), v.ensures.1)),
+    )

@@ -1,0 +1,25 @@
+-- `recording_replay::replay_line` meets its contract. Assumes nothing.
+use native.Mathlib.Omega.{arith}
+use Rattle.recording_replay.proofs.ByVerb.{another-length, too_long, line-entry}
+use Rattle.machine.specs.Calls.{buffers}
+use borrow.Author.Rules.{rules}
+use Rattle.recording_replay.proofs.replay_line.Reads as reads
+use Rattle.recording_line.proofs.refusal.Reads as refusal-reads
+use Rattle.recording_replay.proofs.verb_line.Reads as verb-line-reads
+use Rattle.recording_replay.proofs.replay_line.Goals as goal
+
+-- src/lib.rt:191:9
+pub returns-then-reply-ne48 : goal.returns-then-reply-ne48
+returns-then-reply-ne48 c =
+    let a = c.args in
+    another-length (buffers a.answer.now a.pairs.now) a.reply.now c.if-reply-ne48.true
+
+-- src/lib.rt:194:9
+pub returns-then-line-gt4096 : goal.returns-then-line-gt4096
+returns-then-line-gt4096 c =
+    let a = c.args in
+    too_long (buffers a.answer.now a.pairs.now) a.reply.now c.refusal.result c.if-line-gt4096.true c.if-reply-ne48.false c.refusal.ensures
+
+-- src/lib.rt:173:1
+pub returns : goal.returns
+returns c = line-entry c.args.line.now (omega arith) c.if-reply-ne48.false c.verb_line.ensures

@@ -1,0 +1,70 @@
+-- `recording_uploads::commit_line` meets its contract. Assumes nothing.
+use native.Mathlib.Omega.{arith}
+use Rattle.recording_uploads.proofs.Forms.{no-commit, open-commit, a-commit, a-wide-commit}
+use Rattle.recording_line.proofs.Lines.{no_line}
+use Rattle.recording_arguments.specs.Meant.{commit_meant, commit_length}
+use Rattle.machine.proofs.Tests.{said-no, said-yes}
+use Rattle.machine.specs.Calls.{no_buffers}
+use lib.Seq.{length-take-le}
+use lib.ListN.{take, drop}
+use mathlib.Core.Path.{sym, ap, ◌∙◌}
+use borrow.Author.Rules.{rules}
+use Rattle.recording_uploads.proofs.commit_line.Goals as goal
+
+pub returns-in_default : goal.returns-in_default
+returns-in_default c =
+    let a = c.args in
+    let l = a.line.now in
+    let w = c.read_commit in
+    let o = w.new.list in
+    λ b q. no_line b q no_buffers c.refusal.result (no-commit (drop a.at l) (ap (commit_meant l o) (sym c.enum_told-1.given.1) ∙ w.ensures.0)) c.refusal.ensures
+
+pub returns-then-not-ends_line : goal.returns-then-not-ends_line
+returns-then-not-ends_line c =
+    let a = c.args in
+    let l = a.line.now in
+    let w = c.read_commit in
+    let o = w.new.list in
+    let g = c.upload-1.given in
+    let e = ap (commit_meant l o) (sym g.1) ∙ w.ensures.0 in
+    let x = take g.0.1.0 o in
+    let rest = drop g.0.1.1.0 l in
+    λ b q. no_line b q no_buffers c.refusal-then-not-ends_line.result (open-commit (drop a.at l) g.0.0 x rest e (said-no c.ends_line.ensures c.if-not-ends_line.true)) c.refusal-then-not-ends_line.ensures
+
+pub returns-then-upload-gt4294967295 : goal.returns-then-upload-gt4294967295
+returns-then-upload-gt4294967295 c =
+    let a = c.args in
+    let l = a.line.now in
+    let w = c.read_commit in
+    let o = w.new.list in
+    let g = c.upload-1.given in
+    let e = ap (commit_meant l o) (sym g.1) ∙ w.ensures.0 in
+    let x = take g.0.1.0 o in
+    let rest = drop g.0.1.1.0 l in
+    let q = said-yes c.ends_line.ensures c.if-not-ends_line.false in
+    a-wide-commit (drop a.at l) g.0.0 x rest e a.tables.now a.arena.now (λ i. (c.slice_known-1.given i).fits) q c.if-upload-gt4294967295.true c.refusal-then-upload-gt4294967295.result c.refusal-then-upload-gt4294967295.ensures
+
+pub slice_bounds-parts-end : goal.slice_bounds-parts-end
+slice_bounds-parts-end c =
+    let w = c.read_commit in
+    let g = c.upload-1.given in
+    omega (arith, ap commit_length (sym g.1), w.ensures.1)
+
+pub slice_bounds-commit-end : goal.slice_bounds-commit-end
+slice_bounds-commit-end c =
+    let w = c.read_commit in
+    let g = c.upload-1.given in
+    sym (length-take-le g.0.1.0 w.new.list (omega (arith, ap commit_length (sym g.1), w.ensures.1)))
+
+pub returns : goal.returns
+returns c =
+    let a = c.args in
+    let l = a.line.now in
+    let w = c.read_commit in
+    let o = w.new.list in
+    let g = c.upload-1.given in
+    let e = ap (commit_meant l o) (sym g.1) ∙ w.ensures.0 in
+    let x = take g.0.1.0 o in
+    let rest = drop g.0.1.1.0 l in
+    let q = said-yes c.ends_line.ensures c.if-not-ends_line.false in
+    a-commit (drop a.at l) g.0.0 x rest e a.tables.now a.arena.now (λ i. (c.slice_known-1.given i).fits) q c.commit.ensures.0

@@ -1,0 +1,86 @@
+-- `recording_uploads::initiate_line` meets its contract. Assumes nothing.
+use native.Mathlib.Omega.{arith}
+use Rattle.recording_uploads.proofs.Forms.{no-initiate, open-initiate, a-initiate}
+use Rattle.recording_line.proofs.Lines.{no_line}
+use Rattle.recording_arguments.specs.declared.InitiateRead.{InitiateRead}
+use Rattle.recording_arguments.specs.Meant.{initiate_meant, InitiateFits}
+use Rattle.machine.proofs.Tests.{said-no, said-yes}
+use Rattle.machine.specs.Calls.{no_buffers}
+use lib.Seq.{length-take-le}
+use lib.ListN.{take, drop}
+use mathlib.Core.Path.{sym, ap, subst, ◌∙◌}
+use borrow.Author.Rules.{rules}
+use Rattle.recording_uploads.proofs.initiate_line.Reads as reads
+use Rattle.call_initiate.proofs.initiate.Reads as initiate-reads
+use Rattle.recording_arguments.proofs.read_initiate.Reads as read-initiate-reads
+use Rattle.recording_line.proofs.refusal.Reads as refusal-reads
+use Rattle.recording_read.proofs.ends_line.Reads as ends-line-reads
+use Rattle.recording_uploads.proofs.initiate_line.Goals as goal
+
+-- src/multipart.rt:36:9
+pub returns-in_default : goal.returns-in_default
+returns-in_default c =
+    let a = c.args in
+    let l = a.line.now in
+    let w = c.read_initiate in
+    let x = w.new.path in
+    let y = w.new.pairs in
+    λ b q. no_line b q no_buffers c.refusal.result (no-initiate (drop a.at l) (ap (initiate_meant l x y) (sym c.enum_told-1.given.1) ∙ w.ensures.0)) c.refusal.ensures
+
+-- src/multipart.rt:43:9
+pub returns-then-not-ends_line : goal.returns-then-not-ends_line
+returns-then-not-ends_line c =
+    let a = c.args in
+    let l = a.line.now in
+    let w = c.read_initiate in
+    let x = w.new.path in
+    let y = w.new.pairs in
+    let g = c.stamp-1.given in
+    let e = ap (initiate_meant l x y) (sym g.1) ∙ w.ensures.0 in
+    let p = take g.0.1.0 x in
+    let m = take g.0.1.1.0 y in
+    let rest = drop g.0.1.1.1.0 l in
+    λ b q. no_line b q no_buffers c.refusal-then-not-ends_line.result (open-initiate (drop a.at l) g.0.0 p m rest e (said-no c.ends_line.ensures c.if-not-ends_line.true)) c.refusal-then-not-ends_line.ensures
+
+-- src/multipart.rt:49:54
+pub slice_bounds-p-end : goal.slice_bounds-p-end
+slice_bounds-p-end c =
+    let f = subst (λ (r : InitiateRead). InitiateFits r 2048 2048) c.stamp-1.given.1 c.read_initiate.ensures.1 in
+    omega (arith, f.0)
+
+-- src/multipart.rt:49:54
+pub slice_bounds-initiate-end : goal.slice_bounds-initiate-end
+slice_bounds-initiate-end c =
+    let w = c.read_initiate in
+    let g = c.stamp-1.given in
+    let f = subst (λ (r : InitiateRead). InitiateFits r 2048 2048) g.1 w.ensures.1 in
+    sym (length-take-le g.0.1.0 w.new.path (omega (arith, f.0)))
+
+-- src/multipart.rt:49:66
+pub slice_bounds-m-end : goal.slice_bounds-m-end
+slice_bounds-m-end c =
+    let f = subst (λ (r : InitiateRead). InitiateFits r 2048 2048) c.stamp-1.given.1 c.read_initiate.ensures.1 in
+    omega (arith, f.1)
+
+-- src/multipart.rt:49:66
+pub slice_bounds-initiate-end-2 : goal.slice_bounds-initiate-end-2
+slice_bounds-initiate-end-2 c =
+    let w = c.read_initiate in
+    let g = c.stamp-1.given in
+    let f = subst (λ (r : InitiateRead). InitiateFits r 2048 2048) g.1 w.ensures.1 in
+    sym (length-take-le g.0.1.1.0 w.new.pairs (omega (arith, f.1)))
+
+-- src/multipart.rt:20:1
+pub returns : goal.returns
+returns c =
+    let a = c.args in
+    let l = a.line.now in
+    let w = c.read_initiate in
+    let x = w.new.path in
+    let y = w.new.pairs in
+    let g = c.stamp-1.given in
+    let e = ap (initiate_meant l x y) (sym g.1) ∙ w.ensures.0 in
+    let p = take g.0.1.0 x in
+    let m = take g.0.1.1.0 y in
+    let rest = drop g.0.1.1.1.0 l in
+    a-initiate (drop a.at l) g.0.0 p m rest e (said-yes c.ends_line.ensures c.if-not-ends_line.false) c.initiate.ensures

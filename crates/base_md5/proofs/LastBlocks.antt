@@ -1,5 +1,5 @@
 -- What the stores of `tail` leave: the bytes after the message's whole blocks. Assumes nothing.
-use Rattle.std.proofs.Common.{◌≡◌, ℕ, suc, ◌+◌, ◌-◌, ◌*◌, ◌%◌, ◌^◌, ◌<◌, ◌≤◌, List, ◌∷◌, ◌++◌, length, take, drop, set, replicate, sym, refl, ap, ◌∙◌, ap₂, append_assoc, le_of_eq, arith, length-append, length-drop, take_all, take_at, drop_at}
+use Rattle.std.proofs.Common.{◌≡◌, ℕ, suc, ◌+◌, ◌-◌, ◌*◌, ◌%◌, ◌^◌, ◌<◌, ◌≤◌, List, ◌∷◌, ◌++◌, length, take, drop, set, replicate, sym, refl, ap, ◌∙◌, ap₂, zero-add, append_assoc, le_of_eq, arith, length-append, length-drop, take_all, take_at, drop_at}
 use lib.ListN.{length-replicate, replicate-append-replicate}
 use lib.Seq.{take-length, set_at}
 use Rattle.base_number.specs.Number.{le}
@@ -32,14 +32,17 @@ written p q s at n e f =
     ap (λ (l : List ℕ). take (at + n) (l ++ s ++ drop (at + n) (p ++ q))) (take_at p q at e)
     ∙ take_at (p ++ s) (drop (at + n) (p ++ q)) (at + n) (simp length-append (omega arith))
 
-pub tailed : (d s : List ℕ) (start at x : ℕ) {t₁ t₂ : List ℕ} {r : ℕ} → s ≡ take (length d - start) (drop start d) → start ≤ length d → length d - start < at → at ≤ 120
-    → r ≡ length s → t₁ ≡ take (length s) s ++ drop (length s) (nulls 128) → x ≡ 8 * length d % 2 ^ 64 → t₂ ≡ replaced_at (set t₁ r 128) at (le 8 x) 8
+pub tailed : (d s : List ℕ) (start at x : ℕ) {t₁ t₂ : List ℕ} → s ≡ take (length d - start) (drop start d) → start ≤ length d → length d - start < at → at ≤ 120
+    → t₁ ≡ s ++ drop (0 + length s) (nulls 128) → x ≡ 8 * length d % 2 ^ 64 → t₂ ≡ replaced_at (set t₁ (length d - start) 128) at (le 8 x) 8
     → take (at + 8) t₂ ≡ rest d start (at - 1 - (length d - start))
-tailed d s start at x {t₁} {t₂} {r} es h₁ h₂ h₃ er e₁ ex e₂ =
+tailed d s start at x {t₁} {t₂} es h₁ h₂ h₃ e₀ ex e₂ =
     let z : ℕ = at - 1 - (length d - start) in
     let y : ℕ = 128 - at in
     let whole : s ≡ drop start d = es ∙ take_all (length d - start) (drop start d) (le_of_eq (length-drop start d)) in
     let n : length s ≡ length d - start = ap length whole ∙ length-drop start d in
+    let er : length d - start ≡ length s = sym n in
+    let e₁ : t₁ ≡ take (length s) s ++ drop (length s) (nulls 128) =
+      e₀ ∙ ap (λ (k : ℕ). s ++ drop k (nulls 128)) (zero-add (length s)) ∙ ap (λ (l : List ℕ). l ++ drop (length s) (nulls 128)) (sym (take_all (length s) s (le_of_eq refl))) in
     let p : List ℕ = s ++ 128 ∷ nulls z in
     let lp : length p ≡ at = simp (length-append, length-replicate) (omega arith) in
     let bits : List ℕ = le 8 (8 * length d % 2 ^ 64) in

@@ -26,7 +26,7 @@ pub fn tail(data: &[u8], start: usize, at: usize) -> [u8; 128]
 {
     let mut t = [0u8; 128];
     let left = data.len() - start;
-    t[..left].copy_from_slice(&data[start..]);
+    base_buffer::copy_at(&mut t, 0, &data[start..]);
     t[left] = 128;
     base_number::put_u64(&mut t, at, bits(data.len()));
     t

@@ -99,7 +99,7 @@ fn write_pairs(tables: &[u8], arena: &[u8], at: usize, base: usize, pairs: &mut 
     ensures { pairs.new
         ≡ over (encode_pairs (stored_at tables.now arena.now at base).pairs) pairs.old }
 {
-    let lengths = mem_find::pairs::lengths(tables, at);
+    let lengths = mem_find::row_pairs::lengths(tables, at);
     let end = base + pairs_stored::sum_of(lengths);
     pairs_write::encode(lengths, &arena[base..end], pairs);
 }

@@ -58,7 +58,7 @@ pub fn copy_object(
     let old = mem_edit::rows::old_row(tables, place);
     let h = mem_row::read_head(tables, at);
     let size = h.size as usize;
-    let kept = mem_find::pairs::lengths(tables, at);
+    let kept = mem_find::row_pairs::lengths(tables, at);
     let n = kept.len();
     let mut lengths = [0u8; 16];
     base_buffer::copy_at(&mut lengths, 0, kept);

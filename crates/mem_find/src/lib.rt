@@ -4,14 +4,14 @@
 
 pub mod counts;
 pub mod objects;
-pub mod pairs;
+pub mod row_pairs;
 
 ghost use Rattle.std.specs.Prelude.{◌≡◌};
 ghost use Rattle.mem_find.specs.Places.{lookup_of, place_of};
 
 pub use counts::read_counts;
 pub use objects::{find_object, find_two};
-pub use pairs::pairs_size;
+pub use row_pairs::pairs_size;
 
 // What a search found: whether it is there, the number of its row, where that begins in the tables, and where its data
 // begin in the arena. Where it is not there, the places are those of the row before which it would stand.

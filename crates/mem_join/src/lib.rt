@@ -187,7 +187,7 @@ fn join_at(
         → Joins tables.old arena.old tables.new arena.new upload
         list.now k.joinable.listed }
 {
-    let stored = mem_find::pairs::lengths(tables, b.at);
+    let stored = mem_find::row_pairs::lengths(tables, b.at);
     let n = stored.len();
     let mut lengths = [0u8; 16];
     base_buffer::copy_at(&mut lengths, 0, stored);

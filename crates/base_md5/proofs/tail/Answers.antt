@@ -1,12 +1,11 @@
 -- `base_md5::tail` meets its contract: the rest copied over zeros, the byte 128 after it, the length over the last eight (`LastBlocks.tailed`). Assumes nothing.
-use Rattle.std.proofs.Common.{refl, arith, length-set, rules}
+use Rattle.std.proofs.Common.{refl, arith, length-set}
 use Rattle.base_md5.proofs.LastBlocks.{tailed}
 use Rattle.base_md5.proofs.tail.Goals as goal
 
 pub put_u64-requires : goal.put_u64-requires
-put_u64-requires c = simp length-set (omega arith)
+put_u64-requires c = simp length-set (omega (arith, c.copy_at.auto.dst))
 
 pub returns : goal.returns
 returns c =
-    tailed c.args.«data».now _ c.args.start c.args.at c.bits.result refl c.requires.0 c.requires.1 c.requires.2
-    c.copy.ensures.0 c.copy.ensures.1 c.bits.ensures c.put_u64.ensures
+    tailed c.args.«data».now _ c.args.start c.args.at c.bits.result refl c.requires.0 c.requires.1 c.requires.2 c.copy_at.ensures c.bits.ensures c.put_u64.ensures

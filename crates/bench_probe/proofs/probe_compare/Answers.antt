@@ -5,10 +5,10 @@ use borrow.Author.Rules.{rules}
 use Rattle.bench_probe.proofs.probe_compare.Goals as goal
 
 pub returns-in-Less : goal.returns-in-Less
-returns-in-Less c = ap place (sym c.enum_told-1.given.1 ∙ c.compare-o.ensures)
+returns-in-Less c = ap place (sym c.in-Less.is ∙ c.compare-o.ensures)
 
 pub returns-in-Equal : goal.returns-in-Equal
-returns-in-Equal c = ap place (sym c.enum_told-in-Equal-1.given.1 ∙ c.compare-o.ensures)
+returns-in-Equal c = ap place (sym c.in-Equal.is ∙ c.compare-o.ensures)
 
 pub returns-in-Greater : goal.returns-in-Greater
-returns-in-Greater c = ap place (sym c.enum_told-in-Greater-1.given.1 ∙ c.compare-o.ensures)
+returns-in-Greater c = ap place (sym c.in-Greater.is ∙ c.compare-o.ensures)

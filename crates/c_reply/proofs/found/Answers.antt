@@ -6,4 +6,4 @@ use Rattle.c_reply.proofs.found.Goals as goal
 
 pub returns-in-Found : goal.returns-in-Found
 unfolding reply_bytes
-returns-in-Found c = rw c.a-in-Found-1.given.1 (refl, c.write.ensures)
+returns-in-Found c = rw c.in-Found.is (refl, c.write.ensures)

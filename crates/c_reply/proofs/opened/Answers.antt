@@ -6,4 +6,4 @@ use Rattle.c_reply.proofs.opened.Goals as goal
 
 pub returns-in-Opened : goal.returns-in-Opened
 unfolding reply_bytes
-returns-in-Opened c = rw c.a-in-Opened-1.given.1 (refl, c.write.ensures)
+returns-in-Opened c = rw c.in-Opened.is (refl, c.write.ensures)

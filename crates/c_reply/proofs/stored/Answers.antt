@@ -6,4 +6,4 @@ use Rattle.c_reply.proofs.stored.Goals as goal
 
 pub returns-in-Stored : goal.returns-in-Stored
 unfolding reply_bytes
-returns-in-Stored c = rw c.a-in-Stored-1.given.1 (refl, c.write.ensures)
+returns-in-Stored c = rw c.in-Stored.is (refl, c.write.ensures)

@@ -6,4 +6,4 @@ use Rattle.c_reply.proofs.swept.Goals as goal
 
 pub returns-in-Swept : goal.returns-in-Swept
 unfolding reply_bytes
-returns-in-Swept c = rw c.a-in-Swept-1.given.1 (refl, c.write_swept.ensures)
+returns-in-Swept c = rw c.in-Swept.is (refl, c.write_swept.ensures)

@@ -6,4 +6,4 @@ use Rattle.c_reply.proofs.written.Goals as goal
 
 pub returns-in-Written : goal.returns-in-Written
 unfolding reply_bytes
-returns-in-Written c = rw c.a-in-Written-1.given.1 (refl, c.write.ensures)
+returns-in-Written c = rw c.in-Written.is (refl, c.write.ensures)

@@ -1,4 +1,6 @@
 -- `call_commit::judge_list` meets its contract. In order it fits. The invariant of other lists: the first i numbers fit. Assumes nothing.
+use mathlib.Core.Path.{ap}
+use mathlib.Core.Bool.{not}
 use Prim.Native.Nat.{ℕ, ◌+◌, ◌-◌, ◌*◌, ◌≤◌}
 use mathlib.Core.Path.{◌≡◌, sym, ◌∙◌, subst}
 use mathlib.Core.Bool.{false≢true}
@@ -141,7 +143,7 @@ returns-then-not-number_fits c v x q e =
     c.pass_parts_from-parts.ensures v x (first-is v q) e (reached-within (s) v x e (first) (first-is v q) (list) r.result r.ensures) in
     let twice : length (list c) ≡ 2 * (parts).count = omega (arith, c.if-list-count.left) in
     let inside : 2 * c.loop-i.i + 2 ≤ length (list) = let n = c.loop-i-test.true in omega (arith, twice) in
-    (unfit-number x.parts (list) c.loop-i.i (inside) (sym (c.number_fits.ensures v x (first-is v q) e) ∙ not-true _ c.if-not-number_fits.true), λ z. absurd (false≢true z), parts_are v x q e)
+    (unfit-number x.parts (list) c.loop-i.i (inside) (sym (c.number_fits.ensures v x (first-is v q) e) ∙ not-true _ (ap not c.if-not-number_fits.true)), λ z. absurd (false≢true z), parts_are v x q e)
 
 pub loop-i-preserved : goal.loop-i-preserved
 loop-i-preserved c =
@@ -150,7 +152,7 @@ loop-i-preserved c =
     let twice : length (list c) ≡ 2 * (parts).count = omega (arith, c.if-list-count.left) in
     let inside : 2 * c.loop-i.i + 2 ≤ length (list) = let n = c.loop-i-test.true in omega (arith, twice) in
     let l = c.loop-i in
-        (omega arith, λ v x q e. passed-next x.parts (list) l.i (inside) (l.invariant.1 v x q e) (sym (c.number_fits.ensures v x q e) ∙ not-false _ c.if-not-number_fits.false))
+        (omega arith, λ v x q e. passed-next x.parts (list) l.i (inside) (l.invariant.1 v x q e) (sym (c.number_fits.ensures v x q e) ∙ not-false _ (ap not c.if-not-number_fits.false)))
 
 pub returns : goal.returns
 returns c v x q e =

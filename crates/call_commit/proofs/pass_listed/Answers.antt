@@ -1,4 +1,5 @@
 -- `call_commit::pass_listed` meets its contract. The invariant: the rows passed are the parts that the list's first i numbers name. Assumes nothing.
+use mathlib.Core.Bool.{not}
 use Prim.Native.Nat.{ℕ, ◌+◌, ◌-◌, ◌*◌, ◌≤◌, ◌<◌}
 use mathlib.Core.Path.{◌≡◌, sym, ap, ◌∙◌}
 use mathlib.Core.Bool.{Bool}
@@ -71,7 +72,7 @@ returns-then-not-is_part c =
     let more : c.loop-i.row < length (rows_of (s)) = let n = c.if-rows-row.false in omega (arith, counted) in
     let turn : Turn (t) (a) (s) c.loop-i.row c.loop-i.at c.loop-i.base c.read_head-h.result = row-turn (t) (a) (s) (stands) _ _ _ (walked).here (more) c.read_head-h.result c.read_head-h.ensures in
     let told : (b : Bool) → c.is_part.result ≡ b → is_part (number_at (list) c.loop-i.i) c.read_head-h.result ≡ b = λ b e. ap (λ (n : ℕ). is_part n c.read_head-h.result) (sym c.get_u16.ensures) ∙ sym c.is_part.ensures ∙ e in
-    walked-off (s) _ _ _ _ _ _ (walked) (inside) (t) (a) _ (turn) (told _ (not-true _ c.if-not-is_part.true))
+    walked-off (s) _ _ _ _ _ _ (walked) (inside) (t) (a) _ (turn) (told _ (not-true _ (ap not c.if-not-is_part.true)))
 
 pub overflow_add-at : goal.overflow_add-at
 overflow_add-at c =
@@ -123,7 +124,7 @@ loop-i-preserved c =
     let more : c.loop-i.row < length (rows_of (s)) = let n = c.if-rows-row.false in omega (arith, counted) in
     let turn : Turn (t) (a) (s) c.loop-i.row c.loop-i.at c.loop-i.base c.read_head-h.result = row-turn (t) (a) (s) (stands) _ _ _ (walked).here (more) c.read_head-h.result c.read_head-h.ensures in
     let told : (b : Bool) → c.is_part.result ≡ b → is_part (number_at (list) c.loop-i.i) c.read_head-h.result ≡ b = λ b e. ap (λ (n : ℕ). is_part n c.read_head-h.result) (sym c.get_u16.ensures) ∙ sym c.is_part.ensures ∙ e in
-    (omega arith, walked_next (s) _ _ _ _ _ _ (walked) (inside) (t) (a) _ (turn) (told _ (not-false _ c.if-not-is_part.false)))
+    (omega arith, walked_next (s) _ _ _ _ _ _ (walked) (inside) (t) (a) _ (turn) (told _ (not-false _ (ap not c.if-not-is_part.false))))
 
 pub returns : goal.returns
 returns c =

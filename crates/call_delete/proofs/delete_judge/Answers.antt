@@ -1,4 +1,6 @@
 -- `call_delete::delete_judge` meets its contract: the path, then whether it is there. Assumes nothing.
+use mathlib.Core.Path.{ap}
+use mathlib.Core.Bool.{not}
 use Rattle.machine.proofs.Tests.{said-no, said-yes}
 use borrow.Author.Tests.{not-true, not-false}
 use Rattle.call_contract.specs.Made.{memory}
@@ -10,19 +12,19 @@ use Rattle.call_delete.proofs.delete_judge.Goals as goal
 pub returns-then-not-request_path_ok : goal.returns-then-not-request_path_ok
 returns-then-not-request_path_ok c =
     let a = c.args in
-    (delete-bad (memory a.tables.now a.arena.now) a.path.now (said-no c.request_path_ok.ensures c.if-not-request_path_ok.true), λ z. absurd (omega arith))
+    (delete-bad (memory a.tables.now a.arena.now) a.path.now (said-no c.request_path_ok.ensures (ap not c.if-not-request_path_ok.true)), λ z. absurd (omega arith))
 
 pub returns-then-not-place : goal.returns-then-not-place
 returns-then-not-place c =
     let a = c.args in
     let f = c.find_object-place in
-    let yes = said-yes c.request_path_ok.ensures c.if-not-request_path_ok.false in
-    (delete-absent (memory a.tables.now a.arena.now) a.path.now yes f.result f.ensures (not-true f.result.found c.if-not-place.true), λ z. absurd (omega arith))
+    let yes = said-yes c.request_path_ok.ensures (ap not c.if-not-request_path_ok.false) in
+    (delete-absent (memory a.tables.now a.arena.now) a.path.now yes f.result f.ensures (not-true f.result.found (ap not c.if-not-place.true)), λ z. absurd (omega arith))
 
 pub returns : goal.returns
 returns c =
     let a = c.args in
     let f = c.find_object-place in
-    let yes = said-yes c.request_path_ok.ensures c.if-not-request_path_ok.false in
-    let there = not-false f.result.found c.if-not-place.false in
+    let yes = said-yes c.request_path_ok.ensures (ap not c.if-not-request_path_ok.false) in
+    let there = not-false f.result.found (ap not c.if-not-place.false) in
     (delete-judged (memory a.tables.now a.arena.now) a.path.now yes f.result f.ensures there, λ _. (there, f.ensures))

@@ -12,21 +12,21 @@ get_object-requires c =
     let a : List ℕ = c.args.arena.now in
     let p : List ℕ = c.args.path.now in
     let bytes : AreBytes t = λ j. (c.shared_slice_known-1.given j).fits in
-    holds (t) (a) (p) c.look_up-named.result c.look_up-named.ensures (bytes) c.requires _ _ c.named-in-Object-1.given.1
+    holds (t) (a) (p) c.look_up-named.result c.look_up-named.ensures (bytes) c.requires _ _ c.in-Object.is
 
 pub returns-in-Refused : goal.returns-in-Refused
 returns-in-Refused c =
     let t : List ℕ = c.args.tables.now in
     let a : List ℕ = c.args.arena.now in
     let p : List ℕ = c.args.path.now in
-    get_refused (t) (a) (p) c.look_up-named.result c.look_up-named.ensures c.args.answer.now c.args.pairs.now _ c.named-1.given.1
+    get_refused (t) (a) (p) c.look_up-named.result c.look_up-named.ensures c.args.answer.now c.args.pairs.now _ c.in-Refused.is
 
 pub returns-in-Root : goal.returns-in-Root
 returns-in-Root c =
     let t : List ℕ = c.args.tables.now in
     let a : List ℕ = c.args.arena.now in
     let p : List ℕ = c.args.path.now in
-    get-root (t) (a) (p) c.look_up-named.result c.look_up-named.ensures c.root.result c.root.ensures c.enum_told-1.given.1 c.args.answer.now c.args.pairs.now
+    get-root (t) (a) (p) c.look_up-named.result c.look_up-named.ensures c.root.result c.root.ensures c.in-Root.is c.args.answer.now c.args.pairs.now
 
 pub returns-in-Object : goal.returns-in-Object
 returns-in-Object c =
@@ -34,4 +34,4 @@ returns-in-Object c =
     let a : List ℕ = c.args.arena.now in
     let p : List ℕ = c.args.path.now in
     let bytes : AreBytes t = λ j. (c.shared_slice_known-1.given j).fits in
-    get-found (t) (a) (p) c.look_up-named.result c.look_up-named.ensures (bytes) c.requires _ _ c.named-in-Object-1.given.1 c.args.answer.now c.args.pairs.now _ c.get_object.ensures
+    get-found (t) (a) (p) c.look_up-named.result c.look_up-named.ensures (bytes) c.requires _ _ c.in-Object.is c.args.answer.now c.args.pairs.now _ c.get_object.ensures

@@ -9,6 +9,14 @@ use Rattle.mem_row.specs.Row.{span_at}
 use Rattle.call_get.proofs.Stored.{size-most, metadata-told}
 use Rattle.call_get.proofs.metadata.Goals as goal
 
+pub read_head-h-requires : goal.read_head-h-requires
+unfolding span_at
+read_head-h-requires c = omega arith
+
+pub etag-etag-requires : goal.etag-etag-requires
+unfolding span_at
+etag-etag-requires c = omega arith
+
 pub overflow_sub-length : goal.overflow_sub-length
 overflow_sub-length c =
     let within : c.pairs_size-held.result ≤ c.read_head-h.result.size = omega (arith, c.requires.1, c.pairs_size-held.ensures, ap (λ (h : Head). h.size) c.read_head-h.ensures) in

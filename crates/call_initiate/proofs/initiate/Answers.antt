@@ -5,10 +5,10 @@ use Rattle.call_contract.proofs.MadeLaws.{not-whole, over-whole}
 use Rattle.call_initiate.proofs.initiate.Goals as goal
 
 pub returns-in_default : goal.returns-in_default
-returns-in_default c = not-whole (found-bad _ c.scan_store.ensures c.enum_told-1.given.1)
+returns-in_default c = not-whole (found-bad _ c.scan_store.ensures c.in_default.is)
 
 pub initiate_whole-requires : goal.initiate_whole-requires
-initiate_whole-requires c = found-good c.scan_store.ensures c.offsets-1.given.1
+initiate_whole-requires c = found-good c.scan_store.ensures c.in-Good.is
 
 pub returns : goal.returns
-returns c = over-whole (found-good c.scan_store.ensures c.offsets-1.given.1).0 c.initiate_whole.ensures
+returns c = over-whole (found-good c.scan_store.ensures c.in-Good.is).0 c.initiate_whole.ensures

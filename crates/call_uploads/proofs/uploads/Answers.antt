@@ -6,12 +6,12 @@ use Rattle.call_uploads.proofs.Replies.{made-uploads}
 use Rattle.call_uploads.proofs.uploads.Goals as goal
 
 pub returns-in_default : goal.returns-in_default
-returns-in_default c = not-whole (found-bad _ c.scan_store.ensures c.enum_told-1.given.1)
+returns-in_default c = not-whole (found-bad _ c.scan_store.ensures c.in_default.is)
 
 pub uploads_whole-requires : goal.uploads_whole-requires
-uploads_whole-requires c = found-good c.scan_store.ensures c.offsets-1.given.1
+uploads_whole-requires c = found-good c.scan_store.ensures c.in-Good.is
 
 pub returns : goal.returns
 returns c =
     made-uploads _ _ _ _ (λ j. (c.shared_slice_known-1.given j).fits)
-    (found-good c.scan_store.ensures c.offsets-1.given.1).0 _ c.uploads_whole.ensures
+    (found-good c.scan_store.ensures c.in-Good.is).0 _ c.uploads_whole.ensures

@@ -11,22 +11,22 @@ use Rattle.mem_scan.proofs.scan_store.Goals as goal
 pub returns-in_default : goal.returns-in_default
 returns-in_default c =
     let a = c.args in
-    let no : whole a.tables.now a.arena.now ≡ false = front-bad tables_length pairs_most a.tables.now a.arena.now _ c.scan_front.ensures c.enum_told-1.given.1 in
+    let no : whole a.tables.now a.arena.now ≡ false = front-bad tables_length pairs_most a.tables.now a.arena.now _ c.scan_front.ensures c.in_default.is in
     rw no
 
 pub scan_uploads-requires : goal.scan_uploads-requires
 scan_uploads-requires c =
     let a = c.args in
-    front-inside tables_length pairs_most a.tables.now a.arena.now _ c.scan_front.ensures _ c.uploads-1.given.1 (omega arith)
+    front-inside tables_length pairs_most a.tables.now a.arena.now _ c.scan_front.ensures _ c.in-Good.is (omega arith)
 
 pub returns-in_default-scan_uploads : goal.returns-in_default-scan_uploads
 returns-in_default-scan_uploads c =
     let a = c.args in
-    let no : whole a.tables.now a.arena.now ≡ false = uploads-bad tables_length pairs_most a.tables.now a.arena.now _ c.scan_front.ensures _ c.uploads-1.given.1 _ c.scan_uploads.ensures c.enum_told-in_default-scan_uploads-1.given.1 in
+    let no : whole a.tables.now a.arena.now ≡ false = uploads-bad tables_length pairs_most a.tables.now a.arena.now _ c.scan_front.ensures _ c.in-Good.is _ c.scan_uploads.ensures c.in_default-scan_uploads.is in
     rw no
 
 pub returns : goal.returns
 returns c =
     let a = c.args in
-    let w = uploads-good tables_length pairs_most a.tables.now a.arena.now _ c.scan_front.ensures _ c.uploads-1.given.1 _ c.scan_uploads.ensures _ c.end-1.given.1 in
+    let w = uploads-good tables_length pairs_most a.tables.now a.arena.now _ c.scan_front.ensures _ c.in-Good.is _ c.scan_uploads.ensures _ c.in-Good-scan_uploads.is in
     rw (w.0, w.1)

@@ -5,7 +5,7 @@ use borrow.Author.Rules.{rules}
 use Rattle.mem_scan.proofs.whole.Goals as goal
 
 pub returns-in-Bad : goal.returns-in-Bad
-returns-in-Bad c = sym (found-bad _ c.scan_store.ensures c.enum_told-1.given.1)
+returns-in-Bad c = sym (found-bad _ c.scan_store.ensures c.in-Bad.is)
 
 pub returns-in-Good : goal.returns-in-Good
-returns-in-Good c = sym (found-good c.scan_store.ensures c.enum_told-in-Good-1.given.1).0
+returns-in-Good c = sym (found-good c.scan_store.ensures c.in-Good.is).0

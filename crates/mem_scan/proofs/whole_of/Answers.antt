@@ -7,17 +7,17 @@ use Rattle.mem_scan.proofs.whole_of.Goals as goal
 pub returns-in_default : goal.returns-in_default
 returns-in_default c =
     let a = c.args in
-    sym (front-bad a.length a.most a.tables.now a.arena.now _ c.scan_front.ensures c.enum_told-1.given.1)
+    sym (front-bad a.length a.most a.tables.now a.arena.now _ c.scan_front.ensures c.in_default.is)
 
 pub scan_uploads-requires : goal.scan_uploads-requires
-scan_uploads-requires c = front-inside c.args.length c.args.most c.args.tables.now c.args.arena.now _ c.scan_front.ensures _ c.uploads-1.given.1 c.requires
+scan_uploads-requires c = front-inside c.args.length c.args.most c.args.tables.now c.args.arena.now _ c.scan_front.ensures _ c.in-Good.is c.requires
 
 pub returns-in-Bad : goal.returns-in-Bad
 returns-in-Bad c =
     let a = c.args in
-    sym (uploads-bad a.length a.most a.tables.now a.arena.now _ c.scan_front.ensures _ c.uploads-1.given.1 _ c.scan_uploads.ensures c.enum_told-in-Bad-1.given.1)
+    sym (uploads-bad a.length a.most a.tables.now a.arena.now _ c.scan_front.ensures _ c.in-Good.is _ c.scan_uploads.ensures c.in-Bad.is)
 
 pub returns-in-Good-scan_uploads : goal.returns-in-Good-scan_uploads
 returns-in-Good-scan_uploads c =
     let a = c.args in
-    sym (uploads-good a.length a.most a.tables.now a.arena.now _ c.scan_front.ensures _ c.uploads-1.given.1 _ c.scan_uploads.ensures _ c.enum_told-in-Good-scan_uploads-1.given.1).0
+    sym (uploads-good a.length a.most a.tables.now a.arena.now _ c.scan_front.ensures _ c.in-Good.is _ c.scan_uploads.ensures _ c.in-Good-scan_uploads.is).0

@@ -1,4 +1,6 @@
 -- `names_utf8::letter` meets its contract. Assumes nothing.
+use mathlib.Core.Path.{ap}
+use mathlib.Core.Bool.{not}
 use Prim.Native.Nat.{◌+◌, ◌<◌}
 use mathlib.Core.Path.{◌≡◌}
 use native.Mathlib.Omega.{arith}
@@ -41,7 +43,7 @@ returns-then-not-between c =
     let w = c.width-w.result in
     let e : w ≡ width_of (get_or p i 0) = c.width-w.ensures in
     let known : get_or p i 0 < 256 = omega (arith, c.shared_slice_known-1.given i) in
-    is-no-second p i known (omega arith) (omega arith) (second-no (get_or p i 0) c.least.result c.most.result (get_or p (i + 1) 0) c.between.result c.between.ensures c.least.ensures c.most.ensures c.if-not-between.true)
+    is-no-second p i known (omega arith) (omega arith) (second-no (get_or p i 0) c.least.result c.most.result (get_or p (i + 1) 0) c.between.result c.between.ensures c.least.ensures c.most.ensures (ap not c.if-not-between.true))
 
 pub returns-then-w-lt3 : goal.returns-then-w-lt3
 returns-then-w-lt3 c =
@@ -50,7 +52,7 @@ returns-then-w-lt3 c =
     let w = c.width-w.result in
     let e : w ≡ width_of (get_or p i 0) = c.width-w.ensures in
     let known : get_or p i 0 < 256 = omega (arith, c.shared_slice_known-1.given i) in
-    is-two p i known w e (omega arith) (omega arith) (second-yes (get_or p i 0) c.least.result c.most.result (get_or p (i + 1) 0) c.between.result c.between.ensures c.least.ensures c.most.ensures c.if-not-between.false)
+    is-two p i known w e (omega arith) (omega arith) (second-yes (get_or p i 0) c.least.result c.most.result (get_or p (i + 1) 0) c.between.result c.between.ensures c.least.ensures c.most.ensures (ap not c.if-not-between.false))
 
 pub returns-then-not-between-2 : goal.returns-then-not-between-2
 returns-then-not-between-2 c =
@@ -59,7 +61,7 @@ returns-then-not-between-2 c =
     let w = c.width-w.result in
     let e : w ≡ width_of (get_or p i 0) = c.width-w.ensures in
     let known : get_or p i 0 < 256 = omega (arith, c.shared_slice_known-1.given i) in
-    is-no-third p i known (omega arith) (omega arith) (said-no c.between-2.ensures c.if-not-between-2.true)
+    is-no-third p i known (omega arith) (omega arith) (said-no c.between-2.ensures (ap not c.if-not-between-2.true))
 
 pub returns-then-w-lt4 : goal.returns-then-w-lt4
 returns-then-w-lt4 c =
@@ -68,7 +70,7 @@ returns-then-w-lt4 c =
     let w = c.width-w.result in
     let e : w ≡ width_of (get_or p i 0) = c.width-w.ensures in
     let known : get_or p i 0 < 256 = omega (arith, c.shared_slice_known-1.given i) in
-    is-three p i known w e (omega arith) (omega arith) (second-yes (get_or p i 0) c.least.result c.most.result (get_or p (i + 1) 0) c.between.result c.between.ensures c.least.ensures c.most.ensures c.if-not-between.false) (said-yes c.between-2.ensures c.if-not-between-2.false)
+    is-three p i known w e (omega arith) (omega arith) (second-yes (get_or p i 0) c.least.result c.most.result (get_or p (i + 1) 0) c.between.result c.between.ensures c.least.ensures c.most.ensures (ap not c.if-not-between.false)) (said-yes c.between-2.ensures (ap not c.if-not-between-2.false))
 
 pub returns-then-not-between-3 : goal.returns-then-not-between-3
 returns-then-not-between-3 c =
@@ -77,7 +79,7 @@ returns-then-not-between-3 c =
     let w = c.width-w.result in
     let e : w ≡ width_of (get_or p i 0) = c.width-w.ensures in
     let known : get_or p i 0 < 256 = omega (arith, c.shared_slice_known-1.given i) in
-    is-no-fourth p i known (omega arith) (omega arith) (said-no c.between-3.ensures c.if-not-between-3.true)
+    is-no-fourth p i known (omega arith) (omega arith) (said-no c.between-3.ensures (ap not c.if-not-between-3.true))
 
 pub returns : goal.returns
 returns c =
@@ -86,4 +88,4 @@ returns c =
     let w = c.width-w.result in
     let e : w ≡ width_of (get_or p i 0) = c.width-w.ensures in
     let known : get_or p i 0 < 256 = omega (arith, c.shared_slice_known-1.given i) in
-    is-four p i known w e (omega arith) (omega arith) (second-yes (get_or p i 0) c.least.result c.most.result (get_or p (i + 1) 0) c.between.result c.between.ensures c.least.ensures c.most.ensures c.if-not-between.false) (said-yes c.between-2.ensures c.if-not-between-2.false) (said-yes c.between-3.ensures c.if-not-between-3.false)
+    is-four p i known w e (omega arith) (omega arith) (second-yes (get_or p i 0) c.least.result c.most.result (get_or p (i + 1) 0) c.between.result c.between.ensures c.least.ensures c.most.ensures (ap not c.if-not-between.false)) (said-yes c.between-2.ensures (ap not c.if-not-between-2.false)) (said-yes c.between-3.ensures (ap not c.if-not-between-3.false))

@@ -1,4 +1,6 @@
 -- `names_utf8::pairs` meets its contract. The invariant: from i to k stand such letters. Assumes nothing.
+use mathlib.Core.Path.{ap}
+use mathlib.Core.Bool.{not}
 use Prim.Native.Nat.{◌+◌, ◌-◌, ◌<◌}
 use mathlib.Core.Path.{◌≡◌}
 use lib.ListN.{length, get_or}
@@ -21,7 +23,7 @@ pub loop-k-preserved : goal.loop-k-preserved
 loop-k-preserved c =
     let a = c.args in
     let known : get_or a.p.now c.loop-k.k 0 < 256 = omega (arith, c.shared_slice_known-1.given c.loop-k.k) in
-    run_more a.p.now a.i c.loop-k.k known (omega (arith, c.loop-k.invariant.inside)) c.loop-k.invariant (c.pair.ensures (not-false _ c.if-not-pair.false))
+    run_more a.p.now a.i c.loop-k.k known (omega (arith, c.loop-k.invariant.inside)) c.loop-k.invariant (c.pair.ensures (not-false _ (ap not c.if-not-pair.false)))
 
 pub returns : goal.returns
 returns c =

@@ -1,4 +1,6 @@
 -- `pairs_kept::judge` meets its contract: three tests, each over what the one before it left. Assumes nothing.
+use mathlib.Core.Path.{ap}
+use mathlib.Core.Bool.{not}
 use native.Mathlib.Omega.{arith}
 use borrow.Author.Rules.{rules}
 use Rattle.pairs_kept.proofs.Keeping.{judge-form, judge-many, judge-keys}
@@ -7,18 +9,18 @@ use Rattle.machine.specs.Pairs.{pair_list}
 use Rattle.pairs_kept.proofs.judge.Goals as goal
 
 pub returns-then-not-formed : goal.returns-then-not-formed
-returns-then-not-formed c = judge-form (pair_list c.args.pairs.now) (said-no c.formed.ensures c.if-not-formed.true)
+returns-then-not-formed c = judge-form (pair_list c.args.pairs.now) (said-no c.formed.ensures (ap not c.if-not-formed.true))
 
 pub count-requires : goal.count-requires
-count-requires c = said-yes c.formed.ensures c.if-not-formed.false
+count-requires c = said-yes c.formed.ensures (ap not c.if-not-formed.false)
 
 pub returns-then-count-gt-PAIRS_MOST : goal.returns-then-count-gt-PAIRS_MOST
-returns-then-count-gt-PAIRS_MOST c = judge-many (pair_list c.args.pairs.now) (said-yes c.formed.ensures c.if-not-formed.false) (omega (arith, c.count.ensures))
+returns-then-count-gt-PAIRS_MOST c = judge-many (pair_list c.args.pairs.now) (said-yes c.formed.ensures (ap not c.if-not-formed.false)) (omega (arith, c.count.ensures))
 
 pub all_distinct-requires : goal.all_distinct-requires
-all_distinct-requires c = said-yes c.formed.ensures c.if-not-formed.false
+all_distinct-requires c = said-yes c.formed.ensures (ap not c.if-not-formed.false)
 
 pub returns : goal.returns
 returns c =
-    judge-keys (pair_list c.args.pairs.now) (said-yes c.formed.ensures c.if-not-formed.false)
+    judge-keys (pair_list c.args.pairs.now) (said-yes c.formed.ensures (ap not c.if-not-formed.false))
     (omega (arith, c.count.ensures)) c.all_distinct.result c.all_distinct.ensures

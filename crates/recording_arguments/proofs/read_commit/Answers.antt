@@ -14,7 +14,7 @@ returns-in_default c =
     let a = c.args in
     let s = a.s.now in
     let n = c.number_field in
-    (no-head number numbers packed (drop a.at s) (ap (number_meant s) (sym c.enum_told-1.given.1) ∙ n.ensures), omega arith)
+    (no-head number numbers packed (drop a.at s) (ap (number_meant s) (sym c.in_default.is) ∙ n.ensures), omega arith)
 
 pub returns-in_default-numbers_field : goal.returns-in_default-numbers_field
 returns-in_default-numbers_field c =
@@ -24,7 +24,7 @@ returns-in_default-numbers_field c =
     let g = c.upload-1.given in
     let e = ap (number_meant s) (sym g.1) ∙ n.ensures in
     let w = c.numbers_field in
-    (no-tail number numbers packed (drop a.at s) g.0.0 (drop g.0.1.0 s) e (ap (string_meant s w.new.out) (sym c.enum_told-in_default-numbers_field-1.given.1) ∙ w.ensures.0), omega arith)
+    (no-tail number numbers packed (drop a.at s) g.0.0 (drop g.0.1.0 s) e (ap (string_meant s w.new.out) (sym c.in_default-numbers_field.is) ∙ w.ensures.0), omega arith)
 
 pub returns : goal.returns
 returns c =

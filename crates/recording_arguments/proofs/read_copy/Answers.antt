@@ -13,7 +13,7 @@ pub returns-in_default : goal.returns-in_default
 returns-in_default c =
     let a = c.args in
     let s = a.s.now in
-    (no-first number (both string string) (drop a.at s) (ap (number_meant s) (sym c.enum_told-1.given.1) ∙ c.number_field.ensures), tt)
+    (no-first number (both string string) (drop a.at s) (ap (number_meant s) (sym c.in_default.is) ∙ c.number_field.ensures), tt)
 
 pub returns-in_default-string_field : goal.returns-in_default-string_field
 returns-in_default-string_field c =
@@ -23,7 +23,7 @@ returns-in_default-string_field c =
     let e = ap (number_meant s) (sym g.1) ∙ c.number_field.ensures in
     let w = c.string_field in (
       no_second number (both string string) (drop a.at s) g.0.0 (drop g.0.1.0 s) e
-          (no-first string string (drop g.0.1.0 s) (ap (string_meant s w.new.out) (sym c.enum_told-in_default-string_field-1.given.1) ∙ w.ensures.0)),
+          (no-first string string (drop g.0.1.0 s) (ap (string_meant s w.new.out) (sym c.in_default-string_field.is) ∙ w.ensures.0)),
       tt,
     )
 
@@ -38,7 +38,7 @@ returns-in_default-string_field-2 c =
     let f = ap (string_meant s w.new.out) (sym h.1) ∙ w.ensures.0 in
     let v = c.string_field-2 in (
       no_second number (both string string) (drop a.at s) g.0.0 (drop g.0.1.0 s) e
-          (no_second string string (drop g.0.1.0 s) (take h.0.0 w.new.out) (drop h.0.1.0 s) f (ap (string_meant s v.new.out) (sym c.enum_told-in_default-string_field-2-1.given.1) ∙ v.ensures.0)),
+          (no_second string string (drop g.0.1.0 s) (take h.0.0 w.new.out) (drop h.0.1.0 s) f (ap (string_meant s v.new.out) (sym c.in_default-string_field-2.is) ∙ v.ensures.0)),
       tt,
     )
 

@@ -20,7 +20,7 @@ pub returns-in_default : goal.returns-in_default
 returns-in_default c =
     let a = c.args in
     let s = a.s.now in
-    (no-head number (both string pairs) (map_second packed_pairs) (drop a.at s) (ap (number_meant s) (sym c.enum_told-1.given.1) ∙ c.number_field.ensures), tt)
+    (no-head number (both string pairs) (map_second packed_pairs) (drop a.at s) (ap (number_meant s) (sym c.in_default.is) ∙ c.number_field.ensures), tt)
 
 -- src/lib.rt:185:9
 pub returns-in_default-string_field : goal.returns-in_default-string_field
@@ -31,7 +31,7 @@ returns-in_default-string_field c =
     let e = ap (number_meant s) (sym g.1) ∙ c.number_field.ensures in
     let w = c.string_field in (
       no-tail number (both string pairs) (map_second packed_pairs) (drop a.at s) g.0.0 (drop g.0.1.0 s) e
-          (no-head string pairs packed_pairs (drop g.0.1.0 s) (ap (string_meant s w.new.out) (sym c.enum_told-in_default-string_field-1.given.1) ∙ w.ensures.0)),
+          (no-head string pairs packed_pairs (drop g.0.1.0 s) (ap (string_meant s w.new.out) (sym c.in_default-string_field.is) ∙ w.ensures.0)),
       tt,
     )
 
@@ -47,7 +47,7 @@ returns-in_default-read_pairs c =
     let f = ap (string_meant s w.new.out) (sym h.1) ∙ w.ensures.0 in
     let v = c.read_pairs in (
       no-tail number (both string pairs) (map_second packed_pairs) (drop a.at s) g.0.0 (drop g.0.1.0 s) e
-          (no-tail string pairs packed_pairs (drop g.0.1.0 s) (take h.0.0 w.new.out) (drop h.0.1.0 s) f (ap (string_meant s v.new.out) (sym c.enum_told-in_default-read_pairs-1.given.1) ∙ v.ensures.0)),
+          (no-tail string pairs packed_pairs (drop g.0.1.0 s) (take h.0.0 w.new.out) (drop h.0.1.0 s) f (ap (string_meant s v.new.out) (sym c.in_default-read_pairs.is) ∙ v.ensures.0)),
       tt,
     )
 

@@ -13,7 +13,7 @@ returns-in_default c =
     let a = c.args in
     let s = a.s.now in
     let w = c.string_field in
-    (no-first string string (drop a.at s) (ap (string_meant s w.new.out) (sym c.enum_told-1.given.1) ∙ w.ensures.0), tt)
+    (no-first string string (drop a.at s) (ap (string_meant s w.new.out) (sym c.in_default.is) ∙ w.ensures.0), tt)
 
 pub returns-in_default-string_field : goal.returns-in_default-string_field
 returns-in_default-string_field c =
@@ -24,7 +24,7 @@ returns-in_default-string_field c =
     let e = ap (string_meant s w.new.out) (sym g.1) ∙ w.ensures.0 in
     let x = take g.0.0 w.new.out in
     let v = c.string_field-2 in
-    (no_second string string (drop a.at s) x (drop g.0.1.0 s) e (ap (string_meant s v.new.out) (sym c.enum_told-in_default-string_field-1.given.1) ∙ v.ensures.0), tt)
+    (no_second string string (drop a.at s) x (drop g.0.1.0 s) e (ap (string_meant s v.new.out) (sym c.in_default-string_field.is) ∙ v.ensures.0), tt)
 
 pub returns : goal.returns
 returns c =

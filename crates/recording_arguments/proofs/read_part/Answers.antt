@@ -17,7 +17,7 @@ pub returns-in_default : goal.returns-in_default
 returns-in_default c =
     let a = c.args in
     let s = a.s.now in
-    (no-first number (both number string) (drop a.at s) (ap (number_meant s) (sym c.enum_told-1.given.1) ∙ c.number_field.ensures), omega arith)
+    (no-first number (both number string) (drop a.at s) (ap (number_meant s) (sym c.in_default.is) ∙ c.number_field.ensures), omega arith)
 
 -- src/lib.rt:227:9
 pub returns-in_default-number_field : goal.returns-in_default-number_field
@@ -27,7 +27,7 @@ returns-in_default-number_field c =
     let g = c.upload-1.given in
     let e = ap (number_meant s) (sym g.1) ∙ c.number_field.ensures in (
       no_second number (both number string) (drop a.at s) g.0.0 (drop g.0.1.0 s) e
-          (no-first number string (drop g.0.1.0 s) (ap (number_meant s) (sym c.enum_told-in_default-number_field-1.given.1) ∙ c.number_field-2.ensures)),
+          (no-first number string (drop g.0.1.0 s) (ap (number_meant s) (sym c.in_default-number_field.is) ∙ c.number_field-2.ensures)),
       omega arith,
     )
 
@@ -42,7 +42,7 @@ returns-in_default-string_field c =
     let f = ap (number_meant s) (sym h.1) ∙ c.number_field-2.ensures in
     let v = c.string_field in (
       no_second number (both number string) (drop a.at s) g.0.0 (drop g.0.1.0 s) e
-          (no_second number string (drop g.0.1.0 s) h.0.0 (drop h.0.1.0 s) f (ap (string_meant s v.new.out) (sym c.enum_told-in_default-string_field-1.given.1) ∙ v.ensures.0)),
+          (no_second number string (drop g.0.1.0 s) h.0.0 (drop h.0.1.0 s) f (ap (string_meant s v.new.out) (sym c.in_default-string_field.is) ∙ v.ensures.0)),
       omega arith,
     )
 

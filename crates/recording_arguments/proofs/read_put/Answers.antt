@@ -18,7 +18,7 @@ returns-in_default c =
     let a = c.args in
     let s = a.s.now in
     let w = c.read_copy in
-    (no-three number string string pairs packed_pairs (drop a.at s) (ap (copy_meant s w.new.source w.new.destination) (sym c.enum_told-1.given.1) ∙ w.ensures.0), tt)
+    (no-three number string string pairs packed_pairs (drop a.at s) (ap (copy_meant s w.new.source w.new.destination) (sym c.in_default.is) ∙ w.ensures.0), tt)
 
 pub returns-in_default-read_pairs : goal.returns-in_default-read_pairs
 returns-in_default-read_pairs c =
@@ -30,7 +30,7 @@ returns-in_default-read_pairs c =
     let m = drop g.0.1.1.1.0 s in
     let e = ap (copy_meant s w.new.source w.new.destination) (sym g.1) ∙ w.ensures.0 in
     let v = c.read_pairs in
-    (no_last number string string pairs packed_pairs (drop a.at s) x m e (ap (string_meant s v.new.out) (sym c.enum_told-in_default-read_pairs-1.given.1) ∙ v.ensures.0), tt)
+    (no_last number string string pairs packed_pairs (drop a.at s) x m e (ap (string_meant s v.new.out) (sym c.in_default-read_pairs.is) ∙ v.ensures.0), tt)
 
 pub returns : goal.returns
 returns c =

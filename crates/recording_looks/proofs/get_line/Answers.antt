@@ -1,4 +1,5 @@
 -- `recording_looks::get_line` meets its contract. Assumes nothing.
+use mathlib.Core.Bool.{not}
 use native.Mathlib.Omega.{arith}
 use Rattle.recording_line.proofs.Lines.{no_line, a-line}
 use Rattle.recording_read.specs.Meant.{string_meant, string_length}
@@ -21,7 +22,7 @@ returns-in_default c =
     let b = buffers a.answer.now a.pairs.now in
     let w = c.string_field in
     let o = w.new.out in
-    no_line a.answer.now a.pairs.now b c.refusal.result (whole-none entry.get string (drop a.at l) (sym (ap (string_meant l o) (sym c.enum_told-1.given.1) ∙ w.ensures.0))) c.refusal.ensures
+    no_line a.answer.now a.pairs.now b c.refusal.result (whole-none entry.get string (drop a.at l) (sym (ap (string_meant l o) (sym c.in_default.is) ∙ w.ensures.0))) c.refusal.ensures
 
 pub returns-then-not-ends_line : goal.returns-then-not-ends_line
 unfolding path_rest
@@ -35,10 +36,10 @@ returns-then-not-ends_line c =
     let e = ap (string_meant l o) (sym g.1) ∙ w.ensures.0 in
     let p = take g.0.0 o in
     let rest = drop g.0.1.0 l in
-    no_line a.answer.now a.pairs.now b c.refusal-then-not-ends_line.result (whole_open entry.get string (drop a.at l) p rest (sym e) (said-no c.ends_line.ensures c.if-not-ends_line.true)) c.refusal-then-not-ends_line.ensures
+    no_line a.answer.now a.pairs.now b c.refusal-then-not-ends_line.result (whole_open entry.get string (drop a.at l) p rest (sym e) (said-no c.ends_line.ensures (ap not c.if-not-ends_line.true))) c.refusal-then-not-ends_line.ensures
 
 pub slice_bounds-path-end : goal.slice_bounds-path-end
-slice_bounds-path-end c = omega (arith, ap string_length (sym c.len-1.given.1), c.string_field.ensures.1)
+slice_bounds-path-end c = omega (arith, ap string_length (sym c.in-Got.is), c.string_field.ensures.1)
 
 pub slice_bounds-get-end : goal.slice_bounds-get-end
 slice_bounds-get-end c =
@@ -58,4 +59,4 @@ returns c =
     let e = ap (string_meant l o) (sym g.1) ∙ w.ensures.0 in
     let p = take g.0.0 o in
     let rest = drop g.0.1.0 l in
-    a-line a.answer.now a.pairs.now b (entry.get p) (whole-form entry.get string (drop a.at l) p rest (sym e) (said-yes c.ends_line.ensures c.if-not-ends_line.false)) c.get.ensures
+    a-line a.answer.now a.pairs.now b (entry.get p) (whole-form entry.get string (drop a.at l) p rest (sym e) (said-yes c.ends_line.ensures (ap not c.if-not-ends_line.false))) c.get.ensures

@@ -1,4 +1,5 @@
 -- `recording_looks::list_line` meets its contract. Assumes nothing.
+use mathlib.Core.Bool.{not}
 use native.Mathlib.Omega.{arith}
 use Rattle.recording_line.proofs.Lines.{no_line, a-line}
 use Rattle.recording_arguments.specs.declared.ListRead.{ListRead}
@@ -28,7 +29,7 @@ returns-in_default c =
     let x = w.new.prefix in
     let y = w.new.suffix in
     let m : Bytes × Bytes → Entry = λ a. entry.list a.0 a.1 in
-    λ q. no_line a.answer.now q o₂ c.refusal.result (whole-none m (both string string) (drop a.at l) (sym (ap (list_meant l x y) (sym c.enum_told-1.given.1) ∙ w.ensures.0))) c.refusal.ensures
+    λ q. no_line a.answer.now q o₂ c.refusal.result (whole-none m (both string string) (drop a.at l) (sym (ap (list_meant l x y) (sym c.in_default.is) ∙ w.ensures.0))) c.refusal.ensures
 
 pub returns-then-not-ends_line : goal.returns-then-not-ends_line
 unfolding list_rest
@@ -44,7 +45,7 @@ returns-then-not-ends_line c =
     let e = ap (list_meant l x y) (sym g.1) ∙ w.ensures.0 in
     let v : Bytes × Bytes = (take g.0.0 x, take g.0.1.0 y) in
     let rest = drop g.0.1.1.0 l in
-    λ q. no_line a.answer.now q o₂ c.refusal-then-not-ends_line.result (whole_open m (both string string) (drop a.at l) v rest (sym e) (said-no c.ends_line.ensures c.if-not-ends_line.true)) c.refusal-then-not-ends_line.ensures
+    λ q. no_line a.answer.now q o₂ c.refusal-then-not-ends_line.result (whole_open m (both string string) (drop a.at l) v rest (sym e) (said-no c.ends_line.ensures (ap not c.if-not-ends_line.true))) c.refusal-then-not-ends_line.ensures
 
 pub slice_bounds-p-end : goal.slice_bounds-p-end
 slice_bounds-p-end c =
@@ -88,4 +89,4 @@ returns c =
     let e = ap (list_meant l x y) (sym g.1) ∙ w.ensures.0 in
     let v : Bytes × Bytes = (take g.0.0 x, take g.0.1.0 y) in
     let rest = drop g.0.1.1.0 l in
-    λ q. a-line a.answer.now q o₂ (m v) (whole-form m (both string string) (drop a.at l) v rest (sym e) (said-yes c.ends_line.ensures c.if-not-ends_line.false)) c.list.ensures
+    λ q. a-line a.answer.now q o₂ (m v) (whole-form m (both string string) (drop a.at l) v rest (sym e) (said-yes c.ends_line.ensures (ap not c.if-not-ends_line.false))) c.list.ensures

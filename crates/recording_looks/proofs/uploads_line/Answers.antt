@@ -1,4 +1,5 @@
 -- `recording_looks::uploads_line` meets its contract. Assumes nothing.
+use mathlib.Core.Bool.{not}
 use native.Mathlib.Omega.{arith}
 use Rattle.recording_line.proofs.Lines.{no_line, a-line}
 use Rattle.recording_read.specs.Meant.{string_meant, string_length}
@@ -22,7 +23,7 @@ returns-in_default c =
     let o₂ = buffers a.answer.now [] in
     let w = c.string_field in
     let o = w.new.out in
-    λ q. no_line a.answer.now q o₂ c.refusal.result (whole-none entry.uploads string (drop a.at l) (sym (ap (string_meant l o) (sym c.enum_told-1.given.1) ∙ w.ensures.0))) c.refusal.ensures
+    λ q. no_line a.answer.now q o₂ c.refusal.result (whole-none entry.uploads string (drop a.at l) (sym (ap (string_meant l o) (sym c.in_default.is) ∙ w.ensures.0))) c.refusal.ensures
 
 pub returns-then-not-ends_line : goal.returns-then-not-ends_line
 unfolding path_rest
@@ -36,10 +37,10 @@ returns-then-not-ends_line c =
     let e = ap (string_meant l o) (sym g.1) ∙ w.ensures.0 in
     let p = take g.0.0 o in
     let rest = drop g.0.1.0 l in
-    λ q. no_line a.answer.now q o₂ c.refusal-then-not-ends_line.result (whole_open entry.uploads string (drop a.at l) p rest (sym e) (said-no c.ends_line.ensures c.if-not-ends_line.true)) c.refusal-then-not-ends_line.ensures
+    λ q. no_line a.answer.now q o₂ c.refusal-then-not-ends_line.result (whole_open entry.uploads string (drop a.at l) p rest (sym e) (said-no c.ends_line.ensures (ap not c.if-not-ends_line.true))) c.refusal-then-not-ends_line.ensures
 
 pub slice_bounds-path-end : goal.slice_bounds-path-end
-slice_bounds-path-end c = omega (arith, ap string_length (sym c.len-1.given.1), c.string_field.ensures.1)
+slice_bounds-path-end c = omega (arith, ap string_length (sym c.in-Got.is), c.string_field.ensures.1)
 
 pub slice_bounds-uploads-end : goal.slice_bounds-uploads-end
 slice_bounds-uploads-end c =
@@ -59,4 +60,4 @@ returns c =
     let e = ap (string_meant l o) (sym g.1) ∙ w.ensures.0 in
     let p = take g.0.0 o in
     let rest = drop g.0.1.0 l in
-    λ q. a-line a.answer.now q o₂ (entry.uploads p) (whole-form entry.uploads string (drop a.at l) p rest (sym e) (said-yes c.ends_line.ensures c.if-not-ends_line.false)) c.uploads.ensures
+    λ q. a-line a.answer.now q o₂ (entry.uploads p) (whole-form entry.uploads string (drop a.at l) p rest (sym e) (said-yes c.ends_line.ensures (ap not c.if-not-ends_line.false))) c.uploads.ensures

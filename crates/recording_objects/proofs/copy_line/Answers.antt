@@ -1,4 +1,5 @@
 -- `recording_objects::copy_line` meets its contract. Assumes nothing.
+use mathlib.Core.Bool.{not}
 use native.Mathlib.Omega.{arith}
 use Rattle.recording_line.proofs.Lines.{no_line, a-line}
 use Rattle.recording_arguments.specs.declared.CopyRead.{CopyRead}
@@ -27,7 +28,7 @@ returns-in_default c =
     let x = w.new.source in
     let y = w.new.destination in
     let m : ℕ × (Bytes × Bytes) → Entry = λ a. entry.copy a.0 a.1.0 a.1.1 in
-    λ b q. no_line b q no_buffers c.refusal.result (whole-none m (both number (both string string)) (drop a.at l) (sym (ap (copy_meant l x y) (sym c.enum_told-1.given.1) ∙ w.ensures.0))) c.refusal.ensures
+    λ b q. no_line b q no_buffers c.refusal.result (whole-none m (both number (both string string)) (drop a.at l) (sym (ap (copy_meant l x y) (sym c.in_default.is) ∙ w.ensures.0))) c.refusal.ensures
 
 pub returns-then-not-ends_line : goal.returns-then-not-ends_line
 unfolding copy_rest
@@ -42,7 +43,7 @@ returns-then-not-ends_line c =
     let e = ap (copy_meant l x y) (sym g.1) ∙ w.ensures.0 in
     let v : ℕ × (Bytes × Bytes) = (g.0.0, (take g.0.1.0 x, take g.0.1.1.0 y)) in
     let rest = drop g.0.1.1.1.0 l in
-    λ b q. no_line b q no_buffers c.refusal-then-not-ends_line.result (whole_open m (both number (both string string)) (drop a.at l) v rest (sym e) (said-no c.ends_line.ensures c.if-not-ends_line.true)) c.refusal-then-not-ends_line.ensures
+    λ b q. no_line b q no_buffers c.refusal-then-not-ends_line.result (whole_open m (both number (both string string)) (drop a.at l) v rest (sym e) (said-no c.ends_line.ensures (ap not c.if-not-ends_line.true))) c.refusal-then-not-ends_line.ensures
 
 pub slice_bounds-p-end : goal.slice_bounds-p-end
 slice_bounds-p-end c =
@@ -85,4 +86,4 @@ returns c =
     let e = ap (copy_meant l x y) (sym g.1) ∙ w.ensures.0 in
     let v : ℕ × (Bytes × Bytes) = (g.0.0, (take g.0.1.0 x, take g.0.1.1.0 y)) in
     let rest = drop g.0.1.1.1.0 l in
-    λ b q. a-line b q no_buffers (m v) (whole-form m (both number (both string string)) (drop a.at l) v rest (sym e) (said-yes c.ends_line.ensures c.if-not-ends_line.false)) c.copy.ensures.0
+    λ b q. a-line b q no_buffers (m v) (whole-form m (both number (both string string)) (drop a.at l) v rest (sym e) (said-yes c.ends_line.ensures (ap not c.if-not-ends_line.false))) c.copy.ensures.0

@@ -1,4 +1,5 @@
 -- `recording_objects::delete_line` meets its contract. Assumes nothing.
+use mathlib.Core.Bool.{not}
 use native.Mathlib.Omega.{arith}
 use borrow.Author.Rules.{rules}
 use mathlib.Core.Path.{sym, ap, ◌∙◌}
@@ -18,7 +19,7 @@ unfolding path_rest
 returns-in_default c =
     let a = c.args in
     let w = c.string_field in
-    let e = ap (string_meant a.line.now w.new.out) (sym c.enum_told-1.given.1) ∙ w.ensures.0 in
+    let e = ap (string_meant a.line.now w.new.out) (sym c.in_default.is) ∙ w.ensures.0 in
     λ x y. no_line x y no_buffers c.refusal.result (whole-none entry.delete string (drop a.at a.line.now) (sym e)) c.refusal.ensures
 
 pub returns-then-not-ends_line : goal.returns-then-not-ends_line
@@ -30,11 +31,11 @@ returns-then-not-ends_line c =
     let e = ap (string_meant a.line.now w.new.out) (sym g.1) ∙ w.ensures.0 in
     λ x y. no_line x y no_buffers c.refusal-then-not-ends_line.result
     (whole_open entry.delete string (drop a.at a.line.now) (take g.0.0 w.new.out) (drop g.0.1.0 a.line.now) (sym e)
-    (said-no c.ends_line.ensures c.if-not-ends_line.true))
+    (said-no c.ends_line.ensures (ap not c.if-not-ends_line.true)))
     c.refusal-then-not-ends_line.ensures
 
 pub slice_bounds-path-end : goal.slice_bounds-path-end
-slice_bounds-path-end c = omega (arith, ap string_length (sym c.len-1.given.1), c.string_field.ensures.1)
+slice_bounds-path-end c = omega (arith, ap string_length (sym c.in-Got.is), c.string_field.ensures.1)
 
 pub slice_bounds-delete-end : goal.slice_bounds-delete-end
 slice_bounds-delete-end c =
@@ -51,5 +52,5 @@ returns c =
     let e = ap (string_meant a.line.now w.new.out) (sym g.1) ∙ w.ensures.0 in
     λ x y. a-line x y no_buffers (entry.delete (take g.0.0 w.new.out))
     (whole-form entry.delete string (drop a.at a.line.now) (take g.0.0 w.new.out) (drop g.0.1.0 a.line.now) (sym e)
-    (said-yes c.ends_line.ensures c.if-not-ends_line.false))
+    (said-yes c.ends_line.ensures (ap not c.if-not-ends_line.false)))
     c.delete.ensures.0

@@ -1,4 +1,5 @@
 -- `recording_objects::put_line` meets its contract. Assumes nothing.
+use mathlib.Core.Bool.{not}
 use native.Mathlib.Omega.{arith}
 use Rattle.recording_objects.proofs.Forms.{no-put, open-put, a-put}
 use Rattle.recording_line.proofs.Lines.{no_line}
@@ -20,7 +21,7 @@ returns-in_default c =
     let x = w.new.path in
     let y = w.new.content in
     let z = w.new.pairs in
-    λ b q. no_line b q no_buffers c.refusal.result (no-put (drop a.at l) (ap (put_meant l x y z) (sym c.enum_told-1.given.1) ∙ w.ensures.0)) c.refusal.ensures
+    λ b q. no_line b q no_buffers c.refusal.result (no-put (drop a.at l) (ap (put_meant l x y z) (sym c.in_default.is) ∙ w.ensures.0)) c.refusal.ensures
 
 pub returns-then-not-ends_line : goal.returns-then-not-ends_line
 returns-then-not-ends_line c =
@@ -36,7 +37,7 @@ returns-then-not-ends_line c =
     let d = take g.0.1.1.0 y in
     let m = take g.0.1.1.1.0 z in
     let rest = drop g.0.1.1.1.1.0 l in
-    λ b q. no_line b q no_buffers c.refusal-then-not-ends_line.result (open-put (drop a.at l) g.0.0 p d m rest e (said-no c.ends_line.ensures c.if-not-ends_line.true)) c.refusal-then-not-ends_line.ensures
+    λ b q. no_line b q no_buffers c.refusal-then-not-ends_line.result (open-put (drop a.at l) g.0.0 p d m rest e (said-no c.ends_line.ensures (ap not c.if-not-ends_line.true))) c.refusal-then-not-ends_line.ensures
 
 pub slice_bounds-p-end : goal.slice_bounds-p-end
 slice_bounds-p-end c =
@@ -94,4 +95,4 @@ returns c =
     let d = take g.0.1.1.0 y in
     let m = take g.0.1.1.1.0 z in
     let rest = drop g.0.1.1.1.1.0 l in
-    a-put (drop a.at l) g.0.0 p d m rest e (said-yes c.ends_line.ensures c.if-not-ends_line.false) c.put.ensures.0
+    a-put (drop a.at l) g.0.0 p d m rest e (said-yes c.ends_line.ensures (ap not c.if-not-ends_line.false)) c.put.ensures.0

@@ -1,4 +1,5 @@
 -- `recording_uploads::abort_line` meets its contract. Assumes nothing.
+use mathlib.Core.Bool.{not}
 use borrow.Author.Rules.{rules}
 use mathlib.Core.Path.{sym, ap, ◌∙◌}
 use lib.ListN.{drop}
@@ -17,7 +18,7 @@ unfolding abort_rest
 returns-in_default c =
     let a = c.args in
     let l = drop a.at a.line.now in
-    let e = ap (number_meant a.line.now) (sym c.enum_told-1.given.1) ∙ c.number_field.ensures in
+    let e = ap (number_meant a.line.now) (sym c.in_default.is) ∙ c.number_field.ensures in
     λ x y. no_line x y no_buffers c.refusal.result (whole-none entry.abort number l (sym e)) c.refusal.ensures
 
 pub returns-then-not-ends_line : goal.returns-then-not-ends_line
@@ -28,7 +29,7 @@ returns-then-not-ends_line c =
     let g = c.value-1.given in
     let e = ap (number_meant a.line.now) (sym g.1) ∙ c.number_field.ensures in
     let rest = drop g.0.1.0 a.line.now in
-    λ x y. no_line x y no_buffers c.refusal-then-not-ends_line.result (whole_open entry.abort number l g.0.0 rest (sym e) (said-no c.ends_line.ensures c.if-not-ends_line.true)) c.refusal-then-not-ends_line.ensures
+    λ x y. no_line x y no_buffers c.refusal-then-not-ends_line.result (whole_open entry.abort number l g.0.0 rest (sym e) (said-no c.ends_line.ensures (ap not c.if-not-ends_line.true))) c.refusal-then-not-ends_line.ensures
 
 pub returns-then-value-gt4294967295 : goal.returns-then-value-gt4294967295
 unfolding abort_rest
@@ -39,7 +40,7 @@ returns-then-value-gt4294967295 c =
     let e = ap (number_meant a.line.now) (sym g.1) ∙ c.number_field.ensures in
     let rest = drop g.0.1.0 a.line.now in
     let m = wide-abort a.tables.now a.arena.now (λ i. (c.slice_known-1.given i).fits) g.0.0 c.if-value-gt4294967295.true in
-    λ x y. a-line x y no_buffers (entry.abort g.0.0) (whole-form entry.abort number l g.0.0 rest (sym e) (said-yes c.ends_line.ensures c.if-not-ends_line.false))
+    λ x y. a-line x y no_buffers (entry.abort g.0.0) (whole-form entry.abort number l g.0.0 rest (sym e) (said-yes c.ends_line.ensures (ap not c.if-not-ends_line.false)))
     (by_number c.refusal-then-value-gt4294967295.ensures m)
 
 pub returns : goal.returns
@@ -50,5 +51,5 @@ returns c =
     let g = c.value-1.given in
     let e = ap (number_meant a.line.now) (sym g.1) ∙ c.number_field.ensures in
     let rest = drop g.0.1.0 a.line.now in
-    λ x y. a-line x y no_buffers (entry.abort g.0.0) (whole-form entry.abort number l g.0.0 rest (sym e) (said-yes c.ends_line.ensures c.if-not-ends_line.false))
+    λ x y. a-line x y no_buffers (entry.abort g.0.0) (whole-form entry.abort number l g.0.0 rest (sym e) (said-yes c.ends_line.ensures (ap not c.if-not-ends_line.false)))
     c.abort.ensures.0

@@ -1,4 +1,5 @@
 -- `recording_uploads::commit_line` meets its contract. Assumes nothing.
+use mathlib.Core.Bool.{not}
 use native.Mathlib.Omega.{arith}
 use Rattle.recording_uploads.proofs.Forms.{no-commit, open-commit, a-commit, a-wide-commit}
 use Rattle.recording_line.proofs.Lines.{no_line}
@@ -17,7 +18,7 @@ returns-in_default c =
     let l = a.line.now in
     let w = c.read_commit in
     let o = w.new.list in
-    λ b q. no_line b q no_buffers c.refusal.result (no-commit (drop a.at l) (ap (commit_meant l o) (sym c.enum_told-1.given.1) ∙ w.ensures.0)) c.refusal.ensures
+    λ b q. no_line b q no_buffers c.refusal.result (no-commit (drop a.at l) (ap (commit_meant l o) (sym c.in_default.is) ∙ w.ensures.0)) c.refusal.ensures
 
 pub returns-then-not-ends_line : goal.returns-then-not-ends_line
 returns-then-not-ends_line c =
@@ -29,7 +30,7 @@ returns-then-not-ends_line c =
     let e = ap (commit_meant l o) (sym g.1) ∙ w.ensures.0 in
     let x = take g.0.1.0 o in
     let rest = drop g.0.1.1.0 l in
-    λ b q. no_line b q no_buffers c.refusal-then-not-ends_line.result (open-commit (drop a.at l) g.0.0 x rest e (said-no c.ends_line.ensures c.if-not-ends_line.true)) c.refusal-then-not-ends_line.ensures
+    λ b q. no_line b q no_buffers c.refusal-then-not-ends_line.result (open-commit (drop a.at l) g.0.0 x rest e (said-no c.ends_line.ensures (ap not c.if-not-ends_line.true))) c.refusal-then-not-ends_line.ensures
 
 pub returns-then-upload-gt4294967295 : goal.returns-then-upload-gt4294967295
 returns-then-upload-gt4294967295 c =
@@ -41,7 +42,7 @@ returns-then-upload-gt4294967295 c =
     let e = ap (commit_meant l o) (sym g.1) ∙ w.ensures.0 in
     let x = take g.0.1.0 o in
     let rest = drop g.0.1.1.0 l in
-    let q = said-yes c.ends_line.ensures c.if-not-ends_line.false in
+    let q = said-yes c.ends_line.ensures (ap not c.if-not-ends_line.false) in
     a-wide-commit (drop a.at l) g.0.0 x rest e a.tables.now a.arena.now (λ i. (c.slice_known-1.given i).fits) q c.if-upload-gt4294967295.true c.refusal-then-upload-gt4294967295.result c.refusal-then-upload-gt4294967295.ensures
 
 pub slice_bounds-parts-end : goal.slice_bounds-parts-end
@@ -66,5 +67,5 @@ returns c =
     let e = ap (commit_meant l o) (sym g.1) ∙ w.ensures.0 in
     let x = take g.0.1.0 o in
     let rest = drop g.0.1.1.0 l in
-    let q = said-yes c.ends_line.ensures c.if-not-ends_line.false in
+    let q = said-yes c.ends_line.ensures (ap not c.if-not-ends_line.false) in
     a-commit (drop a.at l) g.0.0 x rest e a.tables.now a.arena.now (λ i. (c.slice_known-1.given i).fits) q c.commit.ensures.0

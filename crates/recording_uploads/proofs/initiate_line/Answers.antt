@@ -1,4 +1,5 @@
 -- `recording_uploads::initiate_line` meets its contract. Assumes nothing.
+use mathlib.Core.Bool.{not}
 use native.Mathlib.Omega.{arith}
 use Rattle.recording_uploads.proofs.Forms.{no-initiate, open-initiate, a-initiate}
 use Rattle.recording_line.proofs.Lines.{no_line}
@@ -25,7 +26,7 @@ returns-in_default c =
     let w = c.read_initiate in
     let x = w.new.path in
     let y = w.new.pairs in
-    λ b q. no_line b q no_buffers c.refusal.result (no-initiate (drop a.at l) (ap (initiate_meant l x y) (sym c.enum_told-1.given.1) ∙ w.ensures.0)) c.refusal.ensures
+    λ b q. no_line b q no_buffers c.refusal.result (no-initiate (drop a.at l) (ap (initiate_meant l x y) (sym c.in_default.is) ∙ w.ensures.0)) c.refusal.ensures
 
 -- src/multipart.rt:43:9
 pub returns-then-not-ends_line : goal.returns-then-not-ends_line
@@ -40,12 +41,12 @@ returns-then-not-ends_line c =
     let p = take g.0.1.0 x in
     let m = take g.0.1.1.0 y in
     let rest = drop g.0.1.1.1.0 l in
-    λ b q. no_line b q no_buffers c.refusal-then-not-ends_line.result (open-initiate (drop a.at l) g.0.0 p m rest e (said-no c.ends_line.ensures c.if-not-ends_line.true)) c.refusal-then-not-ends_line.ensures
+    λ b q. no_line b q no_buffers c.refusal-then-not-ends_line.result (open-initiate (drop a.at l) g.0.0 p m rest e (said-no c.ends_line.ensures (ap not c.if-not-ends_line.true))) c.refusal-then-not-ends_line.ensures
 
 -- src/multipart.rt:49:54
 pub slice_bounds-p-end : goal.slice_bounds-p-end
 slice_bounds-p-end c =
-    let f = subst (λ (r : InitiateRead). InitiateFits r 2048 2048) c.stamp-1.given.1 c.read_initiate.ensures.1 in
+    let f = subst (λ (r : InitiateRead). InitiateFits r 2048 2048) c.in-Got.is c.read_initiate.ensures.1 in
     omega (arith, f.0)
 
 -- src/multipart.rt:49:54
@@ -59,7 +60,7 @@ slice_bounds-initiate-end c =
 -- src/multipart.rt:49:66
 pub slice_bounds-m-end : goal.slice_bounds-m-end
 slice_bounds-m-end c =
-    let f = subst (λ (r : InitiateRead). InitiateFits r 2048 2048) c.stamp-1.given.1 c.read_initiate.ensures.1 in
+    let f = subst (λ (r : InitiateRead). InitiateFits r 2048 2048) c.in-Got.is c.read_initiate.ensures.1 in
     omega (arith, f.1)
 
 -- src/multipart.rt:49:66
@@ -83,4 +84,4 @@ returns c =
     let p = take g.0.1.0 x in
     let m = take g.0.1.1.0 y in
     let rest = drop g.0.1.1.1.0 l in
-    a-initiate (drop a.at l) g.0.0 p m rest e (said-yes c.ends_line.ensures c.if-not-ends_line.false) c.initiate.ensures
+    a-initiate (drop a.at l) g.0.0 p m rest e (said-yes c.ends_line.ensures (ap not c.if-not-ends_line.false)) c.initiate.ensures

@@ -1,4 +1,5 @@
 -- `recording_uploads::part_line` meets its contract. Assumes nothing.
+use mathlib.Core.Bool.{not}
 use native.Mathlib.Omega.{arith}
 use Rattle.recording_uploads.proofs.Wide.{wide-upload, wide-number}
 use Rattle.recording_line.proofs.Lines.{no_line, a-line, by_number}
@@ -32,7 +33,7 @@ returns-in_default c =
     let w = c.read_part in
     let x = w.new.content in
     let m : ℕ × (ℕ × Bytes) → Entry = λ a. entry.part a.0 a.1.0 a.1.1 in
-    λ b q. no_line b q no_buffers c.refusal.result (whole-none m (both number (both number string)) (drop a.at l) (sym (ap (part_meant l x) (sym c.enum_told-1.given.1) ∙ w.ensures.0))) c.refusal.ensures
+    λ b q. no_line b q no_buffers c.refusal.result (whole-none m (both number (both number string)) (drop a.at l) (sym (ap (part_meant l x) (sym c.in_default.is) ∙ w.ensures.0))) c.refusal.ensures
 
 -- src/multipart.rt:75:9
 pub returns-then-not-ends_line : goal.returns-then-not-ends_line
@@ -47,7 +48,7 @@ returns-then-not-ends_line c =
     let e = ap (part_meant l x) (sym g.1) ∙ w.ensures.0 in
     let v : ℕ × (ℕ × Bytes) = (g.0.0, (g.0.1.0, take g.0.1.1.0 x)) in
     let rest = drop g.0.1.1.1.0 l in
-    λ b q. no_line b q no_buffers c.refusal-then-not-ends_line.result (whole_open m (both number (both number string)) (drop a.at l) v rest (sym e) (said-no c.ends_line.ensures c.if-not-ends_line.true)) c.refusal-then-not-ends_line.ensures
+    λ b q. no_line b q no_buffers c.refusal-then-not-ends_line.result (whole_open m (both number (both number string)) (drop a.at l) v rest (sym e) (said-no c.ends_line.ensures (ap not c.if-not-ends_line.true))) c.refusal-then-not-ends_line.ensures
 
 -- src/multipart.rt:82:9
 pub returns-then-upload-gt4294967295 : goal.returns-then-upload-gt4294967295
@@ -62,7 +63,7 @@ returns-then-upload-gt4294967295 c =
     let e = ap (part_meant l x) (sym g.1) ∙ w.ensures.0 in
     let v : ℕ × (ℕ × Bytes) = (g.0.0, (g.0.1.0, take g.0.1.1.0 x)) in
     let rest = drop g.0.1.1.1.0 l in
-    λ b q. a-line b q no_buffers (m v) (whole-form m (both number (both number string)) (drop a.at l) v rest (sym e) (said-yes c.ends_line.ensures c.if-not-ends_line.false))
+    λ b q. a-line b q no_buffers (m v) (whole-form m (both number (both number string)) (drop a.at l) v rest (sym e) (said-yes c.ends_line.ensures (ap not c.if-not-ends_line.false)))
     (by_number c.refusal-then-upload-gt4294967295.ensures (wide-upload a.tables.now a.arena.now (λ i. (c.slice_known-1.given i).fits) v.0 v.1.0 v.1.1 c.if-upload-gt4294967295.true))
 
 -- src/multipart.rt:85:9
@@ -78,12 +79,12 @@ returns-then-number-gt65535 c =
     let e = ap (part_meant l x) (sym g.1) ∙ w.ensures.0 in
     let v : ℕ × (ℕ × Bytes) = (g.0.0, (g.0.1.0, take g.0.1.1.0 x)) in
     let rest = drop g.0.1.1.1.0 l in
-    λ b q. a-line b q no_buffers (m v) (whole-form m (both number (both number string)) (drop a.at l) v rest (sym e) (said-yes c.ends_line.ensures c.if-not-ends_line.false))
+    λ b q. a-line b q no_buffers (m v) (whole-form m (both number (both number string)) (drop a.at l) v rest (sym e) (said-yes c.ends_line.ensures (ap not c.if-not-ends_line.false)))
     (by_number c.refusal-then-number-gt65535.ensures (wide-number a.tables.now a.arena.now (λ i. (c.slice_known-1.given i).fits) v.0 v.1.0 v.1.1 c.if-number-gt65535.true))
 
 -- src/multipart.rt:92:9
 pub slice_bounds-d-end : goal.slice_bounds-d-end
-slice_bounds-d-end c = omega (arith, ap part_length (sym c.upload-1.given.1), c.read_part.ensures.1)
+slice_bounds-d-end c = omega (arith, ap part_length (sym c.in-Got.is), c.read_part.ensures.1)
 
 -- src/multipart.rt:92:9
 pub slice_bounds-part-end : goal.slice_bounds-part-end
@@ -105,4 +106,4 @@ returns c =
     let e = ap (part_meant l x) (sym g.1) ∙ w.ensures.0 in
     let v : ℕ × (ℕ × Bytes) = (g.0.0, (g.0.1.0, take g.0.1.1.0 x)) in
     let rest = drop g.0.1.1.1.0 l in
-    λ b q. a-line b q no_buffers (m v) (whole-form m (both number (both number string)) (drop a.at l) v rest (sym e) (said-yes c.ends_line.ensures c.if-not-ends_line.false)) c.part.ensures
+    λ b q. a-line b q no_buffers (m v) (whole-form m (both number (both number string)) (drop a.at l) v rest (sym e) (said-yes c.ends_line.ensures (ap not c.if-not-ends_line.false))) c.part.ensures

@@ -4,13 +4,13 @@ use Rattle.base_md5.proofs.Choice.{first, second}
 use Rattle.base_md5.proofs.block.auxiliary.Goals as goal
 
 pub returns-in-First : goal.returns-in-First
-returns-in-First c = rw c.enum_told-1.given.1 (zero-add _ ∙ first c.args.x c.args.y c.args.z (search rules) (search rules))
+returns-in-First c = rw c.in-First.is (zero-add _ ∙ first c.args.x c.args.y c.args.z (search rules) (search rules))
 
 pub returns-in-Second : goal.returns-in-Second
-returns-in-Second c = rw c.enum_told-in-Second-1.given.1 (second c.args.x c.args.y c.args.z (search rules))
+returns-in-Second c = rw c.in-Second.is (second c.args.x c.args.y c.args.z (search rules))
 
 pub returns-in-Third : goal.returns-in-Third
-returns-in-Third c = rw c.enum_told-in-Third-1.given.1 (zero-add _)
+returns-in-Third c = rw c.in-Third.is (zero-add _)
 
 pub returns-in-Fourth : goal.returns-in-Fourth
-returns-in-Fourth c = rw c.enum_told-in-Fourth-1.given.1 (zero-add _)
+returns-in-Fourth c = rw c.in-Fourth.is (zero-add _)

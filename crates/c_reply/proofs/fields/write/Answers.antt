@@ -4,10 +4,10 @@ use borrow.Author.Rules.{rules}
 use Rattle.c_reply.proofs.fields.write.Goals as goal
 
 pub returns-in-Absent : goal.returns-in-Absent
-returns-in-Absent c = rw (c.enum_told-1.given.1, zero-digest) c.write_fields.ensures
+returns-in-Absent c = rw (c.in-Absent.is, zero-digest) c.write_fields.ensures
 
 pub returns-in-Plain : goal.returns-in-Plain
-returns-in-Plain c = rw c.etag-1.given.1 c.write_fields-in-Plain.ensures
+returns-in-Plain c = rw c.in-Plain.is c.write_fields-in-Plain.ensures
 
 pub returns-in-Joined : goal.returns-in-Joined
-returns-in-Joined c = rw c.etag-in-Joined-1.given.1 c.write_fields-in-Joined.ensures
+returns-in-Joined c = rw c.in-Joined.is c.write_fields-in-Joined.ensures

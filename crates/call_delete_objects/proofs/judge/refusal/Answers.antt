@@ -1,4 +1,6 @@
 -- `call_delete_objects::judge::refusal` meets its contract: whole, then the checks of the list. Assumes nothing.
+use mathlib.Core.Path.{ap}
+use mathlib.Core.Bool.{not}
 use mathlib.Core.Path.{◌≡◌}
 use borrow.Author.Rules.{rules}
 use borrow.Author.Tests.{eq-eqb, ne_eqb, le-leb, lt-leb}
@@ -9,32 +11,32 @@ use Rattle.call_delete_objects.proofs.Judging.{no_store, list-judged}
 use Rattle.call_delete_objects.proofs.judge.refusal.Goals as goal
 
 pub returns-then-not-whole : goal.returns-then-not-whole
-returns-then-not-whole c = no_store _ _ _ _ (said-no c.whole.ensures c.if-not-whole.true)
+returns-then-not-whole c = no_store _ _ _ _ (said-no c.whole.ensures (ap not c.if-not-whole.true))
 
 pub returns-then-count-gt-PLACES_MOST : goal.returns-then-count-gt-PLACES_MOST
 unfolding list_refusal
 returns-then-count-gt-PLACES_MOST c =
     let judged : (n : _) → n ≡ list_refusal c.args.count c.args.left c.args.results
-    → Judged c.args.count c.args.left c.args.results (memory c.args.tables.now c.args.arena.now) n = list-judged _ _ _ (memory c.args.tables.now c.args.arena.now) (λ j. (c.shared_slice_known-1.given j).fits) (said-yes c.whole.ensures c.if-not-whole.false) in
+    → Judged c.args.count c.args.left c.args.results (memory c.args.tables.now c.args.arena.now) n = list-judged _ _ _ (memory c.args.tables.now c.args.arena.now) (λ j. (c.shared_slice_known-1.given j).fits) (said-yes c.whole.ensures (ap not c.if-not-whole.false)) in
     judged 8 (rw (lt-leb _ 1000 c.if-count-gt-PLACES_MOST.true))
 
 pub returns-then-left-ne0 : goal.returns-then-left-ne0
 unfolding list_refusal
 returns-then-left-ne0 c =
     let judged : (n : _) → n ≡ list_refusal c.args.count c.args.left c.args.results
-    → Judged c.args.count c.args.left c.args.results (memory c.args.tables.now c.args.arena.now) n = list-judged _ _ _ (memory c.args.tables.now c.args.arena.now) (λ j. (c.shared_slice_known-1.given j).fits) (said-yes c.whole.ensures c.if-not-whole.false) in
+    → Judged c.args.count c.args.left c.args.results (memory c.args.tables.now c.args.arena.now) n = list-judged _ _ _ (memory c.args.tables.now c.args.arena.now) (λ j. (c.shared_slice_known-1.given j).fits) (said-yes c.whole.ensures (ap not c.if-not-whole.false)) in
     judged 2 (rw (le-leb _ 1000 c.if-count-gt-PLACES_MOST.false, ne_eqb _ 0 c.if-left-ne0.true))
 
 pub returns-then-results-count : goal.returns-then-results-count
 unfolding list_refusal
 returns-then-results-count c =
     let judged : (n : _) → n ≡ list_refusal c.args.count c.args.left c.args.results
-    → Judged c.args.count c.args.left c.args.results (memory c.args.tables.now c.args.arena.now) n = list-judged _ _ _ (memory c.args.tables.now c.args.arena.now) (λ j. (c.shared_slice_known-1.given j).fits) (said-yes c.whole.ensures c.if-not-whole.false) in
+    → Judged c.args.count c.args.left c.args.results (memory c.args.tables.now c.args.arena.now) n = list-judged _ _ _ (memory c.args.tables.now c.args.arena.now) (λ j. (c.shared_slice_known-1.given j).fits) (said-yes c.whole.ensures (ap not c.if-not-whole.false)) in
     judged 7 (rw (le-leb _ 1000 c.if-count-gt-PLACES_MOST.false, eq-eqb _ 0 c.if-left-ne0.false, lt-leb _ _ c.if-results-count.true))
 
 pub returns : goal.returns
 unfolding list_refusal
 returns c =
     let judged : (n : _) → n ≡ list_refusal c.args.count c.args.left c.args.results
-    → Judged c.args.count c.args.left c.args.results (memory c.args.tables.now c.args.arena.now) n = list-judged _ _ _ (memory c.args.tables.now c.args.arena.now) (λ j. (c.shared_slice_known-1.given j).fits) (said-yes c.whole.ensures c.if-not-whole.false) in
+    → Judged c.args.count c.args.left c.args.results (memory c.args.tables.now c.args.arena.now) n = list-judged _ _ _ (memory c.args.tables.now c.args.arena.now) (λ j. (c.shared_slice_known-1.given j).fits) (said-yes c.whole.ensures (ap not c.if-not-whole.false)) in
     judged 0 (rw (le-leb _ 1000 c.if-count-gt-PLACES_MOST.false, eq-eqb _ 0 c.if-left-ne0.false, le-leb _ _ c.if-results-count.false))

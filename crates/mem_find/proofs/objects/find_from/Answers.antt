@@ -1,4 +1,6 @@
 -- `mem_find::objects::find_from` meets its contract. The invariant: the paths of the rows passed are below the path. Assumes nothing.
+use mathlib.Core.Path.{ap}
+use mathlib.Core.Bool.{not}
 use Prim.Native.Nat.{ℕ, ◌+◌, ◌-◌, ◌≤◌, ◌<◌}
 use mathlib.Core.Path.{◌≡◌, ◌∙◌}
 use mathlib.Core.List.{List}
@@ -113,7 +115,7 @@ returns-then-not-is_below c =
     let turn : Turn (t) (a) (s) c.args.path.now c.loop-i.i c.loop-i.at c.loop-i.base c.read_head-h.result = object-turn (t) (a) (s) (stands) c.args.path.now c.loop-i.i c.loop-i.at c.loop-i.base c.loop-i.invariant (more) c.read_head-h.result c.read_head-h.ensures in
     let told : c.is_below.result ≡ is_below (take c.read_head-h.result.pathlen (drop (c.loop-i.at + head_length) (t))) c.args.path.now = rw add-sub_cancel_left at c.is_below.ensures in
     c.lookup_at.ensures
-    ∙ (turn).here c.equal-found.result (said-no (told) c.if-not-is_below.true) (rw add-sub_cancel_left at c.equal-found.ensures)
+    ∙ (turn).here c.equal-found.result (said-no (told) (ap not c.if-not-is_below.true)) (rw add-sub_cancel_left at c.equal-found.ensures)
 
 pub overflow_add-at : goal.overflow_add-at
 overflow_add-at c =
@@ -148,7 +150,7 @@ loop-i-preserved c =
     let more : c.loop-i.i < length (s).O = let n = c.loop-i-test.true in omega (arith, counted) in
     let turn : Turn (t) (a) (s) c.args.path.now c.loop-i.i c.loop-i.at c.loop-i.base c.read_head-h.result = object-turn (t) (a) (s) (stands) c.args.path.now c.loop-i.i c.loop-i.at c.loop-i.base c.loop-i.invariant (more) c.read_head-h.result c.read_head-h.ensures in
     let told : c.is_below.result ≡ is_below (take c.read_head-h.result.pathlen (drop (c.loop-i.at + head_length) (t))) c.args.path.now = rw add-sub_cancel_left at c.is_below.ensures in
-    rw c.span-at.ensures ((turn).on (said-yes (told) c.if-not-is_below.false))
+    rw c.span-at.ensures ((turn).on (said-yes (told) (ap not c.if-not-is_below.false)))
 
 pub returns : goal.returns
 returns c =

@@ -1,4 +1,6 @@
 -- `mem_find::objects::find_object` meets its contract. The invariant: the paths of the rows passed are below the path. Assumes nothing.
+use mathlib.Core.Path.{ap}
+use mathlib.Core.Bool.{not}
 use Prim.Native.Nat.{ℕ, ◌+◌, ◌-◌, ◌≤◌, ◌<◌}
 use mathlib.Core.Path.{◌≡◌, sym, ◌∙◌, subst}
 use mathlib.Core.List.{List}
@@ -119,7 +121,7 @@ returns-then-not-is_below c =
     let turn : Turn (t) (a) (s) c.args.path.now c.loop-i.i c.loop-i.at c.loop-i.base c.read_head-h.result = object-turn (t) (a) (s) (stands) c.args.path.now c.loop-i.i c.loop-i.at c.loop-i.base c.loop-i.invariant (more) c.read_head-h.result c.read_head-h.ensures in
     let told : c.is_below.result ≡ is_below (take c.read_head-h.result.pathlen (drop (c.loop-i.at + head_length) (t))) c.args.path.now = rw add-sub_cancel_left at c.is_below.ensures in
     c.lookup_at.ensures
-    ∙ (turn).here c.equal-found.result (said-no (told) c.if-not-is_below.true) (rw add-sub_cancel_left at c.equal-found.ensures)
+    ∙ (turn).here c.equal-found.result (said-no (told) (ap not c.if-not-is_below.true)) (rw add-sub_cancel_left at c.equal-found.ensures)
 
 pub overflow_add-base : goal.overflow_add-base
 overflow_add-base c =
@@ -145,7 +147,7 @@ loop-i-preserved c =
     let h = c.read_head-h.result in
     let next : c.loop-i.at + head_length + h.pathlen ≡ c.loop-i.at + span h = omega (arith, c.if-h-ne0.false) in
     subst (λ (n : ℕ). Passed (s) c.args.path.now (c.loop-i.i + 1) n (c.loop-i.base + h.size)) (sym next)
-    ((turn).on (said-yes (told) c.if-not-is_below.false))
+    ((turn).on (said-yes (told) (ap not c.if-not-is_below.false)))
 
 pub returns : goal.returns
 returns c =

@@ -14,7 +14,7 @@ use Rattle.mem_find.proofs.objects.find_two.Goals as goal
 pub find_from-requires : goal.find_from-requires
 find_from-requires c =
     let a = c.args in
-    let over = bytes.over a.first.now a.second.now (answer-greater _ (sym c.compare-o.ensures ∙ c.enum_told-1.given.1)) in (
+    let over = bytes.over a.first.now a.second.now (answer-greater _ (sym c.compare-o.ensures ∙ c.in-Greater.is)) in (
       c.requires,
       rw c.place_of.ensures (passed-lower _ a.second.now a.first.now c.find_object-low.result c.find_object-low.ensures (inl over)),
     )
@@ -22,7 +22,7 @@ find_from-requires c =
 pub find_from-requires-in-Less : goal.find_from-requires-in-Less
 find_from-requires-in-Less c =
     let a = c.args in
-    let under : by_bytes a.first.now a.second.now ≡ Ordering.lt = answer-less _ (sym c.compare-o.ensures ∙ c.enum_told-in-Less-1.given.1) in (
+    let under : by_bytes a.first.now a.second.now ≡ Ordering.lt = answer-less _ (sym c.compare-o.ensures ∙ c.in-Less.is) in (
       c.requires,
       rw c.place_of-in-Less.ensures (passed-lower _ a.first.now a.second.now c.find_object-low-in-Less.result c.find_object-low-in-Less.ensures (inl under)),
     )
@@ -30,5 +30,5 @@ find_from-requires-in-Less c =
 pub returns-in-Equal : goal.returns-in-Equal
 returns-in-Equal c =
     let a = c.args in
-    let alike : by_bytes a.first.now a.second.now ≡ Ordering.eq = answer-equal _ (sym c.compare-o.ensures ∙ c.enum_told-in-Equal-1.given.1) in
+    let alike : by_bytes a.first.now a.second.now ≡ Ordering.eq = answer-equal _ (sym c.compare-o.ensures ∙ c.in-Equal.is) in
     (c.find_object-low-in-Equal.ensures, c.find_object-low-in-Equal.ensures ∙ ap (object_place (state_of a.tables.now a.arena.now)) (bytes.alike _ _ alike))

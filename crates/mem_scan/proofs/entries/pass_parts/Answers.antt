@@ -28,8 +28,8 @@ overflow_add-at c =
     let tables : List ℕ = c.args.t.now in
     let content : List ℕ = c.args.arena.now in
     let here : Offset = record { at = c.loop-i.at; base = c.loop-i.base } in
-    let head : Head = c.h-1.given.0.0 in
-    let part : (reading_of (drop c.loop-i.at (tables)) (drop c.loop-i.base (content)) ≡ Full head) × (part_rule c.loop-i.after head ≡ true) = c.read_part.ensures head c.h-1.given.1 in
+    let head : Head = c.in-Full.h in
+    let part : (reading_of (drop c.loop-i.at (tables)) (drop c.loop-i.base (content)) ≡ Full head) × (part_rule c.loop-i.after head ≡ true) = c.read_part.ensures head c.in-Full.is in
     let ends : c.loop-i.at + head_length ≤ length (tables) = let l = row_in (tables) (content) (here) head part.0 in omega arith in
     omega (arith, ends)
 
@@ -38,8 +38,8 @@ overflow_add-base c =
     let tables : List ℕ = c.args.t.now in
     let content : List ℕ = c.args.arena.now in
     let here : Offset = record { at = c.loop-i.at; base = c.loop-i.base } in
-    let head : Head = c.h-1.given.0.0 in
-    let part : (reading_of (drop c.loop-i.at (tables)) (drop c.loop-i.base (content)) ≡ Full head) × (part_rule c.loop-i.after head ≡ true) = c.read_part.ensures head c.h-1.given.1 in
+    let head : Head = c.in-Full.h in
+    let part : (reading_of (drop c.loop-i.at (tables)) (drop c.loop-i.base (content)) ≡ Full head) × (part_rule c.loop-i.after head ≡ true) = c.read_part.ensures head c.in-Full.is in
     let data-ends : c.loop-i.base + head.size ≤ length (content) = data-in (tables) (content) (here) head part.0 (omega arith) in
     omega (arith, data-ends)
 
@@ -48,8 +48,8 @@ loop-i-preserved c =
     let tables : List ℕ = c.args.t.now in
     let content : List ℕ = c.args.arena.now in
     let here : Offset = record { at = c.loop-i.at; base = c.loop-i.base } in
-    let head : Head = c.h-1.given.0.0 in
-    let part : (reading_of (drop c.loop-i.at (tables)) (drop c.loop-i.base (content)) ≡ Full head) × (part_rule c.loop-i.after head ≡ true) = c.read_part.ensures head c.h-1.given.1 in
+    let head : Head = c.in-Full.h in
+    let part : (reading_of (drop c.loop-i.at (tables)) (drop c.loop-i.base (content)) ≡ Full head) × (part_rule c.loop-i.after head ≡ true) = c.read_part.ensures head c.in-Full.is in
     let ends : c.loop-i.at + head_length ≤ length (tables) = let l = row_in (tables) (content) (here) head part.0 in omega arith in
     let data-ends : c.loop-i.base + head.size ≤ length (content) = data-in (tables) (content) (here) head part.0 (omega arith) in
     let a = c.args in (

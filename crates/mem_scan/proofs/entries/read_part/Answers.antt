@@ -1,4 +1,6 @@
 -- `mem_scan::entries::read_part` meets its contract: a part's row is its head alone, so it fits where that does. Assumes nothing.
+use mathlib.Core.Path.{ap}
+use mathlib.Core.Bool.{not}
 use native.Mathlib.Omega.{arith}
 use Rattle.machine.proofs.Tests.{said-yes}
 use Rattle.mem_scan.proofs.Readings.{part-fits}
@@ -17,4 +19,4 @@ returns-then-arena-base c = λ h e. (cc, cc)
 pub returns : goal.returns
 returns c =
     let a = c.args in
-    part-fits a.m _ (said-yes c.part_ok.ensures c.if-not-part_ok.false) a.t.now a.at a.arena.now a.base c.read_head-h.ensures (omega arith) (omega arith)
+    part-fits a.m _ (said-yes c.part_ok.ensures (ap not c.if-not-part_ok.false)) a.t.now a.at a.arena.now a.base c.read_head-h.ensures (omega arith) (omega arith)

@@ -1,4 +1,6 @@
 -- `mem_scan::entries::scan_entries` meets its contract. The invariant: the scan of all rows is the scan of those not yet passed. Assumes nothing.
+use mathlib.Core.Path.{ap}
+use mathlib.Core.Bool.{not}
 use Prim.Native.Nat.{ℕ, ◌+◌, ◌-◌, ◌≤◌, ◌<◌}
 use mathlib.Core.Path.{◌≡◌, sym, ◌∙◌}
 use mathlib.Core.List.{List}
@@ -25,15 +27,15 @@ returns-in_default c =
     let content : List ℕ = c.args.arena.now in
     let here : Offset = record { at = c.loop-i.at; base = c.loop-i.base } in
     let a = c.args in
-    sym (c.loop-i.invariant.0 ∙ entries-short (tables) (content) a.most a.next a.uploads c.loop-i.opened (a.uploads + a.parts) c.loop-i.i c.loop-i.m (here) c.loop-i-test.true (sym c.read_row.ensures ∙ c.enum_told-1.given.1))
+    sym (c.loop-i.invariant.0 ∙ entries-short (tables) (content) a.most a.next a.uploads c.loop-i.opened (a.uploads + a.parts) c.loop-i.i c.loop-i.m (here) c.loop-i-test.true (sym c.read_row.ensures ∙ c.in_default.is))
 
 pub overflow_add-digest : goal.overflow_add-digest
 overflow_add-digest c =
     let tables : List ℕ = c.args.t.now in
     let content : List ℕ = c.args.arena.now in
     let here : Offset = record { at = c.loop-i.at; base = c.loop-i.base } in
-    let head : Head = c.h-1.given.0.0 in
-    let fits : reading_of (drop c.loop-i.at (tables)) (drop c.loop-i.base (content)) ≡ Full head = sym c.read_row.ensures ∙ c.h-1.given.1 in
+    let head : Head = c.in-Full.h in
+    let fits : reading_of (drop c.loop-i.at (tables)) (drop c.loop-i.base (content)) ≡ Full head = sym c.read_row.ensures ∙ c.in-Full.is in
     let ends : c.loop-i.at + span head ≤ length (tables) = row_in (tables) (content) (here) head fits in
     omega (arith, ends)
 
@@ -42,8 +44,8 @@ overflow_add-path c =
     let tables : List ℕ = c.args.t.now in
     let content : List ℕ = c.args.arena.now in
     let here : Offset = record { at = c.loop-i.at; base = c.loop-i.base } in
-    let head : Head = c.h-1.given.0.0 in
-    let fits : reading_of (drop c.loop-i.at (tables)) (drop c.loop-i.base (content)) ≡ Full head = sym c.read_row.ensures ∙ c.h-1.given.1 in
+    let head : Head = c.in-Full.h in
+    let fits : reading_of (drop c.loop-i.at (tables)) (drop c.loop-i.base (content)) ≡ Full head = sym c.read_row.ensures ∙ c.in-Full.is in
     let ends : c.loop-i.at + span head ≤ length (tables) = row_in (tables) (content) (here) head fits in
     omega (arith, ends)
 
@@ -52,8 +54,8 @@ overflow_add-end c =
     let tables : List ℕ = c.args.t.now in
     let content : List ℕ = c.args.arena.now in
     let here : Offset = record { at = c.loop-i.at; base = c.loop-i.base } in
-    let head : Head = c.h-1.given.0.0 in
-    let fits : reading_of (drop c.loop-i.at (tables)) (drop c.loop-i.base (content)) ≡ Full head = sym c.read_row.ensures ∙ c.h-1.given.1 in
+    let head : Head = c.in-Full.h in
+    let fits : reading_of (drop c.loop-i.at (tables)) (drop c.loop-i.base (content)) ≡ Full head = sym c.read_row.ensures ∙ c.in-Full.is in
     let ends : c.loop-i.at + span head ≤ length (tables) = row_in (tables) (content) (here) head fits in
     omega (arith, ends)
 
@@ -62,8 +64,8 @@ overflow_mul-after c =
     let tables : List ℕ = c.args.t.now in
     let content : List ℕ = c.args.arena.now in
     let here : Offset = record { at = c.loop-i.at; base = c.loop-i.base } in
-    let head : Head = c.h-1.given.0.0 in
-    let fits : reading_of (drop c.loop-i.at (tables)) (drop c.loop-i.base (content)) ≡ Full head = sym c.read_row.ensures ∙ c.h-1.given.1 in
+    let head : Head = c.in-Full.h in
+    let fits : reading_of (drop c.loop-i.at (tables)) (drop c.loop-i.base (content)) ≡ Full head = sym c.read_row.ensures ∙ c.in-Full.is in
     let ends : c.loop-i.at + span head ≤ length (tables) = row_in (tables) (content) (here) head fits in
     omega (arith, ends)
 
@@ -72,8 +74,8 @@ overflow_add-after c =
     let tables : List ℕ = c.args.t.now in
     let content : List ℕ = c.args.arena.now in
     let here : Offset = record { at = c.loop-i.at; base = c.loop-i.base } in
-    let head : Head = c.h-1.given.0.0 in
-    let fits : reading_of (drop c.loop-i.at (tables)) (drop c.loop-i.base (content)) ≡ Full head = sym c.read_row.ensures ∙ c.h-1.given.1 in
+    let head : Head = c.in-Full.h in
+    let fits : reading_of (drop c.loop-i.at (tables)) (drop c.loop-i.base (content)) ≡ Full head = sym c.read_row.ensures ∙ c.in-Full.is in
     let ends : c.loop-i.at + span head ≤ length (tables) = row_in (tables) (content) (here) head fits in
     omega (arith, ends)
 
@@ -82,8 +84,8 @@ overflow_add-data_end c =
     let tables : List ℕ = c.args.t.now in
     let content : List ℕ = c.args.arena.now in
     let here : Offset = record { at = c.loop-i.at; base = c.loop-i.base } in
-    let head : Head = c.h-1.given.0.0 in
-    let fits : reading_of (drop c.loop-i.at (tables)) (drop c.loop-i.base (content)) ≡ Full head = sym c.read_row.ensures ∙ c.h-1.given.1 in
+    let head : Head = c.in-Full.h in
+    let fits : reading_of (drop c.loop-i.at (tables)) (drop c.loop-i.base (content)) ≡ Full head = sym c.read_row.ensures ∙ c.in-Full.is in
     let data-ends : c.loop-i.base + head.size ≤ length (content) = data-in (tables) (content) (here) head fits (omega arith) in
     omega (arith, data-ends)
 
@@ -92,8 +94,8 @@ slice_bounds-entry_ok-end c =
     let tables : List ℕ = c.args.t.now in
     let content : List ℕ = c.args.arena.now in
     let here : Offset = record { at = c.loop-i.at; base = c.loop-i.base } in
-    let head : Head = c.h-1.given.0.0 in
-    let fits : reading_of (drop c.loop-i.at (tables)) (drop c.loop-i.base (content)) ≡ Full head = sym c.read_row.ensures ∙ c.h-1.given.1 in
+    let head : Head = c.in-Full.h in
+    let fits : reading_of (drop c.loop-i.at (tables)) (drop c.loop-i.base (content)) ≡ Full head = sym c.read_row.ensures ∙ c.in-Full.is in
     let ends : c.loop-i.at + span head ≤ length (tables) = row_in (tables) (content) (here) head fits in
     omega (arith, ends)
 
@@ -102,8 +104,8 @@ slice_bounds-entry_ok-end-in-loop-i c =
     let tables : List ℕ = c.args.t.now in
     let content : List ℕ = c.args.arena.now in
     let here : Offset = record { at = c.loop-i.at; base = c.loop-i.base } in
-    let head : Head = c.h-1.given.0.0 in
-    let fits : reading_of (drop c.loop-i.at (tables)) (drop c.loop-i.base (content)) ≡ Full head = sym c.read_row.ensures ∙ c.h-1.given.1 in
+    let head : Head = c.in-Full.h in
+    let fits : reading_of (drop c.loop-i.at (tables)) (drop c.loop-i.base (content)) ≡ Full head = sym c.read_row.ensures ∙ c.in-Full.is in
     let ends : c.loop-i.at + span head ≤ length (tables) = row_in (tables) (content) (here) head fits in
     omega (arith, ends)
 
@@ -112,8 +114,8 @@ slice_bounds-entry_ok-end-in-loop-i-2 c =
     let tables : List ℕ = c.args.t.now in
     let content : List ℕ = c.args.arena.now in
     let here : Offset = record { at = c.loop-i.at; base = c.loop-i.base } in
-    let head : Head = c.h-1.given.0.0 in
-    let fits : reading_of (drop c.loop-i.at (tables)) (drop c.loop-i.base (content)) ≡ Full head = sym c.read_row.ensures ∙ c.h-1.given.1 in
+    let head : Head = c.in-Full.h in
+    let fits : reading_of (drop c.loop-i.at (tables)) (drop c.loop-i.base (content)) ≡ Full head = sym c.read_row.ensures ∙ c.in-Full.is in
     let ends : c.loop-i.at + span head ≤ length (tables) = row_in (tables) (content) (here) head fits in
     omega (arith, ends)
 
@@ -122,8 +124,8 @@ slice_bounds-entry_ok-end-in-loop-i-3 c =
     let tables : List ℕ = c.args.t.now in
     let content : List ℕ = c.args.arena.now in
     let here : Offset = record { at = c.loop-i.at; base = c.loop-i.base } in
-    let head : Head = c.h-1.given.0.0 in
-    let fits : reading_of (drop c.loop-i.at (tables)) (drop c.loop-i.base (content)) ≡ Full head = sym c.read_row.ensures ∙ c.h-1.given.1 in
+    let head : Head = c.in-Full.h in
+    let fits : reading_of (drop c.loop-i.at (tables)) (drop c.loop-i.base (content)) ≡ Full head = sym c.read_row.ensures ∙ c.in-Full.is in
     let data-ends : c.loop-i.base + head.size ≤ length (content) = data-in (tables) (content) (here) head fits (omega arith) in
     omega (arith, data-ends)
 
@@ -132,8 +134,8 @@ entry_ok-requires c =
     let tables : List ℕ = c.args.t.now in
     let content : List ℕ = c.args.arena.now in
     let here : Offset = record { at = c.loop-i.at; base = c.loop-i.base } in
-    let head : Head = c.h-1.given.0.0 in
-    let fits : reading_of (drop c.loop-i.at (tables)) (drop c.loop-i.base (content)) ≡ Full head = sym c.read_row.ensures ∙ c.h-1.given.1 in
+    let head : Head = c.in-Full.h in
+    let fits : reading_of (drop c.loop-i.at (tables)) (drop c.loop-i.base (content)) ≡ Full head = sym c.read_row.ensures ∙ c.in-Full.is in
     digest-length (tables) (content) (here) _ (fits)
 
 pub returns-then-not-entry_ok : goal.returns-then-not-entry_ok
@@ -141,14 +143,14 @@ returns-then-not-entry_ok c =
     let tables : List ℕ = c.args.t.now in
     let content : List ℕ = c.args.arena.now in
     let here : Offset = record { at = c.loop-i.at; base = c.loop-i.base } in
-    let head : Head = c.h-1.given.0.0 in
-    let fits : reading_of (drop c.loop-i.at (tables)) (drop c.loop-i.base (content)) ≡ Full head = sym c.read_row.ensures ∙ c.h-1.given.1 in
+    let head : Head = c.in-Full.h in
+    let fits : reading_of (drop c.loop-i.at (tables)) (drop c.loop-i.base (content)) ≡ Full head = sym c.read_row.ensures ∙ c.in-Full.is in
     let a = c.args in
-    sym (c.loop-i.invariant.0 ∙ entries-wrong (tables) (content) a.most a.next a.uploads c.loop-i.opened (a.uploads + a.parts) c.loop-i.i c.loop-i.m (here) c.loop-i-test.true (λ j. (c.shared_slice_known-1.given j).fits) _ (fits) _ c.entry_ok.ensures c.if-not-entry_ok.true)
+    sym (c.loop-i.invariant.0 ∙ entries-wrong (tables) (content) a.most a.next a.uploads c.loop-i.opened (a.uploads + a.parts) c.loop-i.i c.loop-i.m (here) c.loop-i-test.true (λ j. (c.shared_slice_known-1.given j).fits) _ (fits) _ c.entry_ok.ensures (ap not c.if-not-entry_ok.true))
 
 pub overflow_add-opened : goal.overflow_add-opened
 overflow_add-opened c =
-    let head : Head = c.h-1.given.0.0 in
+    let head : Head = c.in-Full.h in
     let all-rows : ℕ = c.args.uploads + c.args.parts in
     let more : c.loop-i.i < all-rows = c.loop-i-test.true in
     let counted : all-rows < 131072 = omega (arith, c.ranges.uploads, c.ranges.parts) in
@@ -167,8 +169,8 @@ pass_parts-run-requires c =
     let tables : List ℕ = c.args.t.now in
     let content : List ℕ = c.args.arena.now in
     let here : Offset = record { at = c.loop-i.at; base = c.loop-i.base } in
-    let head : Head = c.h-1.given.0.0 in
-    let fits : reading_of (drop c.loop-i.at (tables)) (drop c.loop-i.base (content)) ≡ Full head = sym c.read_row.ensures ∙ c.h-1.given.1 in
+    let head : Head = c.in-Full.h in
+    let fits : reading_of (drop c.loop-i.at (tables)) (drop c.loop-i.base (content)) ≡ Full head = sym c.read_row.ensures ∙ c.in-Full.is in
     let ends : c.loop-i.at + span head ≤ length (tables) = row_in (tables) (content) (here) head fits in
     let data-ends : c.loop-i.base + head.size ≤ length (content) = data-in (tables) (content) (here) head fits (omega arith) in
     let all-rows : ℕ = c.args.uploads + c.args.parts in
@@ -186,15 +188,15 @@ loop-i-preserved c =
     let tables : List ℕ = c.args.t.now in
     let content : List ℕ = c.args.arena.now in
     let here : Offset = record { at = c.loop-i.at; base = c.loop-i.base } in
-    let head : Head = c.h-1.given.0.0 in
-    let fits : reading_of (drop c.loop-i.at (tables)) (drop c.loop-i.base (content)) ≡ Full head = sym c.read_row.ensures ∙ c.h-1.given.1 in
+    let head : Head = c.in-Full.h in
+    let fits : reading_of (drop c.loop-i.at (tables)) (drop c.loop-i.base (content)) ≡ Full head = sym c.read_row.ensures ∙ c.in-Full.is in
     let all-rows : ℕ = c.args.uploads + c.args.parts in
     let more : c.loop-i.i < all-rows = c.loop-i-test.true in
     let opens : c.opening-opened.result ≤ 1 = omega (arith, c.opening-opened.ensures, opens_small (head)) in
     let a = c.args in
     let run = c.pass_parts-run.ensures in (
       c.loop-i.invariant.0
-          ∙ entries_next (tables) (content) a.most a.next a.uploads c.loop-i.opened (all-rows) c.loop-i.i c.loop-i.m (here) (more) (λ j. (c.shared_slice_known-1.given j).fits) _ (fits) _ c.entry_ok.ensures c.if-not-entry_ok.false _ c.opening-opened.ensures _ c.mark_after.ensures
+          ∙ entries_next (tables) (content) a.most a.next a.uploads c.loop-i.opened (all-rows) c.loop-i.i c.loop-i.m (here) (more) (λ j. (c.shared_slice_known-1.given j).fits) _ (fits) _ c.entry_ok.ensures (ap not c.if-not-entry_ok.false) _ c.opening-opened.ensures _ c.mark_after.ensures
           ∙ run.4 a.most a.next a.uploads (c.loop-i.opened + c.opening-opened.result),
       run.2,
       run.3,

@@ -1,4 +1,6 @@
 -- `mem_scan::entries::upload_ok` meets its contract: the tests are the definition's. Assumes nothing.
+use mathlib.Core.Path.{ap}
+use mathlib.Core.Bool.{not}
 use mathlib.Core.Path.{◌≡◌, sym, ◌∙◌}
 use mathlib.Core.Bool.{◌&&◌}
 use native.Mathlib.Omega.{arith}
@@ -29,36 +31,36 @@ returns-then-next-h c = search tests
 
 pub returns-then-not-stored_path_ok : goal.returns-then-not-stored_path_ok
 unfolding all upload_rule
-returns-then-not-stored_path_ok c = search (tests, said-no c.stored_path_ok.ensures c.if-not-stored_path_ok.true)
+returns-then-not-stored_path_ok c = search (tests, said-no c.stored_path_ok.ensures (ap not c.if-not-stored_path_ok.true))
 
 pub returns-then-not-is_zero : goal.returns-then-not-is_zero
 returns-then-not-is_zero c =
     let passed : let a = c.args in
     upload_rule a.most a.next a.m a.h a.digest.now a.path.now a.lengths.now a.content.now
-    ≡ (same a.digest.now no_digest && (pairs_rule a.most a.h a.lengths.now a.content.now && eqb a.h.size (sum_of a.lengths.now))) = search (tests, said-yes c.stored_path_ok.ensures c.if-not-stored_path_ok.false) in
-    sym (passed ∙ rw (said-no c.is_zero.ensures c.if-not-is_zero.true))
+    ≡ (same a.digest.now no_digest && (pairs_rule a.most a.h a.lengths.now a.content.now && eqb a.h.size (sum_of a.lengths.now))) = search (tests, said-yes c.stored_path_ok.ensures (ap not c.if-not-stored_path_ok.false)) in
+    sym (passed ∙ rw (said-no c.is_zero.ensures (ap not c.if-not-is_zero.true)))
 
 pub returns-then-not-pairs_ok : goal.returns-then-not-pairs_ok
 returns-then-not-pairs_ok c =
     let passed : let a = c.args in
     upload_rule a.most a.next a.m a.h a.digest.now a.path.now a.lengths.now a.content.now
-    ≡ (same a.digest.now no_digest && (pairs_rule a.most a.h a.lengths.now a.content.now && eqb a.h.size (sum_of a.lengths.now))) = search (tests, said-yes c.stored_path_ok.ensures c.if-not-stored_path_ok.false) in
+    ≡ (same a.digest.now no_digest && (pairs_rule a.most a.h a.lengths.now a.content.now && eqb a.h.size (sum_of a.lengths.now))) = search (tests, said-yes c.stored_path_ok.ensures (ap not c.if-not-stored_path_ok.false)) in
     let zeros : let a = c.args in
     upload_rule a.most a.next a.m a.h a.digest.now a.path.now a.lengths.now a.content.now
-    ≡ (pairs_rule a.most a.h a.lengths.now a.content.now && eqb a.h.size (sum_of a.lengths.now)) = passed ∙ rw (said-yes c.is_zero.ensures c.if-not-is_zero.false) in
-    sym (zeros ∙ rw (said-no c.pairs_ok.ensures c.if-not-pairs_ok.true))
+    ≡ (pairs_rule a.most a.h a.lengths.now a.content.now && eqb a.h.size (sum_of a.lengths.now)) = passed ∙ rw (said-yes c.is_zero.ensures (ap not c.if-not-is_zero.false)) in
+    sym (zeros ∙ rw (said-no c.pairs_ok.ensures (ap not c.if-not-pairs_ok.true)))
 
 pub sum_of-requires : goal.sum_of-requires
 sum_of-requires c =
     let a = c.args in
-    omega (arith, lengths-few a.most a.h a.lengths.now a.content.now (said-yes c.pairs_ok.ensures c.if-not-pairs_ok.false))
+    omega (arith, lengths-few a.most a.h a.lengths.now a.content.now (said-yes c.pairs_ok.ensures (ap not c.if-not-pairs_ok.false)))
 
 pub returns : goal.returns
 returns c =
     let passed : let a = c.args in
     upload_rule a.most a.next a.m a.h a.digest.now a.path.now a.lengths.now a.content.now
-    ≡ (same a.digest.now no_digest && (pairs_rule a.most a.h a.lengths.now a.content.now && eqb a.h.size (sum_of a.lengths.now))) = search (tests, said-yes c.stored_path_ok.ensures c.if-not-stored_path_ok.false) in
+    ≡ (same a.digest.now no_digest && (pairs_rule a.most a.h a.lengths.now a.content.now && eqb a.h.size (sum_of a.lengths.now))) = search (tests, said-yes c.stored_path_ok.ensures (ap not c.if-not-stored_path_ok.false)) in
     let zeros : let a = c.args in
     upload_rule a.most a.next a.m a.h a.digest.now a.path.now a.lengths.now a.content.now
-    ≡ (pairs_rule a.most a.h a.lengths.now a.content.now && eqb a.h.size (sum_of a.lengths.now)) = passed ∙ rw (said-yes c.is_zero.ensures c.if-not-is_zero.false) in
-    sym (zeros ∙ rw (said-yes c.pairs_ok.ensures c.if-not-pairs_ok.false, sym c.sum_of.ensures))
+    ≡ (pairs_rule a.most a.h a.lengths.now a.content.now && eqb a.h.size (sum_of a.lengths.now)) = passed ∙ rw (said-yes c.is_zero.ensures (ap not c.if-not-is_zero.false)) in
+    sym (zeros ∙ rw (said-yes c.pairs_ok.ensures (ap not c.if-not-pairs_ok.false), sym c.sum_of.ensures))

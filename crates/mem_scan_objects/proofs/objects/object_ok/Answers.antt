@@ -1,4 +1,6 @@
 -- `mem_scan_objects::objects::object_ok` meets its contract: the tests are the definition's, in another order. Assumes nothing.
+use mathlib.Core.Path.{ap}
+use mathlib.Core.Bool.{not}
 use Prim.Native.Nat.{◌-◌, ◌*◌}
 use mathlib.Core.Path.{◌≡◌, sym, ◌∙◌}
 use mathlib.Core.Bool.{◌&&◌, and-false}
@@ -19,7 +21,7 @@ returns-then-not-numbers_ok c =
     let content = take a.h.size (drop a.base a.arena.now) in
     object_rule a.most a.last.now a.h path lengths content
     ≡ (c.numbers_ok.result && (stored_path_ok path && (is_below a.last.now path && pairs_rule a.most a.h lengths content))) = c.numbers_ok.ensures _ _ _ _ _ in
-    sym (by-numbers ∙ rw (not-true c.numbers_ok.result c.if-not-numbers_ok.true))
+    sym (by-numbers ∙ rw (not-true c.numbers_ok.result (ap not c.if-not-numbers_ok.true)))
 
 pub returns-then-not-is_below : goal.returns-then-not-is_below
 returns-then-not-is_below c =
@@ -29,7 +31,7 @@ returns-then-not-is_below c =
     let content = take a.h.size (drop a.base a.arena.now) in
     object_rule a.most a.last.now a.h path lengths content
     ≡ (c.numbers_ok.result && (stored_path_ok path && (is_below a.last.now path && pairs_rule a.most a.h lengths content))) = c.numbers_ok.ensures _ _ _ _ _ in
-    sym (by-numbers ∙ simp (said-no c.is_below.ensures c.if-not-is_below.true, and-false))
+    sym (by-numbers ∙ simp (said-no c.is_below.ensures (ap not c.if-not-is_below.true), and-false))
 
 pub returns-then-not-stored_path_ok_at : goal.returns-then-not-stored_path_ok_at
 returns-then-not-stored_path_ok_at c =
@@ -39,7 +41,7 @@ returns-then-not-stored_path_ok_at c =
     let content = take a.h.size (drop a.base a.arena.now) in
     object_rule a.most a.last.now a.h path lengths content
     ≡ (c.numbers_ok.result && (stored_path_ok path && (is_below a.last.now path && pairs_rule a.most a.h lengths content))) = c.numbers_ok.ensures _ _ _ _ _ in
-    sym (by-numbers ∙ simp (said-no c.stored_path_ok_at.ensures c.if-not-stored_path_ok_at.true, and-false))
+    sym (by-numbers ∙ simp (said-no c.stored_path_ok_at.ensures (ap not c.if-not-stored_path_ok_at.true), and-false))
 
 pub returns : goal.returns
 returns c =
@@ -52,7 +54,7 @@ returns c =
     c.pairs_ok_at.ensures
     ∙ sym (by-numbers
     ∙ rw (
-      not-false c.numbers_ok.result c.if-not-numbers_ok.false,
-      said-yes c.stored_path_ok_at.ensures c.if-not-stored_path_ok_at.false,
-      said-yes c.is_below.ensures c.if-not-is_below.false,
+      not-false c.numbers_ok.result (ap not c.if-not-numbers_ok.false),
+      said-yes c.stored_path_ok_at.ensures (ap not c.if-not-stored_path_ok_at.false),
+      said-yes c.is_below.ensures (ap not c.if-not-is_below.false),
     ))

@@ -1,4 +1,6 @@
 -- `mem_scan_objects::objects::scan_from` meets its contract. The invariant: the scan of all rows is the scan of those not yet passed. Assumes nothing.
+use mathlib.Core.Path.{ap}
+use mathlib.Core.Bool.{not}
 use Prim.Native.Nat.{ℕ, ◌+◌, ◌-◌, ◌≤◌}
 use mathlib.Core.Path.{◌≡◌, sym, ◌∙◌}
 use mathlib.Core.List.{List}
@@ -25,15 +27,15 @@ returns-in_default c =
     let content : List ℕ = c.args.arena.now in
     let here : Offset = record { at = c.loop-i.at; base = c.loop-i.base } in
     let a = c.args in
-    sym (c.loop-i.invariant.0 ∙ objects-short (tables) (content) a.most a.rows c.loop-i.i _ (here) c.loop-i-test.true (sym c.read_row.ensures ∙ c.enum_told-1.given.1))
+    sym (c.loop-i.invariant.0 ∙ objects-short (tables) (content) a.most a.rows c.loop-i.i _ (here) c.loop-i-test.true (sym c.read_row.ensures ∙ c.in_default.is))
 
 pub overflow_add-path : goal.overflow_add-path
 overflow_add-path c =
     let tables : List ℕ = c.args.t.now in
     let content : List ℕ = c.args.arena.now in
     let here : Offset = record { at = c.loop-i.at; base = c.loop-i.base } in
-    let head : Head = c.h-1.given.0.0 in
-    let fits : reading_of (drop c.loop-i.at (tables)) (drop c.loop-i.base (content)) ≡ Full head = sym c.read_row.ensures ∙ c.h-1.given.1 in
+    let head : Head = c.in-Full.h in
+    let fits : reading_of (drop c.loop-i.at (tables)) (drop c.loop-i.base (content)) ≡ Full head = sym c.read_row.ensures ∙ c.in-Full.is in
     let ends : c.loop-i.at + span head ≤ length (tables) = row_in (tables) (content) (here) head fits in
     omega (arith, ends)
 
@@ -42,8 +44,8 @@ overflow_add-end c =
     let tables : List ℕ = c.args.t.now in
     let content : List ℕ = c.args.arena.now in
     let here : Offset = record { at = c.loop-i.at; base = c.loop-i.base } in
-    let head : Head = c.h-1.given.0.0 in
-    let fits : reading_of (drop c.loop-i.at (tables)) (drop c.loop-i.base (content)) ≡ Full head = sym c.read_row.ensures ∙ c.h-1.given.1 in
+    let head : Head = c.in-Full.h in
+    let fits : reading_of (drop c.loop-i.at (tables)) (drop c.loop-i.base (content)) ≡ Full head = sym c.read_row.ensures ∙ c.in-Full.is in
     let ends : c.loop-i.at + span head ≤ length (tables) = row_in (tables) (content) (here) head fits in
     omega (arith, ends)
 
@@ -52,8 +54,8 @@ overflow_mul-next c =
     let tables : List ℕ = c.args.t.now in
     let content : List ℕ = c.args.arena.now in
     let here : Offset = record { at = c.loop-i.at; base = c.loop-i.base } in
-    let head : Head = c.h-1.given.0.0 in
-    let fits : reading_of (drop c.loop-i.at (tables)) (drop c.loop-i.base (content)) ≡ Full head = sym c.read_row.ensures ∙ c.h-1.given.1 in
+    let head : Head = c.in-Full.h in
+    let fits : reading_of (drop c.loop-i.at (tables)) (drop c.loop-i.base (content)) ≡ Full head = sym c.read_row.ensures ∙ c.in-Full.is in
     let ends : c.loop-i.at + span head ≤ length (tables) = row_in (tables) (content) (here) head fits in
     omega (arith, ends)
 
@@ -62,8 +64,8 @@ overflow_add-next c =
     let tables : List ℕ = c.args.t.now in
     let content : List ℕ = c.args.arena.now in
     let here : Offset = record { at = c.loop-i.at; base = c.loop-i.base } in
-    let head : Head = c.h-1.given.0.0 in
-    let fits : reading_of (drop c.loop-i.at (tables)) (drop c.loop-i.base (content)) ≡ Full head = sym c.read_row.ensures ∙ c.h-1.given.1 in
+    let head : Head = c.in-Full.h in
+    let fits : reading_of (drop c.loop-i.at (tables)) (drop c.loop-i.base (content)) ≡ Full head = sym c.read_row.ensures ∙ c.in-Full.is in
     let ends : c.loop-i.at + span head ≤ length (tables) = row_in (tables) (content) (here) head fits in
     omega (arith, ends)
 
@@ -72,8 +74,8 @@ overflow_add-data_end c =
     let tables : List ℕ = c.args.t.now in
     let content : List ℕ = c.args.arena.now in
     let here : Offset = record { at = c.loop-i.at; base = c.loop-i.base } in
-    let head : Head = c.h-1.given.0.0 in
-    let fits : reading_of (drop c.loop-i.at (tables)) (drop c.loop-i.base (content)) ≡ Full head = sym c.read_row.ensures ∙ c.h-1.given.1 in
+    let head : Head = c.in-Full.h in
+    let fits : reading_of (drop c.loop-i.at (tables)) (drop c.loop-i.base (content)) ≡ Full head = sym c.read_row.ensures ∙ c.in-Full.is in
     let data-ends : c.loop-i.base + head.size ≤ length (content) = data-in (tables) (content) (here) head fits (omega arith) in
     omega (arith, data-ends)
 
@@ -82,8 +84,8 @@ object_ok-requires c =
     let tables : List ℕ = c.args.t.now in
     let content : List ℕ = c.args.arena.now in
     let here : Offset = record { at = c.loop-i.at; base = c.loop-i.base } in
-    let head : Head = c.h-1.given.0.0 in
-    let fits : reading_of (drop c.loop-i.at (tables)) (drop c.loop-i.base (content)) ≡ Full head = sym c.read_row.ensures ∙ c.h-1.given.1 in
+    let head : Head = c.in-Full.h in
+    let fits : reading_of (drop c.loop-i.at (tables)) (drop c.loop-i.base (content)) ≡ Full head = sym c.read_row.ensures ∙ c.in-Full.is in
     let ends : c.loop-i.at + span head ≤ length (tables) = row_in (tables) (content) (here) head fits in
     let data-ends : c.loop-i.base + head.size ≤ length (content) = data-in (tables) (content) (here) head fits (omega arith) in
     omega (arith, ends, data-ends)
@@ -93,10 +95,10 @@ returns-then-not-object_ok c =
     let tables : List ℕ = c.args.t.now in
     let content : List ℕ = c.args.arena.now in
     let here : Offset = record { at = c.loop-i.at; base = c.loop-i.base } in
-    let head : Head = c.h-1.given.0.0 in
-    let fits : reading_of (drop c.loop-i.at (tables)) (drop c.loop-i.base (content)) ≡ Full head = sym c.read_row.ensures ∙ c.h-1.given.1 in
+    let head : Head = c.in-Full.h in
+    let fits : reading_of (drop c.loop-i.at (tables)) (drop c.loop-i.base (content)) ≡ Full head = sym c.read_row.ensures ∙ c.in-Full.is in
     let a = c.args in
-    sym (c.loop-i.invariant.0 ∙ objects-wrong (tables) (content) a.most a.rows c.loop-i.i _ (here) c.loop-i-test.true (λ j. (c.shared_slice_known-1.given j).fits) _ (fits) _ c.object_ok.ensures c.if-not-object_ok.true)
+    sym (c.loop-i.invariant.0 ∙ objects-wrong (tables) (content) a.most a.rows c.loop-i.i _ (here) c.loop-i-test.true (λ j. (c.shared_slice_known-1.given j).fits) _ (fits) _ c.object_ok.ensures (ap not c.if-not-object_ok.true))
 
 pub overflow_add-i : goal.overflow_add-i
 overflow_add-i c = omega (arith, c.loop-i-test.true, c.ranges.rows)
@@ -106,12 +108,12 @@ loop-i-preserved c =
     let tables : List ℕ = c.args.t.now in
     let content : List ℕ = c.args.arena.now in
     let here : Offset = record { at = c.loop-i.at; base = c.loop-i.base } in
-    let head : Head = c.h-1.given.0.0 in
-    let fits : reading_of (drop c.loop-i.at (tables)) (drop c.loop-i.base (content)) ≡ Full head = sym c.read_row.ensures ∙ c.h-1.given.1 in
+    let head : Head = c.in-Full.h in
+    let fits : reading_of (drop c.loop-i.at (tables)) (drop c.loop-i.base (content)) ≡ Full head = sym c.read_row.ensures ∙ c.in-Full.is in
     let ends : c.loop-i.at + span head ≤ length (tables) = row_in (tables) (content) (here) head fits in
     let data-ends : c.loop-i.base + head.size ≤ length (content) = data-in (tables) (content) (here) head fits (omega arith) in
     let a = c.args in (
-      c.loop-i.invariant.0 ∙ objects-next (tables) (content) a.most a.rows c.loop-i.i _ (here) c.loop-i-test.true (λ j. (c.shared_slice_known-1.given j).fits) _ (fits) _ c.object_ok.ensures c.if-not-object_ok.false,
+      c.loop-i.invariant.0 ∙ objects-next (tables) (content) a.most a.rows c.loop-i.i _ (here) c.loop-i-test.true (λ j. (c.shared_slice_known-1.given j).fits) _ (fits) _ c.object_ok.ensures (ap not c.if-not-object_ok.false),
       omega arith,
       omega arith,
       omega (arith, ends),

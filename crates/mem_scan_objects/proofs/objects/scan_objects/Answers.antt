@@ -1,4 +1,6 @@
 -- `mem_scan_objects::objects::scan_objects` meets its contract. The invariant: the scan of all rows is the scan of those not yet passed. Assumes nothing.
+use mathlib.Core.Path.{ap}
+use mathlib.Core.Bool.{not}
 use Prim.Native.Nat.{ℕ, ◌+◌, ◌-◌, ◌≤◌}
 use mathlib.Core.Path.{◌≡◌, sym, ◌∙◌}
 use mathlib.Core.List.{List, []}
@@ -28,8 +30,8 @@ overflow_add-path c =
     let tables : List ℕ = c.args.t.now in
     let content : List ℕ = c.args.arena.now in
     let here : Offset = record { at = c.loop-i.at; base = c.loop-i.base } in
-    let head : Head = c.h-1.given.0.0 in
-    let usual : (reading_of (drop c.loop-i.at (tables)) (drop c.loop-i.base (content)) ≡ Full head) × (head.pairs ≡ 0) = c.read_usual.ensures head c.h-1.given.1 in
+    let head : Head = c.in-Full.h in
+    let usual : (reading_of (drop c.loop-i.at (tables)) (drop c.loop-i.base (content)) ≡ Full head) × (head.pairs ≡ 0) = c.read_usual.ensures head c.in-Full.is in
     let ends : c.loop-i.at + head_length + head.pathlen ≤ length (tables) = let l = row_in (tables) (content) (here) head usual.0 in omega arith in
     omega (arith, ends)
 
@@ -38,8 +40,8 @@ overflow_add-end c =
     let tables : List ℕ = c.args.t.now in
     let content : List ℕ = c.args.arena.now in
     let here : Offset = record { at = c.loop-i.at; base = c.loop-i.base } in
-    let head : Head = c.h-1.given.0.0 in
-    let usual : (reading_of (drop c.loop-i.at (tables)) (drop c.loop-i.base (content)) ≡ Full head) × (head.pairs ≡ 0) = c.read_usual.ensures head c.h-1.given.1 in
+    let head : Head = c.in-Full.h in
+    let usual : (reading_of (drop c.loop-i.at (tables)) (drop c.loop-i.base (content)) ≡ Full head) × (head.pairs ≡ 0) = c.read_usual.ensures head c.in-Full.is in
     let ends : c.loop-i.at + head_length + head.pathlen ≤ length (tables) = let l = row_in (tables) (content) (here) head usual.0 in omega arith in
     omega (arith, ends)
 
@@ -48,8 +50,8 @@ usual_ok-requires c =
     let tables : List ℕ = c.args.t.now in
     let content : List ℕ = c.args.arena.now in
     let here : Offset = record { at = c.loop-i.at; base = c.loop-i.base } in
-    let head : Head = c.h-1.given.0.0 in
-    let usual : (reading_of (drop c.loop-i.at (tables)) (drop c.loop-i.base (content)) ≡ Full head) × (head.pairs ≡ 0) = c.read_usual.ensures head c.h-1.given.1 in
+    let head : Head = c.in-Full.h in
+    let usual : (reading_of (drop c.loop-i.at (tables)) (drop c.loop-i.base (content)) ≡ Full head) × (head.pairs ≡ 0) = c.read_usual.ensures head c.in-Full.is in
     let ends : c.loop-i.at + head_length + head.pathlen ≤ length (tables) = let l = row_in (tables) (content) (here) head usual.0 in omega arith in
     omega (arith, ends)
 
@@ -61,8 +63,8 @@ overflow_add-base c =
     let tables : List ℕ = c.args.t.now in
     let content : List ℕ = c.args.arena.now in
     let here : Offset = record { at = c.loop-i.at; base = c.loop-i.base } in
-    let head : Head = c.h-1.given.0.0 in
-    let usual : (reading_of (drop c.loop-i.at (tables)) (drop c.loop-i.base (content)) ≡ Full head) × (head.pairs ≡ 0) = c.read_usual.ensures head c.h-1.given.1 in
+    let head : Head = c.in-Full.h in
+    let usual : (reading_of (drop c.loop-i.at (tables)) (drop c.loop-i.base (content)) ≡ Full head) × (head.pairs ≡ 0) = c.read_usual.ensures head c.in-Full.is in
     let data-ends : c.loop-i.base + head.size ≤ length (content) = data-in (tables) (content) (here) head usual.0 (omega arith) in
     omega (arith, data-ends)
 
@@ -71,14 +73,14 @@ loop-i-preserved c =
     let tables : List ℕ = c.args.t.now in
     let content : List ℕ = c.args.arena.now in
     let here : Offset = record { at = c.loop-i.at; base = c.loop-i.base } in
-    let head : Head = c.h-1.given.0.0 in
-    let usual : (reading_of (drop c.loop-i.at (tables)) (drop c.loop-i.base (content)) ≡ Full head) × (head.pairs ≡ 0) = c.read_usual.ensures head c.h-1.given.1 in
+    let head : Head = c.in-Full.h in
+    let usual : (reading_of (drop c.loop-i.at (tables)) (drop c.loop-i.base (content)) ≡ Full head) × (head.pairs ≡ 0) = c.read_usual.ensures head c.in-Full.is in
     let ends : c.loop-i.at + head_length + head.pathlen ≤ length (tables) = let l = row_in (tables) (content) (here) head usual.0 in omega arith in
     let data-ends : c.loop-i.base + head.size ≤ length (content) = data-in (tables) (content) (here) head usual.0 (omega arith) in
     let a = c.args in
     let ok = c.usual_ok in (
       c.loop-i.invariant.0
-          ∙ objects-usual (tables) (content) a.most a.rows c.loop-i.i _ (here) c.loop-i-test.true (λ j. (c.shared_slice_known-1.given j).fits) (head) (usual).0 (usual).1 (ok.ensures (not-false ok.result c.if-not-usual_ok.false) (usual).1 _ _),
+          ∙ objects-usual (tables) (content) a.most a.rows c.loop-i.i _ (here) c.loop-i-test.true (λ j. (c.shared_slice_known-1.given j).fits) (head) (usual).0 (usual).1 (ok.ensures (not-false ok.result (ap not c.if-not-usual_ok.false)) (usual).1 _ _),
       omega arith,
       ends,
       data-ends,

@@ -1,4 +1,6 @@
 -- `mem_scan_objects::usual::usual_ok` meets its contract: the tests are those of the rule, and a row without pairs may stand. Assumes nothing.
+use mathlib.Core.Path.{ap}
+use mathlib.Core.Bool.{not}
 use Prim.Native.Nat.{◌-◌, ◌*◌}
 use mathlib.Core.Path.{◌∙◌}
 use lib.ListN.{take, drop}
@@ -24,8 +26,8 @@ returns c e none most content =
     let n = c.numbers_ok in
     n.ensures most a.last.now path (take (2 * a.h.pairs) rest) content
     ∙ rw (
-      not-false n.result c.if-not-numbers_ok.false,
+      not-false n.result (ap not c.if-not-numbers_ok.false),
       c.short_path_ok_at.ensures e,
-      said-yes c.is_below.ensures c.if-not-is_below.false,
+      said-yes c.is_below.ensures (ap not c.if-not-is_below.false),
       no_pairs most a.h.pairs rest content none,
     )

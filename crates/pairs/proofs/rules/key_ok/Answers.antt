@@ -1,4 +1,6 @@
 -- `pairs::rules::key_ok` meets its contract. The invariant: the bytes not yet passed decide. Assumes nothing.
+use mathlib.Core.Path.{ap}
+use mathlib.Core.Bool.{not}
 use Prim.Native.Nat.{◌-◌, ◌≤◌}
 use mathlib.Core.Path.{◌≡◌, refl}
 use native.Mathlib.Omega.{arith}
@@ -24,13 +26,13 @@ pub returns-then-not-key_byte : goal.returns-then-not-key_byte
 unfolding key_ok
 returns-then-not-key_byte c =
     let xs = c.args.k.now in
-    let n = every-no key_byte xs c.loop-i.i c.loop-i.invariant.1 (omega arith) (said-no c.key_byte.ensures c.if-not-key_byte.true) in
+    let n = every-no key_byte xs c.loop-i.i c.loop-i.invariant.1 (omega arith) (said-no c.key_byte.ensures (ap not c.if-not-key_byte.true)) in
     rw (le-leb _ _ c.if-n-lt1.false, le-leb _ _ c.if-n-gt32.false, n)
 
 pub loop-i-preserved : goal.loop-i-preserved
 loop-i-preserved c =
     let xs = c.args.k.now in
-    (omega arith, every-next key_byte xs c.loop-i.i c.loop-i.invariant.1 (omega arith) (said-yes c.key_byte.ensures c.if-not-key_byte.false))
+    (omega arith, every-next key_byte xs c.loop-i.i c.loop-i.invariant.1 (omega arith) (said-yes c.key_byte.ensures (ap not c.if-not-key_byte.false)))
 
 pub returns : goal.returns
 unfolding key_ok

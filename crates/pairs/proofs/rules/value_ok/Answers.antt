@@ -1,4 +1,6 @@
 -- `pairs::rules::value_ok` meets its contract. The invariant: the bytes not yet passed decide. Assumes nothing.
+use mathlib.Core.Path.{ap}
+use mathlib.Core.Bool.{not}
 use Prim.Native.Nat.{◌-◌, ◌≤◌}
 use mathlib.Core.Path.{◌≡◌, refl}
 use native.Mathlib.Omega.{arith}
@@ -20,12 +22,12 @@ pub returns-then-not-value_byte : goal.returns-then-not-value_byte
 unfolding value_ok
 returns-then-not-value_byte c =
     let xs = c.args.v.now in
-    rw (le-leb _ _ c.if-n-gt64.false, every-no value_byte xs c.loop-i.i c.loop-i.invariant.1 (omega arith) (said-no c.value_byte.ensures c.if-not-value_byte.true))
+    rw (le-leb _ _ c.if-n-gt64.false, every-no value_byte xs c.loop-i.i c.loop-i.invariant.1 (omega arith) (said-no c.value_byte.ensures (ap not c.if-not-value_byte.true)))
 
 pub loop-i-preserved : goal.loop-i-preserved
 loop-i-preserved c =
     let xs = c.args.v.now in
-    (omega arith, every-next value_byte xs c.loop-i.i c.loop-i.invariant.1 (omega arith) (said-yes c.value_byte.ensures c.if-not-value_byte.false))
+    (omega arith, every-next value_byte xs c.loop-i.i c.loop-i.invariant.1 (omega arith) (said-yes c.value_byte.ensures (ap not c.if-not-value_byte.false)))
 
 pub returns : goal.returns
 unfolding value_ok

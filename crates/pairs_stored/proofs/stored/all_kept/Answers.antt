@@ -1,4 +1,6 @@
 -- `pairs_stored::stored::all_kept` meets its contract. The invariant: the pairs not yet passed decide, after the last key. Assumes nothing.
+use mathlib.Core.Path.{ap}
+use mathlib.Core.Bool.{not}
 use Prim.Native.Nat.{ℕ, ◌-◌, ◌≤◌}
 use mathlib.Core.List.{List}
 use native.Mathlib.Omega.{arith}
@@ -39,7 +41,7 @@ returns-then-not-kept_after c =
     let bs : List ℕ = c.args.bytes.now in
     let l = c.loop-i in
     kept-no (ls) (bs) l.from l.to l.at l.i l.invariant c.end-k.result c.end-v.result (omega arith) c.end-k.ensures c.end-v.ensures
-    (said-no c.kept_after.ensures c.if-not-kept_after.true)
+    (said-no c.kept_after.ensures (ap not c.if-not-kept_after.true))
 
 pub loop-i-preserved : goal.loop-i-preserved
 loop-i-preserved c =
@@ -47,7 +49,7 @@ loop-i-preserved c =
     let bs : List ℕ = c.args.bytes.now in
     let l = c.loop-i in
     kept_next (ls) (bs) l.from l.to l.at l.i l.invariant c.end-k.result c.end-v.result (omega arith) c.end-k.ensures c.end-v.ensures
-    (said-yes c.kept_after.ensures c.if-not-kept_after.false)
+    (said-yes c.kept_after.ensures (ap not c.if-not-kept_after.false))
 
 pub returns : goal.returns
 returns c =

@@ -14,7 +14,7 @@ use Rattle.recording_lists.proofs.part_numbers.numbers_inside.Goals as goal
 pub returns-in_default : goal.returns-in_default
 returns-in_default c =
     let a = c.args in
-    (nothing a.s.now a.out.now a.at (ap (number_meant a.s.now) (sym c.enum_told-1.given.1) ∙ c.read_number.ensures), omega arith)
+    (nothing a.s.now a.out.now a.at (ap (number_meant a.s.now) (sym c.in_default.is) ∙ c.read_number.ensures), omega arith)
 
 pub put_u16-requires : goal.put_u16-requires
 put_u16-requires c =
@@ -48,7 +48,7 @@ returns-in_default-read_number c =
     let l = c.loop-i in
     let h = c.byte_at.ensures.1 (omega arith) in
     let p = sym c.byte_at.ensures.0 ∙ c.loop-i-test.true in
-    let e = ap (number_meant a.s.now) (sym c.enum_told-in_default-read_number-1.given.1) ∙ c.read_number-in-loop-i.ensures in
+    let e = ap (number_meant a.s.now) (sym c.in_default-read_number.is) ∙ c.read_number-in-loop-i.ensures in
     (fail (inside_numbers (drop a.at a.s.now)) a.s.now l.out l.n l.i l.invariant.2 h p e, omega arith)
 
 pub put_u16-requires-in-loop-i : goal.put_u16-requires-in-loop-i

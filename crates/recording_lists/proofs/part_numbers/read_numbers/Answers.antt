@@ -29,7 +29,7 @@ returns-in_default c =
     let p = sym b.ensures.0 ∙ c.if-byte_at-ne40.false in
     let t = after-byte (closed inside_numbers) packed s a.at 40 h p in
     let w = c.numbers_inside in
-    (no-inside inside_numbers packed s (a.at + 1) (ap (string_meant s w.new.out) (sym c.enum_told-1.given.1) ∙ w.ensures.0) ∙ t, omega arith)
+    (no-inside inside_numbers packed s (a.at + 1) (ap (string_meant s w.new.out) (sym c.in_default.is) ∙ w.ensures.0) ∙ t, omega arith)
 
 pub returns-then-byte_at-ne41 : goal.returns-then-byte_at-ne41
 unfolding read_numbers

@@ -1,0 +1,7 @@
+-- `rathnodi::objects::rathnodi_delete` meets its contract. Assumes nothing.
+use Rattle.rathnodi.proofs.Exporting.{numbered-made}
+use borrow.Author.Rules.{rules}
+use Rattle.rathnodi.proofs.objects.rathnodi_delete.Goals as goal
+
+pub returns : goal.returns
+returns c = numbered-made _ _ _ c.delete-deleted.result _ c.delete-deleted.ensures.0 c.done.ensures

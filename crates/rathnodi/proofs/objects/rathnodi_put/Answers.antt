@@ -1,0 +1,7 @@
+-- `rathnodi::objects::rathnodi_put` meets its contract. Assumes nothing.
+use Rattle.rathnodi.proofs.Exporting.{numbered-made}
+use borrow.Author.Rules.{rules}
+use Rattle.rathnodi.proofs.objects.rathnodi_put.Goals as goal
+
+pub returns : goal.returns
+returns c = numbered-made _ _ _ c.put-put.result _ c.put-put.ensures.0 c.done.ensures

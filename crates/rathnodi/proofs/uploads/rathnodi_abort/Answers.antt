@@ -1,0 +1,7 @@
+-- `rathnodi::uploads::rathnodi_abort` meets its contract. Assumes nothing.
+use Rattle.rathnodi.proofs.Exporting.{numbered-made}
+use borrow.Author.Rules.{rules}
+use Rattle.rathnodi.proofs.uploads.rathnodi_abort.Goals as goal
+
+pub returns : goal.returns
+returns c = numbered-made _ _ _ c.abort-aborted.result _ c.abort-aborted.ensures.0 c.done.ensures

@@ -1,0 +1,16 @@
+-- `recording_lists::pairs::read_pairs` meets its contract. Assumes nothing.
+use native.Mathlib.Omega.{arith}
+use borrow.Author.Rules.{rules}
+use Rattle.recording_lists.proofs.PairLists.{SoFar, begin, finish, fail, advances, step}
+use Rattle.recording_read.specs.Meant.{string_meant, string_length, room_after}
+use Rattle.recording.specs.Read.{items, read_pair}
+use lib.ListN.{length, drop}
+use Prim.Native.Nat.{◌+◌, ◌-◌, ◌*◌, ◌≤◌}
+use mathlib.Core.Path.{◌≡◌, refl, sym, ap, ◌∙◌}
+use Rattle.recording_lists.proofs.pair_lists.read_pairs.Given as goal
+
+abbrev pub invariant-loop-out : goal.invariant-loop-out
+invariant-loop-out l = (length l.out ≡ length l.initial.out) × (2 * l.n + (length l.s - l.i) ≤ length l.s) × (l.n ≤ length l.out) × SoFar (items read_pair (drop l.at l.s)) l.s l.out l.n l.i
+
+abbrev pub decreases-loop-out : goal.decreases-loop-out
+decreases-loop-out l = length l.s - l.i

@@ -1,0 +1,20 @@
+-- `recording_run::print_result` meets its contract. Assumes nothing.
+use native.Mathlib.Omega.{arith}
+use Prim.Native.Nat.{◌+◌}
+use lib.ListN.{length-set}
+use Rattle.recording_run.proofs.Feeding.{two-stored}
+use borrow.Author.Rules.{rules}
+use Rattle.recording_run.proofs.print_result.Reads as reads
+use Rattle.recording_run.proofs.print_result.Goals as goal
+
+-- src/lib.rt:42:5
+pub bounds-out-k-2 : goal.bounds-out-k-2
+bounds-out-k-2 c =
+    let a = c.args in
+    omega (arith, c.requires.0, length-set a.out.now a.k (48 + a.result))
+
+-- src/lib.rt:37:1
+pub returns : goal.returns
+returns c =
+    let a = c.args in
+    two-stored a.out.now a.k (48 + a.result) 10 c.requires.0

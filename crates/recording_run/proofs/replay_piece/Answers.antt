@@ -1,0 +1,193 @@
+-- `recording_run::replay_piece` meets its contract. Assumes nothing.
+use native.Mathlib.Omega.{arith}
+use borrow.Author.Rules.{rules}
+use Prim.Native.Nat.{ℕ, ◌-◌, ◌*◌, ◌≤◌}
+use mathlib.Core.Path.{◌≡◌, refl, subst, ◌∙◌}
+use lib.ListN.{length}
+use Rattle.machine.specs.Names.{Bytes}
+use Rattle.machine.specs.State.{State}
+use Rattle.call_contract.specs.Made.{memory}
+use Rattle.recording_split.specs.declared.LineStep.{LineStep}
+use Rattle.recording_split.specs.Held.{Holds, Stepped, Within}
+use Rattle.recording_run.specs.Run.{Store}
+use Rattle.recording_run.proofs.Feeding.{SoFar, start, one_line, amid, at-end}
+use Rattle.recording_run.proofs.replay_piece.Reads as reads
+use Rattle.recording_run.proofs.held_line.Reads as held-line-reads
+use Rattle.recording_run.proofs.print_result.Reads as print-result-reads
+use Rattle.recording_split.proofs.next_line.Reads as next-line-reads
+use Rattle.recording_run.proofs.replay_piece.Goals as goal
+
+-- src/lib.rt:72:5
+pub loop-at-init : goal.loop-at-init
+loop-at-init c =
+    let a = c.args in
+    (c.requires.0, c.requires.1, omega arith, omega arith, refl, refl, refl, refl, refl, (λ l A size s h x y st. start A size s l a.piece.now a.line.now a.held a.out.now (memory a.tables.now a.arena.now) h st))
+
+-- src/lib.rt:73:15
+pub next_line-requires : goal.next_line-requires
+next_line-requires c =
+    let i = c.loop-at.invariant in
+    (omega (arith, i.0), omega (arith, i.0, i.1))
+
+-- src/lib.rt:75:21
+pub held_line-result-requires : goal.held_line-result-requires
+held_line-result-requires c = c.next_line.auto.line ∙ c.loop-at.invariant.0
+
+-- src/lib.rt:76:17
+pub print_result-requires : goal.print_result-requires
+print_result-requires c =
+    let i = c.loop-at.invariant in
+    (omega (arith, i.2, i.3, i.4, c.requires.2, c.loop-at-test.true), c.held_line-result.ensures.1)
+
+-- src/lib.rt:77:17
+pub overflow_add-k : goal.overflow_add-k
+overflow_add-k c =
+    let i = c.loop-at.invariant in
+    omega (arith, i.3, c.requires.3, c.loop-at-test.true)
+
+-- src/lib.rt:72:5
+pub loop-at-smaller : goal.loop-at-smaller
+loop-at-smaller c =
+    let a = c.args in
+    let d = c.loop-at in
+    let i = d.invariant in
+    let p = a.piece.now in
+    let nl = c.next_line in
+    let b = nl.new.line in
+    let g = c.full-1.given in
+    let w = subst (λ (r : LineStep). Within (length p) d.at (length d.line) r) g.1 nl.ensures.1 in
+    omega (arith, w.1, w.2, c.loop-at-test.true)
+
+-- src/lib.rt:72:5
+pub loop-at-preserved : goal.loop-at-preserved
+loop-at-preserved c =
+    let a = c.args in
+    let d = c.loop-at in
+    let i = d.invariant in
+    let p = a.piece.now in
+    let nl = c.next_line in
+    let b = nl.new.line in
+    let g = c.full-1.given in
+    let w = subst (λ (r : LineStep). Within (length p) d.at (length d.line) r) g.1 nl.ensures.1 in
+    let hl = c.held_line-result in
+    let pr = c.print_result in (
+      nl.auto.line ∙ i.0,
+      omega arith,
+      w.2,
+      omega (arith, i.3, w.1),
+      pr.auto.out ∙ i.4,
+      hl.auto.tables ∙ i.5,
+      hl.auto.arena ∙ i.6,
+      hl.auto.answer ∙ i.7,
+      hl.auto.pairs ∙ i.8,
+      (λ x A size s h y z st.
+          let so = i.9 x A size s h y z st in
+          let f = subst (λ (r : LineStep). Stepped p d.at so.now b r) g.1 (nl.ensures.0 so.now so.held) in
+          one_line A size s x p d.at d.k d.line d.n d.out (memory d.tables d.arena) so b g.0.0 g.0.1.0 f hl.result (memory hl.new.tables hl.new.arena) pr.new.out
+          (hl.ensures.0 f.whole A size so.state f.held (i.7 ∙ y) (i.8 ∙ z) so.store) hl.ensures.1 pr.ensures),
+    )
+
+-- src/lib.rt:82:17
+pub shape_of-tables-in-More : goal.shape_of-tables-in-More
+shape_of-tables-in-More c =
+    let i = c.loop-at.invariant in
+    omega (arith, i.0, i.4, i.5, i.6, i.7, i.8, c.requires.0, c.next_line.auto.line)
+
+-- src/lib.rt:82:17
+pub shape_of-arena-in-More : goal.shape_of-arena-in-More
+shape_of-arena-in-More c =
+    let i = c.loop-at.invariant in
+    omega (arith, i.0, i.4, i.5, i.6, i.7, i.8, c.requires.0, c.next_line.auto.line)
+
+-- src/lib.rt:82:17
+pub shape_of-answer-in-More : goal.shape_of-answer-in-More
+shape_of-answer-in-More c =
+    let i = c.loop-at.invariant in
+    omega (arith, i.0, i.4, i.5, i.6, i.7, i.8, c.requires.0, c.next_line.auto.line)
+
+-- src/lib.rt:82:17
+pub shape_of-pairs-in-More : goal.shape_of-pairs-in-More
+shape_of-pairs-in-More c =
+    let i = c.loop-at.invariant in
+    omega (arith, i.0, i.4, i.5, i.6, i.7, i.8, c.requires.0, c.next_line.auto.line)
+
+-- src/lib.rt:82:17
+pub shape_of-line-in-More : goal.shape_of-line-in-More
+shape_of-line-in-More c =
+    let i = c.loop-at.invariant in
+    omega (arith, i.0, i.4, i.5, i.6, i.7, i.8, c.requires.0, c.next_line.auto.line)
+
+-- src/lib.rt:82:17
+pub shape_of-out-in-More : goal.shape_of-out-in-More
+shape_of-out-in-More c =
+    let i = c.loop-at.invariant in
+    omega (arith, i.0, i.4, i.5, i.6, i.7, i.8, c.requires.0, c.next_line.auto.line)
+
+-- src/lib.rt:82:17
+pub returns-in-More : goal.returns-in-More
+returns-in-More c =
+    let a = c.args in
+    let d = c.loop-at in
+    let i = d.invariant in
+    let p = a.piece.now in
+    let nl = c.next_line in
+    let b = nl.new.line in
+    let g = c.rest-1.given in
+    let w = subst (λ (r : LineStep). Within (length p) d.at (length d.line) r) g.1 nl.ensures.1 in (
+      (λ x A size s h y z st.
+          let so = i.9 x A size s h y z st in
+          let u = subst (λ (r : LineStep). Stepped p d.at so.now b r) g.1 (nl.ensures.0 so.now so.held) in
+          amid A size s x p d.at d.k d.line d.n d.out (memory d.tables d.arena) so b g.0.0 u _ refl refl),
+      omega (arith, w, i.0),
+      omega (arith, i.2, i.3, c.requires.2),
+    )
+
+-- src/lib.rt:52:1
+pub shape_of-tables : goal.shape_of-tables
+shape_of-tables c =
+    let i = c.loop-at.invariant in
+    omega (arith, i.0, i.4, i.5, i.6, i.7, i.8, c.requires.0)
+
+-- src/lib.rt:52:1
+pub shape_of-arena : goal.shape_of-arena
+shape_of-arena c =
+    let i = c.loop-at.invariant in
+    omega (arith, i.0, i.4, i.5, i.6, i.7, i.8, c.requires.0)
+
+-- src/lib.rt:52:1
+pub shape_of-answer : goal.shape_of-answer
+shape_of-answer c =
+    let i = c.loop-at.invariant in
+    omega (arith, i.0, i.4, i.5, i.6, i.7, i.8, c.requires.0)
+
+-- src/lib.rt:52:1
+pub shape_of-pairs : goal.shape_of-pairs
+shape_of-pairs c =
+    let i = c.loop-at.invariant in
+    omega (arith, i.0, i.4, i.5, i.6, i.7, i.8, c.requires.0)
+
+-- src/lib.rt:52:1
+pub shape_of-line : goal.shape_of-line
+shape_of-line c =
+    let i = c.loop-at.invariant in
+    omega (arith, i.0, i.4, i.5, i.6, i.7, i.8, c.requires.0)
+
+-- src/lib.rt:52:1
+pub shape_of-out : goal.shape_of-out
+shape_of-out c =
+    let i = c.loop-at.invariant in
+    omega (arith, i.0, i.4, i.5, i.6, i.7, i.8, c.requires.0)
+
+-- src/lib.rt:52:1
+pub returns : goal.returns
+returns c =
+    let a = c.args in
+    let d = c.loop-at in
+    let i = d.invariant in
+    let p = a.piece.now in (
+      (λ x A size s h y z st.
+          let so = i.9 x A size s h y z st in
+          at-end A size s x p d.at d.k d.line d.n d.out (memory d.tables d.arena) so c.loop-at-test.false _ refl refl),
+      i.1,
+      omega (arith, i.2, i.3, c.requires.2),
+    )

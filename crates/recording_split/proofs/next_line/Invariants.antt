@@ -1,0 +1,15 @@
+-- `recording_split::next_line` meets its contract. Assumes nothing.
+use native.Mathlib.Omega.{arith}
+use Rattle.recording_split.proofs.Holding.{SoFar, start, no_more, a-line, one_more}
+use Rattle.recording_split.specs.Held.{Holds}
+use Rattle.machine.specs.Names.{Bytes}
+use lib.ListN.{length}
+use Prim.Native.Nat.{◌+◌, ◌-◌, ◌≤◌}
+use mathlib.Core.Path.{◌≡◌, refl, ◌∙◌}
+use Rattle.recording_split.proofs.next_line.Given as goal
+
+abbrev pub invariant-loop-i : goal.invariant-loop-i
+invariant-loop-i l = (length l.line ≡ length l.initial.line) × (l.n ≤ length l.line + 1) × ((l : Bytes) → Holds l.initial.line l.held l → SoFar l.s l.at l.i l l.line l.n) × (l.at ≤ l.i)
+
+abbrev pub decreases-loop-i : goal.decreases-loop-i
+decreases-loop-i l = length l.s - l.i

@@ -4,16 +4,14 @@ ghost use Rattle.mem_layout.specs.Memory.{tables_length};
 ghost use Rattle.call_contract.specs.Made.{memory, MadeFresh};
 
 // The one right length of the tables.
-#[unsafe(no_mangle)]
-pub extern "C" fn rathnodi_tables_len() -> usize
+pub fn rathnodi_tables_len() -> usize
     ensures { result ≡ tables_length }
 {
     mem_layout::TABLES_LENGTH
 }
 
 // FRESH: an empty store, whatever the slices hold.
-#[unsafe(no_mangle)]
-pub extern "C" fn rathnodi_fresh(tables: &mut [u8], arena: &mut [u8]) -> u32
+pub fn rathnodi_fresh(tables: &mut [u8], arena: &mut [u8]) -> u32
     ensures { MadeFresh (memory tables.old arena.old) result (memory tables.new arena.new) }
 {
     store::fresh(tables, arena) as u32

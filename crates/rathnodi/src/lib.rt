@@ -1,5 +1,5 @@
-// The store for C: numbers and byte slices, each slice a pointer and a length (include/rathnodi.h).
-// The modules are public so that a crate of Rattle can make the same calls: `c_history` does.
+// The store as C sees it: numbers and byte slices (include/rathnodi.h). Crate `rathnodi_c` exports each of these functions to C, by the same
+// name and with the same clauses; a crate of Rattle makes the same calls by them, as `c_history` and `c_shift` do.
 #![tactic(auto)]
 
 pub mod carry;

@@ -10,8 +10,7 @@ use crate::REPLY_LEN;
 use call_types::Stamp;
 
 // PUT: the object at path becomes the content, with this stamp and these pairs.
-#[unsafe(no_mangle)]
-pub extern "C" fn rathnodi_put(
+pub fn rathnodi_put(
     tables: &mut [u8],
     arena: &mut [u8],
     stamp: u64,
@@ -29,8 +28,7 @@ pub extern "C" fn rathnodi_put(
 }
 
 // GET: the object's data to the front of the answer buffer, its pairs to that of the second one, and its metadata to the reply.
-#[unsafe(no_mangle)]
-pub extern "C" fn rathnodi_get(
+pub fn rathnodi_get(
     tables: &[u8],
     arena: &[u8],
     path: &[u8],
@@ -54,8 +52,7 @@ pub extern "C" fn rathnodi_get(
 }
 
 // HEAD: the object's pairs to the front of the second answer buffer, and its metadata to the reply.
-#[unsafe(no_mangle)]
-pub extern "C" fn rathnodi_head(
+pub fn rathnodi_head(
     tables: &[u8],
     arena: &[u8],
     path: &[u8],
@@ -78,8 +75,7 @@ pub extern "C" fn rathnodi_head(
 }
 
 // DELETE: the object at path is taken out.
-#[unsafe(no_mangle)]
-pub extern "C" fn rathnodi_delete(tables: &mut [u8], arena: &mut [u8], path: &[u8]) -> u32
+pub fn rathnodi_delete(tables: &mut [u8], arena: &mut [u8], path: &[u8]) -> u32
     ensures { Made (DELETE path.now)
         (memory tables.old arena.old)
         (numbered result)
@@ -91,8 +87,7 @@ pub extern "C" fn rathnodi_delete(tables: &mut [u8], arena: &mut [u8], path: &[u
 
 // DELETE_OBJECTS: the object at each place of `names` is taken out, in the order of the places, each two 32-bit numbers, start and
 // length; each place's result to the front of the result buffer.
-#[unsafe(no_mangle)]
-pub extern "C" fn rathnodi_delete_objects(
+pub fn rathnodi_delete_objects(
     tables: &mut [u8],
     arena: &mut [u8],
     names: &[u8],
@@ -111,8 +106,7 @@ pub extern "C" fn rathnodi_delete_objects(
 }
 
 // COPY: as a PUT of the source's data at the destination.
-#[unsafe(no_mangle)]
-pub extern "C" fn rathnodi_copy(
+pub fn rathnodi_copy(
     tables: &mut [u8],
     arena: &mut [u8],
     stamp: u64,
@@ -129,8 +123,7 @@ pub extern "C" fn rathnodi_copy(
 }
 
 // LIST: a record of each path with the prefix and the suffix to the front of the answer buffer, their counts to the reply.
-#[unsafe(no_mangle)]
-pub extern "C" fn rathnodi_list(
+pub fn rathnodi_list(
     tables: &[u8],
     arena: &[u8],
     prefix: &[u8],

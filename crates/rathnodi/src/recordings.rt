@@ -4,8 +4,7 @@ ghost use Rattle.call_contract.specs.Made.{memory};
 ghost use Rattle.rathnodi.specs.Line.{ExportedLine};
 
 // The call that the line says is made, over the answer buffers that it has, its reply to the reply; 9 where the line says none.
-#[unsafe(no_mangle)]
-pub extern "C" fn rathnodi_replay_line(
+pub fn rathnodi_replay_line(
     tables: &mut [u8],
     arena: &mut [u8],
     line: &[u8],

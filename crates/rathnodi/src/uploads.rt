@@ -10,8 +10,7 @@ use crate::REPLY_LEN;
 use call_types::{PartNumber, Stamp, UploadNumber};
 
 // INITIATE: an upload to path is opened with these pairs, its number to the reply.
-#[unsafe(no_mangle)]
-pub extern "C" fn rathnodi_initiate(
+pub fn rathnodi_initiate(
     tables: &mut [u8],
     arena: &mut [u8],
     stamp: u64,
@@ -35,8 +34,7 @@ pub extern "C" fn rathnodi_initiate(
 }
 
 // PART: a part of an open upload is set, its etag to the reply.
-#[unsafe(no_mangle)]
-pub extern "C" fn rathnodi_part(
+pub fn rathnodi_part(
     tables: &mut [u8],
     arena: &mut [u8],
     upload: u32,
@@ -66,13 +64,7 @@ pub extern "C" fn rathnodi_part(
 }
 
 // COMMIT: the parts, joined in listed order, become the object at the upload's path.
-#[unsafe(no_mangle)]
-pub extern "C" fn rathnodi_commit(
-    tables: &mut [u8],
-    arena: &mut [u8],
-    upload: u32,
-    list: &[u8],
-) -> u32
+pub fn rathnodi_commit(tables: &mut [u8], arena: &mut [u8], upload: u32, list: &[u8]) -> u32
     ensures { Made (COMMIT upload (part_list list.now))
         (memory tables.old arena.old)
         (numbered result)
@@ -83,8 +75,7 @@ pub extern "C" fn rathnodi_commit(
 }
 
 // ABORT: an open upload leaves the store with its parts.
-#[unsafe(no_mangle)]
-pub extern "C" fn rathnodi_abort(tables: &mut [u8], arena: &mut [u8], upload: u32) -> u32
+pub fn rathnodi_abort(tables: &mut [u8], arena: &mut [u8], upload: u32) -> u32
     ensures { Made (ABORT upload)
         (memory tables.old arena.old)
         (numbered result)
@@ -96,8 +87,7 @@ pub extern "C" fn rathnodi_abort(tables: &mut [u8], arena: &mut [u8], upload: u3
 
 // SWEEP: the open uploads that started before the stamp leave the store with their parts, by ascending number, at most
 // so many; to the reply how many, and whether more are due.
-#[unsafe(no_mangle)]
-pub extern "C" fn rathnodi_sweep(
+pub fn rathnodi_sweep(
     tables: &mut [u8],
     arena: &mut [u8],
     stamp: u64,
@@ -120,8 +110,7 @@ pub extern "C" fn rathnodi_sweep(
 }
 
 // UPLOADS: a record of each open upload under the prefix to the front of the answer buffer, their counts to the reply.
-#[unsafe(no_mangle)]
-pub extern "C" fn rathnodi_uploads(
+pub fn rathnodi_uploads(
     tables: &[u8],
     arena: &[u8],
     prefix: &[u8],

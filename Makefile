@@ -13,6 +13,6 @@ bench: bench-foundation
 
 bench-foundation:
 	@echo '#include <openssl/evp.h>' | $(CC) -E - >/dev/null 2>&1 || { echo "OpenSSL's headers are missing: apt-get install -y libssl-dev" >&2; exit 1; }
-	@mkdir -p target && rt staticlib bench_probe >target/bench_probe.out 2>&1 || { cat target/bench_probe.out; exit 1; }
-	@$(CC) -O2 -Wall -Wextra -o target/bench-foundation bench/foundation.c target/staticlib/libbench_probe.a -lcrypto
+	@mkdir -p target && (cd crates/bench_probe && rt lib) >target/bench_probe.out 2>&1 || { cat target/bench_probe.out; exit 1; }
+	@$(CC) -O2 -Wall -Wextra -o target/bench-foundation bench/foundation.c crates/bench_probe/out/libbench_probe.a -lcrypto
 	@target/bench-foundation

@@ -49,21 +49,23 @@ install: $(LIB) $(REPLAY)
 target/host/%: host/panel/%.c host/panel/check.h include/rathnodi.h $(LIB) target/host/built-by
 	@$(CC) $(HOST_CFLAGS) -o $@ $< $(LIB) $(HOST_LIBS)
 
-# The archive and the program are made again where a crate or the kit has changed. They get the time at which that began, so
-# that a file saved meanwhile is newer. Where there is no rt, what is at hand is taken as it stands. The program runs by itself on
-# x86-64 Linux with glibc 2.34 or later.
+# The archive and the program are made again where a crate or the kit has changed: what rt leaves in a crate's out/ is copied. They get the
+# time at which that began, so that a file saved meanwhile is newer. `rt run` also runs the program, here over no input. Where there is no rt,
+# what is at hand is taken as it stands. The program runs by itself on x86-64 Linux with glibc 2.34 or later.
 ifneq ($(shell command -v rt 2>/dev/null),)
-target/staticlib/librathnodi.a: $(shell find crates crates.txt ! -path '*/must-fail*') target/kit
-	@echo "rt staticlib rathnodi: what has changed is proved, then compiled; from nothing that takes some minutes"
-	@touch target/began
-	@rt staticlib rathnodi >target/rathnodi.out 2>&1 || { cat target/rathnodi.out; exit 1; }
-	@touch -r target/began $@
+SOURCES := $(shell find crates.txt crates/*/src crates/*/specs crates/*/proofs)
 
-target/bin/replay: $(shell find crates crates.txt ! -path '*/must-fail*') target/kit
-	@echo "rt check replay: what has changed is proved, then the program is compiled"
-	@touch target/began
-	@rt check replay >target/replay.out 2>&1 || { cat target/replay.out; exit 1; }
-	@touch -r target/began $@
+target/staticlib/librathnodi.a: $(SOURCES) target/kit
+	@echo "rt lib of crate rathnodi_c: what has changed is proved, then compiled; from nothing that takes some minutes"
+	@mkdir -p $(@D) && touch target/began
+	@(cd crates/rathnodi_c && rt lib) >target/rathnodi.out 2>&1 || { cat target/rathnodi.out; exit 1; }
+	@cp crates/rathnodi_c/out/librathnodi_c.a $@ && touch -r target/began $@
+
+target/bin/replay: $(SOURCES) target/kit
+	@echo "rt run of crate replay: what has changed is proved, then the program is compiled"
+	@mkdir -p $(@D) && touch target/began
+	@(cd crates/replay && rt run </dev/null) >target/replay.out 2>&1 || { cat target/replay.out; exit 1; }
+	@cp crates/replay/out/replay $@ && touch -r target/began $@
 else
 target/staticlib/librathnodi.a target/bin/replay: FORCE
 	@test -f $@ || { echo "there is neither rt (the Rattle kit) nor $@" >&2; exit 1; }

@@ -3,7 +3,8 @@
 cites of another; and each crate that a comment of a source names. Where a page says whose a name is ("`crate`: `edit`", "Steps: `act`", "`law`
 (`crate`, proofs/File.antt)"), it is looked up there. Prints each that is not there, with file and line. The last line counts.
 
-docs/CHANGES.md is history, and old names may stand there: only its links and the new names of its map (column "now") are looked up.
+docs/CHANGES.md and docs/PORT.md are history, and old names may stand there: only their links and the new names of the former's map (column
+"now") are looked up.
 """
 import glob
 import itertools
@@ -13,7 +14,7 @@ import sys
 
 os.chdir(os.path.dirname(os.path.abspath(__file__)) + "/..")
 PAGES = ["README.md", "CONTRIBUTING.md", "host/README.md"] + sorted(glob.glob("docs/*.md"))
-HISTORY = "docs/CHANGES.md"
+HISTORY, PORT = "docs/CHANGES.md", "docs/PORT.md"
 
 # Spans that are no names of this tree: words of the languages, placeholders, names of the kit and of libraries.
 OTHER = set("""
@@ -24,9 +25,11 @@ OTHER = set("""
 """.split())
 # Crates to come, to which CONTRIBUTING.md gives names. One that has landed is taken out here.
 COMING = set("recording_shift recording_convert meter meter_bound contest contest_play".split())
+# The commands of rt. Those over crates, ci and must-fail, take the crates' names; the others go over the crate in whose folder they are called.
+VERBS = set("ci must-fail check try test run lib lemma fmt tidy expand plant seed verdict all new doc version help selftest".split())
 # Words before a colon that are no file of specs/.
 LEADS = {"Stated", "Proved", "Tested"}
-COMMANDS = ("rt ", "rattle-kit", "cd ", "cc ", "valgrind ", "apt-get ", "pkg-config ", "#include", "-")
+COMMANDS = ("rattle-kit", "cd ", "cc ", "valgrind ", "apt-get ", "pkg-config ", "#include", "-")
 
 
 def read(path):
@@ -43,16 +46,17 @@ IN_FILE = {}  # crates/NAME/specs/X.antt, or proofs/: what it declares
 SPECS = {}  # X: what every specs/X.antt declares
 ITEMS = {}  # a crate: its functions, types, constants and modules, and what it hands on
 WORDS = set()  # all words of the sources
-WORD = re.compile(r"[\w′₀-₉][\w′₀-₉-]*")
+WORD = re.compile(r"[\w₀-₉][\w'₀-₉-]*")
 SIGNATURE = re.compile(r"(?:^\s*(?:(?:unfoldable|abbrev|pub|axiom) )*|\()((?:[^\s(){}.;,:]+ )+)(?:\{[^}]*\} )?: |^\s*(?:pub )?(?:record|data) (\S+)", re.M)
 ITEM = re.compile(r"\b(?:fn|struct|enum|const|static|mod|type) +(\w+)|\bpub use ([^;]+);")
-CODE = re.compile(r"\b(?:fn|struct|enum|const|static|mod|type|let(?: mut)?|define) +(\w+)|\b(\w+)(?=\s*[:(){=,;\[])")
+CODE = re.compile(r"\b(?:fn|struct|enum|const|static|mod|type|let(?: mut)?|define|requires|ensures) +(\w+)|\b(\w+)(?=\s*[:(){=,;\[])")
 
 
 def take(path, owner, comment, declarations):
     """declares what a source declares, its comments left out"""
     text = re.sub(comment, "", read(path))
-    WORDS.update(WORD.findall(text))
+    words = WORD.findall(text)
+    WORDS.update(words + [word.rstrip("'") for word in words])
     names = {name for found in declarations.findall(text) for part in found for name in part.split()}
     for name in names:
         DECLARED.setdefault(name, set()).add(owner)
@@ -72,7 +76,7 @@ for path in glob.glob("crates/*/src/**/*.rt", recursive=True):
 HOST = [path for kind in ("h", "c", "rs", "py", "mk") for folder in ("include", "bench", "host") for path in glob.glob("%s/**/*.%s" % (folder, kind), recursive=True)]
 for path in HOST + ["Makefile"]:
     take(path, "host", r"//.*|/\*[\s\S]*?\*/", CODE)
-FILES = {os.path.basename(path) for path in list(IN_FILE) + HOST}
+FILES = {os.path.basename(path) for path in list(IN_FILE) + HOST + glob.glob("host/man/*")}
 TARGETS = set(re.findall(r"^([\w-]+):", read("Makefile") + read("host/host.mk"), re.M))
 
 
@@ -119,9 +123,10 @@ def look_name(span, where):
 
 
 def look_span(span, where, crates):
-    command = re.match(r"rt (?:check|must-fail|dev|staticlib) (.*)", span)
+    command = re.match(r"rt ([\w-]+)(.*)", span)
     if command:
-        for name in command[1].split():
+        look(command[1] in VERBS, where, span)
+        for name in command[2].split() if command[1] in ("ci", "must-fail") else []:
             look(name in CRATES or name in OTHER, where, "%s (in `%s`)" % (name, span))
     elif span in OTHER or span in COMING or span.startswith(COMMANDS) or '"' in span or not re.search(r"[A-Za-z]{2}", span):
         pass
@@ -131,7 +136,7 @@ def look_span(span, where, crates):
         look(any(name.endswith(span) for name in DECLARED), where, span)
     elif span.endswith("_"):
         look(any(name.startswith(span) for name in CRATES), where, span)
-    elif re.match(r"[\w.{},*-]+(?:/[\w.{},/*-]*|\.(?:antt|md|rs|rt|c|h|py|txt))(?: |$)", span):
+    elif re.match(r"[\w.{},*-]+(?:/[\w.{},/*-]*|\.(?:antt|md|rs|rt|c|h|py|txt|[13]))(?: |$)", span):
         if not span.startswith(("target/", "PREFIX/")):
             look_path(span.split()[0], where, crates)
     else:
@@ -141,7 +146,7 @@ def look_span(span, where, crates):
 def look_in(declared, names, where, owner):
     """names that the page says to be in one file"""
     for name in SPAN.findall(names):
-        if re.match(r"[\w′-]+$", name) and name not in OTHER and name not in CRATES:
+        if re.match(r"[\w'◌-]+$", name) and name not in OTHER and name not in CRATES:
             look(name in declared, where, "%s (of %s)" % (name, owner))
 
 
@@ -211,12 +216,12 @@ def look_page(page):
         look_links(block, at, page)
         if block.startswith("|---"):
             head = last
-        elif page != HISTORY:
+        elif page not in (HISTORY, PORT):
             look_text(block, at)
             look_cells(cells, head, (page, line))
             for m in re.finditer(r"^    make ([\w-]+)", block, re.M):
                 look(m[1] in TARGETS, at(m), "make " + m[1])
-        else:
+        elif page == HISTORY:
             for cell, title in zip(cells, head):
                 for name in SPAN.findall(cell) if title == "now" else []:
                     look(name in CRATES or name in DECLARED, (page, line), name)

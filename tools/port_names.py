@@ -1,12 +1,14 @@
 #!/usr/bin/env python3
 """Brings the definitions and lemmas of specs/ and proofs/ to snake case, after port.py: once, at the top of the repository.
 
-    tools/port_names.py [--check]
+    tools/port_names.py [--check | --pages]
 
 A word that specs/ or proofs/ declare, begins low and has a capital after a small letter or a digit is respelled wherever it stands as a word of
 .antt, .rt and .edit files: listFits becomes list_fits, and bytesOf-fromBytes becomes bytes_of-from_bytes. Types and modules keep their spelling.
 In .edit files what port.py turns in the others is turned too: a prime, operators in imports, paths with a middle dot, clauses' brackets.
 --check names the words that would fall together, and writes nothing.
+--pages, at any time after, respells what the pages name in `backticks`: a word that no source has, where the sources declare it in snake case or
+with underscores for its hyphens. docs/CHANGES.md and docs/PORT.md keep the names of their time.
 """
 import glob
 import re
@@ -63,7 +65,30 @@ def lemma_names(text):
     return text
 
 
+def pages():
+    text = "\n".join(re.sub(r"(--|//).*", "", read(path)) for path in files(".antt", ".rt"))
+    name = re.compile(r"[A-Za-z_◌][\w'′₀-₉◌-]*")
+    known = set(name.findall(text))
+
+    def today(match):
+        word = match.group()
+        turns = [word.replace("′", "'"), "-".join(map(snake, word.replace("′", "'").split("-"))), re.sub(r"(?<![a-zA-Z])_|_(?![a-z])|(?<=else)_", "◌", word)]
+        turns += [turn.replace("-", "_") for turn in turns]
+        return word if word in known or word[0].isupper() else next((turn for turn in turns if turn in known), word)
+
+    for path in ["README.md", "CONTRIBUTING.md", "host/README.md"] + sorted(glob.glob("docs/*.md")):
+        if path in ("docs/CHANGES.md", "docs/PORT.md"):
+            continue
+        parts = re.split(r"(^```.*?^```$|`[^`]+`)", read(path), flags=re.M | re.S)
+        new = "".join(name.sub(today, part) if re.match(r"`[^`]", part) else part for part in parts)
+        if new != read(path):
+            with open(path, "w", encoding="utf-8") as f:
+                f.write(new)
+
+
 def main():
+    if "--pages" in sys.argv:
+        return pages()
     words = words_to_turn()
     if "--check" in sys.argv:
         for path in files(".antt", ".rt"):

@@ -1,4 +1,4 @@
-//! Links librathnodi.a: that of `rt staticlib rathnodi`, or of the folder that RATHNODI_LIB_DIR names.
+//! Links librathnodi.a: that of crate `rathnodi_c`, or of the folder that RATHNODI_LIB_DIR names.
 
 use std::path::PathBuf;
 
@@ -10,7 +10,7 @@ fn main() {
     };
     let archive = folder.join("librathnodi.a");
     if !archive.exists() {
-        panic!("{} is missing: run `rt staticlib rathnodi` first", archive.display());
+        panic!("{} is missing: run `make target/staticlib/librathnodi.a` first", archive.display());
     }
     println!("cargo:rerun-if-changed={}", archive.display());
     println!("cargo:rustc-link-search=native={}", folder.display());

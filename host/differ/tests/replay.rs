@@ -1,5 +1,5 @@
 //! The program `replay` over whole inputs, beside the independent reader and store. RATHNODI_REPLAY
-//! names the program; else it is that of `rt check replay`.
+//! names the program; else it is that of `make target/bin/replay`.
 
 use differ::lines;
 use differ::list::{Line, Step};
@@ -23,7 +23,7 @@ fn printed(pieces: &[&[u8]]) -> String {
         .stdin(Stdio::piped())
         .stdout(Stdio::piped())
         .spawn()
-        .expect("the program replay: run `rt check replay`, or set RATHNODI_REPLAY");
+        .expect("the program replay: run `make target/bin/replay`, or set RATHNODI_REPLAY");
     let (mut input, mut output) = (child.stdin.take().unwrap(), child.stdout.take().unwrap());
     let mut text = String::new();
     thread::scope(|scope| {

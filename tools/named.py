@@ -19,7 +19,7 @@ HISTORY, PORT = "docs/CHANGES.md", "docs/PORT.md"
 # Spans that are no names of this tree: words of the languages, placeholders, names of the kit and of libraries.
 OTHER = set("""
     &mut &[u8] extern static inline requires ensures axiom use pub mod abbrev unfoldable unfolding record data where u8 u16 u32 u64 usize
-    NAME NAME.. NAME_whole call_NAME BASE PREFIX PKG_CONFIG_PATH RT_JOBS file: old: new: .. io libc std rt cargo gcc g++ clang python3
+    x86-64-v2 NAME NAME.. NAME_whole call_NAME BASE PREFIX PKG_CONFIG_PATH RT_JOBS file: old: new: .. io libc std rt cargo gcc g++ clang python3
     pkg-config memmove memcpy memcmp libsqlite3-dev libssl-dev unsupported-associated-item cond true false none some Type Unit UTF8-1
     librathnodi.a abcd R D P Q A B
 """.split())

@@ -16,7 +16,7 @@ loop-i-init c = (refl, omega arith)
 pub returns-then-w-eq0 : goal.returns-then-w-eq0
 returns-then-w-eq0 c =
     let p = c.args.p.now in
-    sym (by_parts p (omega arith) (omega arith) ∙ c.loop-i.invariant.0 ∙ letter-none p c.loop-i.i c.loop-i c.letter-w.result c.letter-w.ensures c.if-w-eq0.true)
+    sym (by_parts p (omega arith) (omega arith) ∙ c.loop-i.invariant.0 ∙ letter-none p c.loop-i.i c.loop-i.before c.letter-w.result c.letter-w.ensures c.if-w-eq0.true)
 
 pub returns-then-doubled : goal.returns-then-doubled
 returns-then-doubled c =
@@ -24,7 +24,7 @@ returns-then-doubled c =
     let w = c.letter-w in
     sym (by_parts p (omega arith) (omega arith)
     ∙ c.loop-i.invariant.0
-    ∙ letter-doubled p c.loop-i.i c.loop-i w.result w.ensures (omega arith) (sym c.doubled.ensures ∙ c.if-doubled.true))
+    ∙ letter-doubled p c.loop-i.i c.loop-i.before w.result w.ensures (omega arith) (sym c.doubled.ensures ∙ c.if-doubled.true))
 
 pub overflow_add-i : goal.overflow_add-i
 overflow_add-i c = let w = c.letter-w in omega (arith, w.ensures.inside)
@@ -36,11 +36,11 @@ pub loop-i-preserved : goal.loop-i-preserved
 loop-i-preserved c =
     let p = c.args.p.now in
     let w = c.letter-w in (
-      c.loop-i.invariant.0 ∙ letter-passed p c.loop-i.i c.loop-i w.result w.ensures (omega arith) (sym c.doubled.ensures ∙ c.if-doubled.false),
+      c.loop-i.invariant.0 ∙ letter-passed p c.loop-i.i c.loop-i.before w.result w.ensures (omega arith) (sym c.doubled.ensures ∙ c.if-doubled.false),
       w.ensures.inside,
     )
 
 pub returns : goal.returns
 returns c =
     let p = c.args.p.now in
-    sym (by_parts p (omega arith) (omega arith) ∙ c.loop-i.invariant.0 ∙ letters-end p c.loop-i.i c.loop-i c.loop-i-test.false)
+    sym (by_parts p (omega arith) (omega arith) ∙ c.loop-i.invariant.0 ∙ letters-end p c.loop-i.i c.loop-i.before c.loop-i-test.false)

@@ -5,4 +5,5 @@ pub mod FormerStands
 pub mod FormerBack
 pub mod FormerPaths
 pub mod FormerParts
+pub mod FormerRules
 pub mod Grammar

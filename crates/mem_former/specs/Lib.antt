@@ -3,4 +3,5 @@ pub mod FormerMemory
 pub mod FormerStands
 pub mod FormerCases
 pub mod FormerParts
+pub mod Former
 pub mod Abnf

@@ -15,13 +15,15 @@
 
 #include "rathnodi.h"
 
-/* A replay lends as much for the arena and for an answer, so that it answers as the panel's store did. */
-enum { LENT = 65536 };
+/* A replay lends as much for the arena and for an answer. A shift that is recorded has as much, so that a replay of it
+ * answers as the panel's store did; else the arena is a small one, and an answer has room for the longest list. */
+enum { LENT = 65536, SMALL_ARENA = 4096, LONGEST_LIST = RATHNODI_OBJECTS_MAX * RATHNODI_LIST_RECORD_MAX };
 
 /* The store, and what the panel lends for answers. */
 static uint8_t tables[RATHNODI_TABLES_LEN];
 static uint8_t arena[LENT];
 static uint8_t answer[LENT];
+static size_t arena_len = SMALL_ARENA, answer_len = LONGEST_LIST;
 static uint8_t pairs_answer[RATHNODI_PAIRS_BYTES_MAX];
 static struct rathnodi_reply reply;
 
@@ -29,7 +31,7 @@ static struct rathnodi_reply reply;
 static uint8_t pairs[RATHNODI_PAIRS_BYTES_MAX];
 static size_t pairs_len;
 
-#define STORE tables, sizeof tables, arena, sizeof arena
+#define STORE tables, sizeof tables, arena, arena_len
 #define PAIRS_ANSWER pairs_answer, sizeof pairs_answer
 #define REPLY (uint8_t *)&reply, sizeof reply
 #define TEXT(text) (const uint8_t *)(text), strlen(text)
@@ -145,7 +147,7 @@ static void head(const char *path, uint32_t expected)
 static size_t get(const char *path, uint32_t expected)
 {
     printf("  get       \"%s\" ", path);
-    uint32_t number = rathnodi_get(STORE, TEXT(path), answer, sizeof answer, PAIRS_ANSWER, REPLY);
+    uint32_t number = rathnodi_get(STORE, TEXT(path), answer, answer_len, PAIRS_ANSWER, REPLY);
     record(rathnodi_line_get(LINE, TEXT(path)), number);
     if (!answered(number, expected)) {
         printf("\n");
@@ -179,7 +181,7 @@ static void list(const char *prefix, const char *suffix, size_t room, uint32_t e
 {
     printf("  list      prefix \"%s\", suffix \"%s\", into %zu bytes ", prefix, suffix, room);
     uint32_t number = rathnodi_list(STORE, TEXT(prefix), TEXT(suffix), answer, room, REPLY);
-    if (room == sizeof answer) {
+    if (room == answer_len) {
         record(rathnodi_line_list(LINE, TEXT(prefix), TEXT(suffix)), number);
     }
     if (!answered(number, expected)) {
@@ -300,8 +302,8 @@ static void sweep(uint64_t stamp, uint32_t most, uint32_t expected, uint32_t exp
 
 static void uploads(const char *prefix, uint32_t expected)
 {
-    printf("  uploads   prefix \"%s\", into %zu bytes ", prefix, sizeof answer);
-    uint32_t number = rathnodi_uploads(STORE, TEXT(prefix), answer, sizeof answer, REPLY);
+    printf("  uploads   prefix \"%s\", into %zu bytes ", prefix, answer_len);
+    uint32_t number = rathnodi_uploads(STORE, TEXT(prefix), answer, answer_len, REPLY);
     record(rathnodi_line_uploads(LINE, TEXT(prefix)), number);
     if (!answered(number, expected)) {
         printf("\n");
@@ -335,12 +337,12 @@ static size_t draw_label(uint8_t *picture, size_t room)
 static void shift(void)
 {
     say("The terminal starts with an empty store.");
-    printf("  tables    %zu bytes, arena %zu bytes\n", rathnodi_tables_len(), sizeof arena);
+    printf("  tables    %zu bytes, arena %zu bytes\n", rathnodi_tables_len(), arena_len);
     printf("  fresh     ");
     answered(rathnodi_fresh(STORE), RATHNODI_OK);
     printf("\n");
     head("", RATHNODI_OK);
-    list("", "", sizeof answer, RATHNODI_OK);
+    list("", "", answer_len, RATHNODI_OK);
 
     say("Recipes are put; one of them twice.");
     put_text(SHIFT, "recipe/rye", "rye flour 60 kg\nwater 42 kg\nsalt 1.2 kg\nsour 9 kg\n", RATHNODI_OK);
@@ -382,7 +384,7 @@ static void shift(void)
     with("scale", "1");
     uint32_t scale_1 = initiate(SHIFT + 60, "weighing/scale-1", RATHNODI_OK);
     part(scale_1, 1, "03:01 rye flour 59.98 kg\n03:03 water 43.02 kg\n", RATHNODI_OK);
-    list("weighing/", "", sizeof answer, RATHNODI_OK);
+    list("weighing/", "", answer_len, RATHNODI_OK);
     uploads("weighing/", RATHNODI_OK);
     part(scale_1, 3, "03:09 sour 9.00 kg\n", RATHNODI_OK);
     uint32_t scale_2 = initiate(SHIFT + 300, "weighing/scale-2", RATHNODI_OK);
@@ -405,14 +407,14 @@ static void shift(void)
 
     say("What does not fit is refused, and changes nothing.");
     static uint8_t poster[LENT];
-    put(SHIFT + 950, "label/poster.pbm", poster, sizeof poster, RATHNODI_ARENA_FULL);
+    put(SHIFT + 950, "label/poster.pbm", poster, arena_len, RATHNODI_ARENA_FULL);
     list("", "", 46, RATHNODI_BUFFER_SHORT);
 
     say("A shelf of old recipes is cleared in one call; a second one finds none of them.");
     copy(SHIFT + 960, "recipe/rye", "recipe/old/rye-1", RATHNODI_OK);
     copy(SHIFT + 961, "recipe/rye", "recipe/old/rye-2", RATHNODI_OK);
     copy(SHIFT + 962, "recipe/roll", "recipe/old/roll", RATHNODI_OK);
-    list("recipe/old/", "", sizeof answer, RATHNODI_OK);
+    list("recipe/old/", "", answer_len, RATHNODI_OK);
     delete_listed(RATHNODI_OK, RATHNODI_OK);
     delete_listed(RATHNODI_OK, RATHNODI_NOT_FOUND);
 
@@ -428,8 +430,8 @@ static void shift(void)
 
     say("The end of the shift.");
     delete("recipe/roll-sunday", RATHNODI_OK);
-    list("recipe/", "", sizeof answer, RATHNODI_OK);
-    list("", "", sizeof answer, RATHNODI_OK);
+    list("recipe/", "", answer_len, RATHNODI_OK);
+    list("", "", answer_len, RATHNODI_OK);
     uploads("", RATHNODI_OK);
 }
 
@@ -454,6 +456,7 @@ int main(int count, char **words)
             perror("panel: the recording");
             return 1;
         }
+        arena_len = answer_len = LENT;
     }
     shift();
     surprises += without_line != 1; /* the poster's */

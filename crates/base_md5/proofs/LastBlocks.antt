@@ -42,7 +42,7 @@ tailed d s start at x {t₁} {t₂} es h₁ h₂ h₃ e₀ ex e₂ =
     let n : length s ≡ length d - start = ap length whole ∙ length-drop start d in
     let er : length d - start ≡ length s = sym n in
     let e₁ : t₁ ≡ take (length s) s ++ drop (length s) (nulls 128) =
-      e₀ ∙ ap (λ (k : ℕ). s ++ drop k (nulls 128)) (zero-add (length s)) ∙ ap (λ (l : List ℕ). l ++ drop (length s) (nulls 128)) (sym (take_all (length s) s (le_of_eq refl))) in
+    e₀ ∙ ap (λ (k : ℕ). s ++ drop k (nulls 128)) (zero-add (length s)) ∙ ap (λ (l : List ℕ). l ++ drop (length s) (nulls 128)) (sym (take_all (length s) s (le_of_eq refl))) in
     let p : List ℕ = s ++ 128 ∷ nulls z in
     let lp : length p ≡ at = simp (length-append, length-replicate) (omega arith) in
     let bits : List ℕ = le 8 (8 * length d % 2 ^ 64) in

@@ -20,7 +20,7 @@ loop-i-smaller c = let k = c.next_block-k.ensures in omega (arith, k.0, k.2 (ome
 pub loop-i-preserved : goal.loop-i-preserved
 loop-i-preserved c =
     let l = c.loop-i in
-        let a = c.args in
+    let a = c.args in
     let k = c.next_block-k in
     let two = c.move_block in
     (omega (arith, k.ensures.0), two.auto.b ∙ l.invariant.1, left-block a.b.now l.b two.new.b a.from a.to l.i k.result c.requires.0 (omega (arith, k.ensures.0)) l.invariant.2 two.ensures)

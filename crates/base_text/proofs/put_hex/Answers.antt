@@ -22,7 +22,7 @@ bounds-dst-to-in-loop-i c = rw length-set (omega arith)
 pub loop-i-preserved : goal.loop-i-preserved
 loop-i-preserved c =
     let l = c.loop-i in
-        let a = c.args in (
+    let a = c.args in (
       omega arith,
       rw (length-set, length-set) l.invariant.1,
       hex-step a.dst.now l.dst a.src.now a.at l.i l.invariant.2 c.hex_digit-high.result c.hex_digit-low.result c.requires (omega arith)

@@ -20,11 +20,11 @@ size-n-requires c = front_fits_lem c.args.rest.now c.requires.0 c.requires.1
 pub has_key-requires : goal.has_key-requires
 has_key-requires c =
     let n = c.size-n in
-        rw (after_front c.args.rest.now n.result n.ensures.0) (tail-formed c.args.rest.now c.requires.0 c.requires.1)
+    rw (after_front c.args.rest.now n.result n.ensures.0) (tail-formed c.args.rest.now c.requires.0 c.requires.1)
 
 pub returns : goal.returns
 returns c =
     let n = c.size-n in
-        let bs = c.args.rest.now in
+    let bs = c.args.rest.now in
     again-own bs _ _ c.key-key.ensures c.system_key.ensures _ (drop (front_size bs) bs) (after_front bs n.result n.ensures.0)
     c.if-system_key.false c.has_key.result c.has_key.ensures

@@ -46,8 +46,7 @@ loop-at-preserved c =
 
 pub returns : goal.returns
 returns c =
-    let ps : List ℕ = c.args.pairs.now in
-    (
+    let ps : List ℕ = c.args.pairs.now in (
       summed-all (λ l. length (kept l)) (ps) c.loop-at.at c.loop-at.n c.loop-at.invariant.0 refl (omega arith),
       summed-all (λ l. pairs_held (kept l)) (ps) c.loop-at.at c.loop-at.bytes c.loop-at.invariant.1 refl (omega arith),
     )

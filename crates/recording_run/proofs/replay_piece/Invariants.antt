@@ -23,4 +23,4 @@ invariant-loop-at l =
     × ((l : Bytes) (A size : ℕ) (s : State) → Holds l.initial.line l.held l → length l.initial.answer ≡ size → length l.initial.pairs ≡ size → Store A s (memory l.initial.tables l.initial.arena) → SoFar A size s l l.piece l.at l.k l.line l.n l.out (memory l.tables l.arena))
 
 abbrev pub decreases-loop-at : goal.decreases-loop-at
-decreases-loop-at l =     length l.piece - l.at
+decreases-loop-at l = length l.piece - l.at

@@ -15,7 +15,7 @@ bounds-b-j-in-loop-k c = rw length-set (omega arith)
 pub loop-k-preserved : goal.loop-k-preserved
 loop-k-preserved c =
     let l = c.loop-k in
-        let a = c.args in
+    let a = c.args in
     (omega arith, rw (length-set, length-set) l.invariant.1, swap_step a.b.now l.b a.i a.j a.n l.k l.invariant.2 c.requires.0 c.requires.1 (omega arith))
 
 pub shape_of-b : goal.shape_of-b

@@ -15,7 +15,7 @@ use Rattle.mem_find_uploads.proofs.Walk.{row_place, Reached, Turn, reached-place
 use Rattle.mem_find_uploads.proofs.search.pass_rows.Given as goal
 
 abbrev pub invariant-loop-row : goal.invariant-loop-row
-invariant-loop-row l =     Reached (state_of l.tables l.arena) l.row l.at l.base × (sought l.goal (rows_of (state_of l.tables l.arena)) l.initial.row ≡ sought l.goal (rows_of (state_of l.tables l.arena)) l.row) × (l.initial.row ≤ l.row)
+invariant-loop-row l = Reached (state_of l.tables l.arena) l.row l.at l.base × (sought l.goal (rows_of (state_of l.tables l.arena)) l.initial.row ≡ sought l.goal (rows_of (state_of l.tables l.arena)) l.row) × (l.initial.row ≤ l.row)
 
 abbrev pub decreases-loop-row : goal.decreases-loop-row
 decreases-loop-row l = l.rows - l.row

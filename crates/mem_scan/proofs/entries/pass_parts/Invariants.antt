@@ -20,8 +20,8 @@ use Rattle.mem_scan.proofs.entries.pass_parts.Given as goal
 abbrev pub invariant-loop-i : goal.invariant-loop-i
 invariant-loop-i l =
     ((most next uploads opened : ℕ)
-    → entry_scan most next uploads opened (l.rows - l.first) l.initial.after (record { l.at = l.initial.at; l.base = l.initial.base }) l.t l.arena
-    ≡ entry_scan most next uploads opened (l.rows - l.i) l.after (record { l.at = l.at; l.base = l.base }) l.t l.arena)
+    → entry_scan most next uploads opened (l.rows - l.first) l.initial.after (record { at = l.initial.at; base = l.initial.base }) l.t l.arena
+    ≡ entry_scan most next uploads opened (l.rows - l.i) l.after (record { at = l.at; base = l.base }) l.t l.arena)
     × (l.at ≤ length l.t)
     × (l.base ≤ length l.arena)
     × (l.first ≤ l.i)

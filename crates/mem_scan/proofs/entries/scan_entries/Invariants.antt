@@ -18,8 +18,8 @@ use Rattle.mem_scan.proofs.entries.scan_entries.Given as goal
 
 abbrev pub invariant-loop-i : goal.invariant-loop-i
 invariant-loop-i l =
-    (entry_scan l.most l.next l.uploads l.initial.opened l.rows l.initial.m (record { l.at = l.initial.at; l.base = l.initial.base }) l.t l.arena
-    ≡ entry_scan l.most l.next l.uploads l.opened (l.rows - l.i) l.m (record { l.at = l.at; l.base = l.base }) l.t l.arena)
+    (entry_scan l.most l.next l.uploads l.initial.opened l.rows l.initial.m (record { at = l.initial.at; base = l.initial.base }) l.t l.arena
+    ≡ entry_scan l.most l.next l.uploads l.opened (l.rows - l.i) l.m (record { at = l.at; base = l.base }) l.t l.arena)
     × (l.at ≤ length l.t)
     × (l.base ≤ length l.arena)
     × (l.i ≤ l.rows)

@@ -18,8 +18,8 @@ use Rattle.mem_scan_objects.proofs.objects.scan_from.Given as goal
 
 abbrev pub invariant-loop-i : goal.invariant-loop-i
 invariant-loop-i l =
-    (object_scan l.most l.rows (take (l.initial.at - l.before) (drop l.before l.t)) (record { l.at = l.initial.at; l.base = l.initial.base }) l.t l.arena
-    ≡ object_scan l.most (l.rows - l.i) (take (l.last_end - l.last) (drop l.last l.t)) (record { l.at = l.at; l.base = l.base }) l.t l.arena)
+    (object_scan l.most l.rows (take (l.initial.at - l.before) (drop l.before l.t)) (record { at = l.initial.at; base = l.initial.base }) l.t l.arena
+    ≡ object_scan l.most (l.rows - l.i) (take (l.last_end - l.last) (drop l.last l.t)) (record { at = l.at; base = l.base }) l.t l.arena)
     × (l.last ≤ l.last_end)
     × (l.last_end ≤ l.at)
     × (l.at ≤ length l.t)

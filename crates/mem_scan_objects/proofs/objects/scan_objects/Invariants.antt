@@ -19,8 +19,8 @@ use Rattle.mem_scan_objects.proofs.objects.scan_objects.Given as goal
 
 abbrev pub invariant-loop-i : goal.invariant-loop-i
 invariant-loop-i l =
-    (object_scan l.most l.rows [] (record { l.at = l.initial.at; l.base = l.initial.base }) l.t l.arena
-    ≡ object_scan l.most (l.rows - l.i) (take (l.at - l.last) (drop l.last l.t)) (record { l.at = l.at; l.base = l.base }) l.t l.arena)
+    (object_scan l.most l.rows [] (record { at = l.initial.at; base = l.initial.base }) l.t l.arena
+    ≡ object_scan l.most (l.rows - l.i) (take (l.at - l.last) (drop l.last l.t)) (record { at = l.at; base = l.base }) l.t l.arena)
     × (l.last ≤ l.at)
     × (l.at ≤ length l.t)
     × (l.base ≤ length l.arena)

@@ -20,4 +20,4 @@ pub returns : goal.returns
 returns c =
     let s = c.size-to in
     let m = c.middle-from in
-        value-is c.args.rest.now m.result s.result m.ensures.0 s.ensures.0
+    value-is c.args.rest.now m.result s.result m.ensures.0 s.ensures.0

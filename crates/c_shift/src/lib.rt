@@ -1,6 +1,8 @@
 // A C program's shift: each exported function called as C calls it, and all of them in one list, with what is known then.
 #![tactic(auto)]
 
+pub mod shift;
+
 ghost use Rattle.machine.specs.Calls.{buffers};
 ghost use Rattle.call_contract.specs.Made.{memory};
 ghost use Rattle.c_history.specs.Lists.{CRun};

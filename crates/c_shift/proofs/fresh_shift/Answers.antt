@@ -6,7 +6,7 @@ use Rattle.c_history.proofs.Known.{then, conclude}
 use Rattle.c_shift.proofs.fresh_shift.Goals as goal
 
 pub returns-then-n-ne0 : goal.returns-then-n-ne0
-returns-then-n-ne0 c = let c = c.rathnodi_fresh-n.ensures in (c.if-n-ne0.true, c.answers, c.refusal c.if-n-ne0.true, refl)
+returns-then-n-ne0 c = let made = c.rathnodi_fresh-n.ensures in (c.if-n-ne0.true, made.answers, made.refusal c.if-n-ne0.true, refl)
 
 pub shape_of-tables : goal.shape_of-tables
 shape_of-tables c = c.sweep-last.auto.tables ∙ c.weigh-weighed.auto.tables ∙ c.clear-cleared.auto.tables ∙ c.shelve-shelf.auto.tables ∙ c.rathnodi_fresh-n.auto.tables

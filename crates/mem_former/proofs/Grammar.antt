@@ -53,6 +53,7 @@ characters-octets p e = go (sound [] p e)
       where
         first : (s : Bytes) → Each [] s → s ++ g.left ≡ p → Octets p
         first [] none q = subst Octets q g.octets
+        first (_ ∷ _) x q = elim x [ ]
 
 -- no two rows share a first byte: for each row and each byte
 bytes : Range → Bool
@@ -88,6 +89,8 @@ row_opens b (other {f} r) w = rw (row_opens b r w) (or-true (within f.0 b))
 
 passed : (due : List Range) (c p : Bytes) → Each due c → characters [] p ≡ true → characters due (c ++ p) ≡ true
 passed [] [] p none e = e
+passed [] (b ∷ c) p x e = elim x [ ]
+passed (r ∷ due) [] p x e = elim x [ ]
 passed (r ∷ due) (b ∷ c) p (byte w each) e = and_both (within r b) _ w (passed due c p each e)
 
 pub octets-characters : (p : Bytes) → Octets p → characters [] p ≡ true

@@ -152,7 +152,7 @@ loop-i-preserved c =
     let twice : length (list c) ≡ 2 * (parts).count = omega (arith, c.if-list-count.left) in
     let inside : 2 * c.loop-i.i + 2 ≤ length (list) = let n = c.loop-i-test.true in omega (arith, twice) in
     let l = c.loop-i in
-    (omega arith, λ v x q e. passed-next x.parts (list) l.i (inside) (l.invariant.1 v x q e) (sym (c.number_fits.ensures v x q e) ∙ not-false _ (ap not c.if-not-number_fits.false)))
+        (omega arith, λ v x q e. passed-next x.parts (list) l.i (inside) (l.invariant.1 v x q e) (sym (c.number_fits.ensures v x q e) ∙ not-false _ (ap not c.if-not-number_fits.false)))
 
 pub returns : goal.returns
 returns c v x q e =

@@ -31,7 +31,8 @@ pub encode-requires : goal.encode-requires
 encode-requires c =
     let t : List ℕ = c.args.tables.now in
     let a : List ℕ = c.args.arena.now in
-    let sum : c.sum_of.result ≡ sum_of (lengths_at (drop c.args.at t)) = c.sum_of.ensures ∙ ap sum_of c.lengths-lengths.ensures in (
+    let sum : c.sum_of.result ≡ sum_of (lengths_at (drop c.args.at t)) = c.sum_of.ensures ∙ ap sum_of c.lengths-lengths.ensures in
+    (
       front-ok (t) (a) c.args.at c.args.base c.requires.0 _ c.lengths-lengths.ensures _ (sum),
       omega (arith, c.requires.1, front-size (t) (a) c.args.at c.args.base c.requires.0 _ c.lengths-lengths.ensures _ (sum)),
     )

@@ -1,6 +1,5 @@
 -- `mem_scan_rows::numbers_ok` meets its contract: the tests are the definition's, in another order. Assumes nothing.
 use Prim.Native.Nat.{◌≤◌, ◌<◌}
-use mathlib.Core.Logic.{⊎_elim}
 use mathlib.Core.Bool.{and-false, cond}
 use lib.Dec.{eqb}
 use Rattle.machine.proofs.Tests.{tests}
@@ -9,6 +8,7 @@ use borrow.Author.Tests.{lt-leb}
 use borrow.Author.Rules.{rules}
 use native.Mathlib.Omega.{arith}
 use Rattle.mem_scan_rows.proofs.numbers_ok.Goals as goal
+use Rattle.mem_scan_rows.proofs.numbers_ok.Goals.{then-h-ne0, else-h-ne0}
 
 pub returns-then-h-gt-JOINED_KIND : goal.returns-then-h-gt-JOINED_KIND
 unfolding all object_rule
@@ -29,5 +29,5 @@ pub returns : goal.returns
 unfolding all object_rule
 returns c most last path lengths content =
     let h = c.args.h in
-    let m : h.count ≤ cond (eqb h.kind plain_kind) 0 parts_most = ⊎_elim (λ w. rw w.1.ensures at w.3.left) (λ w. omega arith) c.if-h-ne0.branch in
+    let m : h.count ≤ cond (eqb h.kind plain_kind) 0 parts_most = elim c.if-h-ne0.branch [ then-h-ne0 w ↦ rw w.most_parts.ensures at w.if-most_parts-h.false | else-h-ne0 w ↦ omega arith ] in
     search tests

@@ -21,20 +21,18 @@ returns-in_default-numbers_field c =
     let a = c.args in
     let s = a.s.now in
     let n = c.number_field in
-    let g = c.upload-1.given in
-    let e = ap (number_meant s) (sym g.1) ∙ n.ensures in
+        let e = ap (number_meant s) (sym c.in-Got.is) ∙ n.ensures in
     let w = c.numbers_field in
-    (no-tail number numbers packed (drop a.at s) g.0.0 (drop g.0.1.0 s) e (ap (string_meant s w.new.out) (sym c.in_default-numbers_field.is) ∙ w.ensures.0), omega arith)
+    (no-tail number numbers packed (drop a.at s) c.in-Got.upload (drop c.in-Got.a s) e (ap (string_meant s w.new.out) (sym c.in_default-numbers_field.is) ∙ w.ensures.0), omega arith)
 
 pub returns : goal.returns
 returns c =
     let a = c.args in
     let s = a.s.now in
     let n = c.number_field in
-    let g = c.upload-1.given in
-    let e = ap (number_meant s) (sym g.1) ∙ n.ensures in
+        let e = ap (number_meant s) (sym c.in-Got.is) ∙ n.ensures in
     let w = c.numbers_field in
-    let k = c.len-1.given in (
-      two-read number numbers packed (drop a.at s) g.0.0 (drop g.0.1.0 s) e (take k.0.0 w.new.out) (drop k.0.1.0 s) (ap (string_meant s w.new.out) (sym k.1) ∙ w.ensures.0),
-      omega (arith, ap string_length (sym k.1), w.ensures.1),
+    (
+      two-read number numbers packed (drop a.at s) c.in-Got.upload (drop c.in-Got.a s) e (take c.in-Got-numbers_field.len w.new.out) (drop c.in-Got-numbers_field.next s) (ap (string_meant s w.new.out) (sym c.in-Got-numbers_field.is) ∙ w.ensures.0),
+      omega (arith, ap string_length (sym c.in-Got-numbers_field.is), w.ensures.1),
     )

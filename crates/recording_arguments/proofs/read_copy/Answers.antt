@@ -19,11 +19,10 @@ pub returns-in_default-string_field : goal.returns-in_default-string_field
 returns-in_default-string_field c =
     let a = c.args in
     let s = a.s.now in
-    let g = c.stamp-1.given in
-    let e = ap (number_meant s) (sym g.1) ∙ c.number_field.ensures in
+        let e = ap (number_meant s) (sym c.in-Got.is) ∙ c.number_field.ensures in
     let w = c.string_field in (
-      no_second number (both string string) (drop a.at s) g.0.0 (drop g.0.1.0 s) e
-          (no-first string string (drop g.0.1.0 s) (ap (string_meant s w.new.out) (sym c.in_default-string_field.is) ∙ w.ensures.0)),
+      no_second number (both string string) (drop a.at s) c.in-Got.stamp (drop c.in-Got.a s) e
+          (no-first string string (drop c.in-Got.a s) (ap (string_meant s w.new.out) (sym c.in_default-string_field.is) ∙ w.ensures.0)),
       tt,
     )
 
@@ -31,14 +30,12 @@ pub returns-in_default-string_field-2 : goal.returns-in_default-string_field-2
 returns-in_default-string_field-2 c =
     let a = c.args in
     let s = a.s.now in
-    let g = c.stamp-1.given in
-    let e = ap (number_meant s) (sym g.1) ∙ c.number_field.ensures in
+        let e = ap (number_meant s) (sym c.in-Got.is) ∙ c.number_field.ensures in
     let w = c.string_field in
-    let h = c.n-1.given in
-    let f = ap (string_meant s w.new.out) (sym h.1) ∙ w.ensures.0 in
+        let f = ap (string_meant s w.new.out) (sym c.in-Got-string_field.is) ∙ w.ensures.0 in
     let v = c.string_field-2 in (
-      no_second number (both string string) (drop a.at s) g.0.0 (drop g.0.1.0 s) e
-          (no_second string string (drop g.0.1.0 s) (take h.0.0 w.new.out) (drop h.0.1.0 s) f (ap (string_meant s v.new.out) (sym c.in_default-string_field-2.is) ∙ v.ensures.0)),
+      no_second number (both string string) (drop a.at s) c.in-Got.stamp (drop c.in-Got.a s) e
+          (no_second string string (drop c.in-Got.a s) (take c.in-Got-string_field.n w.new.out) (drop c.in-Got-string_field.b s) f (ap (string_meant s v.new.out) (sym c.in_default-string_field-2.is) ∙ v.ensures.0)),
       tt,
     )
 
@@ -46,15 +43,12 @@ pub returns : goal.returns
 returns c =
     let a = c.args in
     let s = a.s.now in
-    let g = c.stamp-1.given in
-    let e = ap (number_meant s) (sym g.1) ∙ c.number_field.ensures in
+        let e = ap (number_meant s) (sym c.in-Got.is) ∙ c.number_field.ensures in
     let w = c.string_field in
-    let h = c.n-1.given in
-    let f = ap (string_meant s w.new.out) (sym h.1) ∙ w.ensures.0 in
+        let f = ap (string_meant s w.new.out) (sym c.in-Got-string_field.is) ∙ w.ensures.0 in
     let v = c.string_field-2 in
-    let k = c.m-1.given in
-    let q = ap (string_meant s v.new.out) (sym k.1) ∙ v.ensures.0 in (
-      both_read number (both string string) (drop a.at s) g.0.0 (drop g.0.1.0 s) e ((take h.0.0 w.new.out), take k.0.0 v.new.out) (drop k.0.1.0 s)
-          (both_read string string (drop g.0.1.0 s) (take h.0.0 w.new.out) (drop h.0.1.0 s) f (take k.0.0 v.new.out) (drop k.0.1.0 s) q),
-      (omega (arith, ap string_length (sym h.1), w.ensures.1), omega (arith, ap string_length (sym k.1), v.ensures.1)),
+        let q = ap (string_meant s v.new.out) (sym c.in-Got-string_field-2.is) ∙ v.ensures.0 in (
+      both_read number (both string string) (drop a.at s) c.in-Got.stamp (drop c.in-Got.a s) e ((take c.in-Got-string_field.n w.new.out), take c.in-Got-string_field-2.m v.new.out) (drop c.in-Got-string_field-2.c s)
+          (both_read string string (drop c.in-Got.a s) (take c.in-Got-string_field.n w.new.out) (drop c.in-Got-string_field.b s) f (take c.in-Got-string_field-2.m v.new.out) (drop c.in-Got-string_field-2.c s) q),
+      (omega (arith, ap string_length (sym c.in-Got-string_field.is), w.ensures.1), omega (arith, ap string_length (sym c.in-Got-string_field-2.is), v.ensures.1)),
     )

@@ -27,11 +27,10 @@ pub returns-in_default-string_field : goal.returns-in_default-string_field
 returns-in_default-string_field c =
     let a = c.args in
     let s = a.s.now in
-    let g = c.stamp-1.given in
-    let e = ap (number_meant s) (sym g.1) ∙ c.number_field.ensures in
+        let e = ap (number_meant s) (sym c.in-Got.is) ∙ c.number_field.ensures in
     let w = c.string_field in (
-      no-tail number (both string pairs) (map_second packed_pairs) (drop a.at s) g.0.0 (drop g.0.1.0 s) e
-          (no-head string pairs packed_pairs (drop g.0.1.0 s) (ap (string_meant s w.new.out) (sym c.in_default-string_field.is) ∙ w.ensures.0)),
+      no-tail number (both string pairs) (map_second packed_pairs) (drop a.at s) c.in-Got.stamp (drop c.in-Got.a s) e
+          (no-head string pairs packed_pairs (drop c.in-Got.a s) (ap (string_meant s w.new.out) (sym c.in_default-string_field.is) ∙ w.ensures.0)),
       tt,
     )
 
@@ -40,14 +39,12 @@ pub returns-in_default-read_pairs : goal.returns-in_default-read_pairs
 returns-in_default-read_pairs c =
     let a = c.args in
     let s = a.s.now in
-    let g = c.stamp-1.given in
-    let e = ap (number_meant s) (sym g.1) ∙ c.number_field.ensures in
+        let e = ap (number_meant s) (sym c.in-Got.is) ∙ c.number_field.ensures in
     let w = c.string_field in
-    let h = c.n-1.given in
-    let f = ap (string_meant s w.new.out) (sym h.1) ∙ w.ensures.0 in
+        let f = ap (string_meant s w.new.out) (sym c.in-Got-string_field.is) ∙ w.ensures.0 in
     let v = c.read_pairs in (
-      no-tail number (both string pairs) (map_second packed_pairs) (drop a.at s) g.0.0 (drop g.0.1.0 s) e
-          (no-tail string pairs packed_pairs (drop g.0.1.0 s) (take h.0.0 w.new.out) (drop h.0.1.0 s) f (ap (string_meant s v.new.out) (sym c.in_default-read_pairs.is) ∙ v.ensures.0)),
+      no-tail number (both string pairs) (map_second packed_pairs) (drop a.at s) c.in-Got.stamp (drop c.in-Got.a s) e
+          (no-tail string pairs packed_pairs (drop c.in-Got.a s) (take c.in-Got-string_field.n w.new.out) (drop c.in-Got-string_field.b s) f (ap (string_meant s v.new.out) (sym c.in_default-read_pairs.is) ∙ v.ensures.0)),
       tt,
     )
 
@@ -56,15 +53,12 @@ pub returns : goal.returns
 returns c =
     let a = c.args in
     let s = a.s.now in
-    let g = c.stamp-1.given in
-    let e = ap (number_meant s) (sym g.1) ∙ c.number_field.ensures in
+        let e = ap (number_meant s) (sym c.in-Got.is) ∙ c.number_field.ensures in
     let w = c.string_field in
-    let h = c.n-1.given in
-    let f = ap (string_meant s w.new.out) (sym h.1) ∙ w.ensures.0 in
+        let f = ap (string_meant s w.new.out) (sym c.in-Got-string_field.is) ∙ w.ensures.0 in
     let v = c.read_pairs in
-    let k = c.m-1.given in
-    let q = ap (string_meant s v.new.out) (sym k.1) ∙ v.ensures.0 in (
-      two-read number (both string pairs) (map_second packed_pairs) (drop a.at s) g.0.0 (drop g.0.1.0 s) e ((take h.0.0 w.new.out), take k.0.0 v.new.out) (drop k.0.1.0 s)
-          (two-read string pairs packed_pairs (drop g.0.1.0 s) (take h.0.0 w.new.out) (drop h.0.1.0 s) f (take k.0.0 v.new.out) (drop k.0.1.0 s) q),
-      (omega (arith, ap string_length (sym h.1), w.ensures.1), omega (arith, ap string_length (sym k.1), v.ensures.1)),
+        let q = ap (string_meant s v.new.out) (sym c.in-Got-read_pairs.is) ∙ v.ensures.0 in (
+      two-read number (both string pairs) (map_second packed_pairs) (drop a.at s) c.in-Got.stamp (drop c.in-Got.a s) e ((take c.in-Got-string_field.n w.new.out), take c.in-Got-read_pairs.m v.new.out) (drop c.in-Got-read_pairs.c s)
+          (two-read string pairs packed_pairs (drop c.in-Got.a s) (take c.in-Got-string_field.n w.new.out) (drop c.in-Got-string_field.b s) f (take c.in-Got-read_pairs.m v.new.out) (drop c.in-Got-read_pairs.c s) q),
+      (omega (arith, ap string_length (sym c.in-Got-string_field.is), w.ensures.1), omega (arith, ap string_length (sym c.in-Got-read_pairs.is), v.ensures.1)),
     )

@@ -20,22 +20,20 @@ returns-in_default-string_field c =
     let a = c.args in
     let s = a.s.now in
     let w = c.string_field in
-    let g = c.n-1.given in
-    let e = ap (string_meant s w.new.out) (sym g.1) ∙ w.ensures.0 in
-    let x = take g.0.0 w.new.out in
+        let e = ap (string_meant s w.new.out) (sym c.in-Got.is) ∙ w.ensures.0 in
+    let x = take c.in-Got.n w.new.out in
     let v = c.string_field-2 in
-    (no_second string string (drop a.at s) x (drop g.0.1.0 s) e (ap (string_meant s v.new.out) (sym c.in_default-string_field.is) ∙ v.ensures.0), tt)
+    (no_second string string (drop a.at s) x (drop c.in-Got.a s) e (ap (string_meant s v.new.out) (sym c.in_default-string_field.is) ∙ v.ensures.0), tt)
 
 pub returns : goal.returns
 returns c =
     let a = c.args in
     let s = a.s.now in
     let w = c.string_field in
-    let g = c.n-1.given in
-    let e = ap (string_meant s w.new.out) (sym g.1) ∙ w.ensures.0 in
-    let x = take g.0.0 w.new.out in
+        let e = ap (string_meant s w.new.out) (sym c.in-Got.is) ∙ w.ensures.0 in
+    let x = take c.in-Got.n w.new.out in
     let v = c.string_field-2 in
-    let k = c.m-1.given in (
-      both_read string string (drop a.at s) x (drop g.0.1.0 s) e (take k.0.0 v.new.out) (drop k.0.1.0 s) (ap (string_meant s v.new.out) (sym k.1) ∙ v.ensures.0),
-      (omega (arith, ap string_length (sym g.1), w.ensures.1), omega (arith, ap string_length (sym k.1), v.ensures.1)),
+    (
+      both_read string string (drop a.at s) x (drop c.in-Got.a s) e (take c.in-Got-string_field.m v.new.out) (drop c.in-Got-string_field.b s) (ap (string_meant s v.new.out) (sym c.in-Got-string_field.is) ∙ v.ensures.0),
+      (omega (arith, ap string_length (sym c.in-Got.is), w.ensures.1), omega (arith, ap string_length (sym c.in-Got-string_field.is), v.ensures.1)),
     )

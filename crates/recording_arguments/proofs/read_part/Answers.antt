@@ -24,10 +24,9 @@ pub returns-in_default-number_field : goal.returns-in_default-number_field
 returns-in_default-number_field c =
     let a = c.args in
     let s = a.s.now in
-    let g = c.upload-1.given in
-    let e = ap (number_meant s) (sym g.1) ∙ c.number_field.ensures in (
-      no_second number (both number string) (drop a.at s) g.0.0 (drop g.0.1.0 s) e
-          (no-first number string (drop g.0.1.0 s) (ap (number_meant s) (sym c.in_default-number_field.is) ∙ c.number_field-2.ensures)),
+        let e = ap (number_meant s) (sym c.in-Got.is) ∙ c.number_field.ensures in (
+      no_second number (both number string) (drop a.at s) c.in-Got.upload (drop c.in-Got.a s) e
+          (no-first number string (drop c.in-Got.a s) (ap (number_meant s) (sym c.in_default-number_field.is) ∙ c.number_field-2.ensures)),
       omega arith,
     )
 
@@ -36,13 +35,11 @@ pub returns-in_default-string_field : goal.returns-in_default-string_field
 returns-in_default-string_field c =
     let a = c.args in
     let s = a.s.now in
-    let g = c.upload-1.given in
-    let e = ap (number_meant s) (sym g.1) ∙ c.number_field.ensures in
-    let h = c.number-1.given in
-    let f = ap (number_meant s) (sym h.1) ∙ c.number_field-2.ensures in
+        let e = ap (number_meant s) (sym c.in-Got.is) ∙ c.number_field.ensures in
+        let f = ap (number_meant s) (sym c.in-Got-number_field.is) ∙ c.number_field-2.ensures in
     let v = c.string_field in (
-      no_second number (both number string) (drop a.at s) g.0.0 (drop g.0.1.0 s) e
-          (no_second number string (drop g.0.1.0 s) h.0.0 (drop h.0.1.0 s) f (ap (string_meant s v.new.out) (sym c.in_default-string_field.is) ∙ v.ensures.0)),
+      no_second number (both number string) (drop a.at s) c.in-Got.upload (drop c.in-Got.a s) e
+          (no_second number string (drop c.in-Got.a s) c.in-Got-number_field.number (drop c.in-Got-number_field.b s) f (ap (string_meant s v.new.out) (sym c.in_default-string_field.is) ∙ v.ensures.0)),
       omega arith,
     )
 
@@ -51,14 +48,11 @@ pub returns : goal.returns
 returns c =
     let a = c.args in
     let s = a.s.now in
-    let g = c.upload-1.given in
-    let e = ap (number_meant s) (sym g.1) ∙ c.number_field.ensures in
-    let h = c.number-1.given in
-    let f = ap (number_meant s) (sym h.1) ∙ c.number_field-2.ensures in
+        let e = ap (number_meant s) (sym c.in-Got.is) ∙ c.number_field.ensures in
+        let f = ap (number_meant s) (sym c.in-Got-number_field.is) ∙ c.number_field-2.ensures in
     let v = c.string_field in
-    let k = c.n-1.given in
-    let q = ap (string_meant s v.new.out) (sym k.1) ∙ v.ensures.0 in (
-      both_read number (both number string) (drop a.at s) g.0.0 (drop g.0.1.0 s) e (h.0.0, take k.0.0 v.new.out) (drop k.0.1.0 s)
-          (both_read number string (drop g.0.1.0 s) h.0.0 (drop h.0.1.0 s) f (take k.0.0 v.new.out) (drop k.0.1.0 s) q),
-      omega (arith, ap string_length (sym k.1), v.ensures.1),
+        let q = ap (string_meant s v.new.out) (sym c.in-Got-string_field.is) ∙ v.ensures.0 in (
+      both_read number (both number string) (drop a.at s) c.in-Got.upload (drop c.in-Got.a s) e (c.in-Got-number_field.number, take c.in-Got-string_field.n v.new.out) (drop c.in-Got-string_field.c s)
+          (both_read number string (drop c.in-Got.a s) c.in-Got-number_field.number (drop c.in-Got-number_field.b s) f (take c.in-Got-string_field.n v.new.out) (drop c.in-Got-string_field.c s) q),
+      omega (arith, ap string_length (sym c.in-Got-string_field.is), v.ensures.1),
     )

@@ -25,10 +25,9 @@ returns-in_default-read_pairs c =
     let a = c.args in
     let s = a.s.now in
     let w = c.read_copy in
-    let g = c.stamp-1.given in
-    let x : ℕ × (Bytes × Bytes) = (g.0.0, (take g.0.1.0 w.new.source, take g.0.1.1.0 w.new.destination)) in
-    let m = drop g.0.1.1.1.0 s in
-    let e = ap (copy_meant s w.new.source w.new.destination) (sym g.1) ∙ w.ensures.0 in
+        let x : ℕ × (Bytes × Bytes) = (c.in-Got.stamp, (take c.in-Got.n w.new.source, take c.in-Got.k w.new.destination)) in
+    let m = drop c.in-Got.a s in
+    let e = ap (copy_meant s w.new.source w.new.destination) (sym c.in-Got.is) ∙ w.ensures.0 in
     let v = c.read_pairs in
     (no_last number string string pairs packed_pairs (drop a.at s) x m e (ap (string_meant s v.new.out) (sym c.in_default-read_pairs.is) ∙ v.ensures.0), tt)
 
@@ -37,13 +36,11 @@ returns c =
     let a = c.args in
     let s = a.s.now in
     let w = c.read_copy in
-    let g = c.stamp-1.given in
-    let x : ℕ × (Bytes × Bytes) = (g.0.0, (take g.0.1.0 w.new.source, take g.0.1.1.0 w.new.destination)) in
-    let m = drop g.0.1.1.1.0 s in
-    let e = ap (copy_meant s w.new.source w.new.destination) (sym g.1) ∙ w.ensures.0 in
+        let x : ℕ × (Bytes × Bytes) = (c.in-Got.stamp, (take c.in-Got.n w.new.source, take c.in-Got.k w.new.destination)) in
+    let m = drop c.in-Got.a s in
+    let e = ap (copy_meant s w.new.source w.new.destination) (sym c.in-Got.is) ∙ w.ensures.0 in
     let v = c.read_pairs in
-    let j = c.j-1.given in
-    let f = subst (λ (r : CopyRead). CopyFits r (length a.path.now) (length a.content.now)) g.1 w.ensures.1 in (
-      all-four number string string pairs packed_pairs (drop a.at s) x m e (take j.0.0 v.new.out) (drop j.0.1.0 s) (ap (string_meant s v.new.out) (sym j.1) ∙ v.ensures.0),
-      (f.0, f.1, omega (arith, ap string_length (sym j.1), v.ensures.1)),
+        let f = subst (λ (r : CopyRead). CopyFits r (length a.path.now) (length a.content.now)) c.in-Got.is w.ensures.1 in (
+      all-four number string string pairs packed_pairs (drop a.at s) x m e (take c.in-Got-read_pairs.j v.new.out) (drop c.in-Got-read_pairs.b s) (ap (string_meant s v.new.out) (sym c.in-Got-read_pairs.is) ∙ v.ensures.0),
+      (f.0, f.1, omega (arith, ap string_length (sym c.in-Got-read_pairs.is), v.ensures.1)),
     )

@@ -32,10 +32,9 @@ returns-then-not-ends_line c =
     let b = buffers a.answer.now a.pairs.now in
     let w = c.string_field in
     let o = w.new.out in
-    let g = c.len-1.given in
-    let e = ap (string_meant l o) (sym g.1) ∙ w.ensures.0 in
-    let p = take g.0.0 o in
-    let rest = drop g.0.1.0 l in
+        let e = ap (string_meant l o) (sym c.in-Got.is) ∙ w.ensures.0 in
+    let p = take c.in-Got.len o in
+    let rest = drop c.in-Got.next l in
     no_line a.answer.now a.pairs.now b c.refusal-then-not-ends_line.result (whole_open entry.get string (drop a.at l) p rest (sym e) (said-no c.ends_line.ensures (ap not c.if-not-ends_line.true))) c.refusal-then-not-ends_line.ensures
 
 pub slice_bounds-path-end : goal.slice_bounds-path-end
@@ -44,8 +43,7 @@ slice_bounds-path-end c = omega (arith, ap string_length (sym c.in-Got.is), c.st
 pub slice_bounds-get-end : goal.slice_bounds-get-end
 slice_bounds-get-end c =
     let w = c.string_field in
-    let g = c.len-1.given in
-    sym (length-take-le g.0.0 w.new.out (omega (arith, ap string_length (sym g.1), w.ensures.1)))
+        sym (length-take-le c.in-Got.len w.new.out (omega (arith, ap string_length (sym c.in-Got.is), w.ensures.1)))
 
 pub returns : goal.returns
 unfolding path_rest
@@ -55,8 +53,7 @@ returns c =
     let b = buffers a.answer.now a.pairs.now in
     let w = c.string_field in
     let o = w.new.out in
-    let g = c.len-1.given in
-    let e = ap (string_meant l o) (sym g.1) ∙ w.ensures.0 in
-    let p = take g.0.0 o in
-    let rest = drop g.0.1.0 l in
+        let e = ap (string_meant l o) (sym c.in-Got.is) ∙ w.ensures.0 in
+    let p = take c.in-Got.len o in
+    let rest = drop c.in-Got.next l in
     a-line a.answer.now a.pairs.now b (entry.get p) (whole-form entry.get string (drop a.at l) p rest (sym e) (said-yes c.ends_line.ensures (ap not c.if-not-ends_line.false))) c.get.ensures

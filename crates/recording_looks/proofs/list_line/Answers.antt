@@ -41,39 +41,34 @@ returns-then-not-ends_line c =
     let x = w.new.prefix in
     let y = w.new.suffix in
     let m : Bytes × Bytes → Entry = λ a. entry.list a.0 a.1 in
-    let g = c.prefix-1.given in
-    let e = ap (list_meant l x y) (sym g.1) ∙ w.ensures.0 in
-    let v : Bytes × Bytes = (take g.0.0 x, take g.0.1.0 y) in
-    let rest = drop g.0.1.1.0 l in
+        let e = ap (list_meant l x y) (sym c.in-Got.is) ∙ w.ensures.0 in
+    let v : Bytes × Bytes = (take c.in-Got.prefix x, take c.in-Got.suffix y) in
+    let rest = drop c.in-Got.next l in
     λ q. no_line a.answer.now q o₂ c.refusal-then-not-ends_line.result (whole_open m (both string string) (drop a.at l) v rest (sym e) (said-no c.ends_line.ensures (ap not c.if-not-ends_line.true))) c.refusal-then-not-ends_line.ensures
 
 pub slice_bounds-p-end : goal.slice_bounds-p-end
 slice_bounds-p-end c =
     let w = c.read_list in
-    let g = c.prefix-1.given in
-    let f = subst (λ (r : ListRead). ListFits r 2048 2048) g.1 w.ensures.1 in
+        let f = subst (λ (r : ListRead). ListFits r 2048 2048) c.in-Got.is w.ensures.1 in
     omega (arith, f.0)
 
 pub slice_bounds-list-end : goal.slice_bounds-list-end
 slice_bounds-list-end c =
     let w = c.read_list in
-    let g = c.prefix-1.given in
-    let f = subst (λ (r : ListRead). ListFits r 2048 2048) g.1 w.ensures.1 in
-    sym (length-take-le g.0.0 w.new.prefix (omega (arith, f.0)))
+        let f = subst (λ (r : ListRead). ListFits r 2048 2048) c.in-Got.is w.ensures.1 in
+    sym (length-take-le c.in-Got.prefix w.new.prefix (omega (arith, f.0)))
 
 pub slice_bounds-d-end : goal.slice_bounds-d-end
 slice_bounds-d-end c =
     let w = c.read_list in
-    let g = c.prefix-1.given in
-    let f = subst (λ (r : ListRead). ListFits r 2048 2048) g.1 w.ensures.1 in
+        let f = subst (λ (r : ListRead). ListFits r 2048 2048) c.in-Got.is w.ensures.1 in
     omega (arith, f.1)
 
 pub slice_bounds-list-end-2 : goal.slice_bounds-list-end-2
 slice_bounds-list-end-2 c =
     let w = c.read_list in
-    let g = c.prefix-1.given in
-    let f = subst (λ (r : ListRead). ListFits r 2048 2048) g.1 w.ensures.1 in
-    sym (length-take-le g.0.1.0 w.new.suffix (omega (arith, f.1)))
+        let f = subst (λ (r : ListRead). ListFits r 2048 2048) c.in-Got.is w.ensures.1 in
+    sym (length-take-le c.in-Got.suffix w.new.suffix (omega (arith, f.1)))
 
 pub returns : goal.returns
 unfolding list_rest
@@ -85,8 +80,7 @@ returns c =
     let x = w.new.prefix in
     let y = w.new.suffix in
     let m : Bytes × Bytes → Entry = λ a. entry.list a.0 a.1 in
-    let g = c.prefix-1.given in
-    let e = ap (list_meant l x y) (sym g.1) ∙ w.ensures.0 in
-    let v : Bytes × Bytes = (take g.0.0 x, take g.0.1.0 y) in
-    let rest = drop g.0.1.1.0 l in
+        let e = ap (list_meant l x y) (sym c.in-Got.is) ∙ w.ensures.0 in
+    let v : Bytes × Bytes = (take c.in-Got.prefix x, take c.in-Got.suffix y) in
+    let rest = drop c.in-Got.next l in
     λ q. a-line a.answer.now q o₂ (m v) (whole-form m (both string string) (drop a.at l) v rest (sym e) (said-yes c.ends_line.ensures (ap not c.if-not-ends_line.false))) c.list.ensures

@@ -27,10 +27,9 @@ unfolding path_rest
 returns-then-not-ends_line c =
     let a = c.args in
     let w = c.string_field in
-    let g = c.len-1.given in
-    let e = ap (string_meant a.line.now w.new.out) (sym g.1) ∙ w.ensures.0 in
+        let e = ap (string_meant a.line.now w.new.out) (sym c.in-Got.is) ∙ w.ensures.0 in
     λ x y. no_line x y no_buffers c.refusal-then-not-ends_line.result
-    (whole_open entry.delete string (drop a.at a.line.now) (take g.0.0 w.new.out) (drop g.0.1.0 a.line.now) (sym e)
+    (whole_open entry.delete string (drop a.at a.line.now) (take c.in-Got.len w.new.out) (drop c.in-Got.next a.line.now) (sym e)
     (said-no c.ends_line.ensures (ap not c.if-not-ends_line.true)))
     c.refusal-then-not-ends_line.ensures
 
@@ -40,17 +39,15 @@ slice_bounds-path-end c = omega (arith, ap string_length (sym c.in-Got.is), c.st
 pub slice_bounds-delete-end : goal.slice_bounds-delete-end
 slice_bounds-delete-end c =
     let w = c.string_field in
-    let n = c.len-1.given in
-    sym (length-take-le n.0.0 w.new.out (omega (arith, ap string_length (sym n.1), w.ensures.1)))
+        sym (length-take-le c.in-Got.len w.new.out (omega (arith, ap string_length (sym c.in-Got.is), w.ensures.1)))
 
 pub returns : goal.returns
 unfolding path_rest
 returns c =
     let a = c.args in
     let w = c.string_field in
-    let g = c.len-1.given in
-    let e = ap (string_meant a.line.now w.new.out) (sym g.1) ∙ w.ensures.0 in
-    λ x y. a-line x y no_buffers (entry.delete (take g.0.0 w.new.out))
-    (whole-form entry.delete string (drop a.at a.line.now) (take g.0.0 w.new.out) (drop g.0.1.0 a.line.now) (sym e)
+        let e = ap (string_meant a.line.now w.new.out) (sym c.in-Got.is) ∙ w.ensures.0 in
+    λ x y. a-line x y no_buffers (entry.delete (take c.in-Got.len w.new.out))
+    (whole-form entry.delete string (drop a.at a.line.now) (take c.in-Got.len w.new.out) (drop c.in-Got.next a.line.now) (sym e)
     (said-yes c.ends_line.ensures (ap not c.if-not-ends_line.false)))
     c.delete.ensures.0

@@ -31,55 +31,48 @@ returns-then-not-ends_line c =
     let x = w.new.path in
     let y = w.new.content in
     let z = w.new.pairs in
-    let g = c.stamp-1.given in
-    let e = ap (put_meant l x y z) (sym g.1) ∙ w.ensures.0 in
-    let p = take g.0.1.0 x in
-    let d = take g.0.1.1.0 y in
-    let m = take g.0.1.1.1.0 z in
-    let rest = drop g.0.1.1.1.1.0 l in
-    λ b q. no_line b q no_buffers c.refusal-then-not-ends_line.result (open-put (drop a.at l) g.0.0 p d m rest e (said-no c.ends_line.ensures (ap not c.if-not-ends_line.true))) c.refusal-then-not-ends_line.ensures
+        let e = ap (put_meant l x y z) (sym c.in-Got.is) ∙ w.ensures.0 in
+    let p = take c.in-Got.path x in
+    let d = take c.in-Got.content y in
+    let m = take c.in-Got.pairs z in
+    let rest = drop c.in-Got.next l in
+    λ b q. no_line b q no_buffers c.refusal-then-not-ends_line.result (open-put (drop a.at l) c.in-Got.stamp p d m rest e (said-no c.ends_line.ensures (ap not c.if-not-ends_line.true))) c.refusal-then-not-ends_line.ensures
 
 pub slice_bounds-p-end : goal.slice_bounds-p-end
 slice_bounds-p-end c =
     let w = c.read_put in
-    let g = c.stamp-1.given in
-    let f = subst (λ (r : PutRead). PutFits r 2048 2048 2048) g.1 w.ensures.1 in
+        let f = subst (λ (r : PutRead). PutFits r 2048 2048 2048) c.in-Got.is w.ensures.1 in
     omega (arith, f.0)
 
 pub slice_bounds-put-end : goal.slice_bounds-put-end
 slice_bounds-put-end c =
     let w = c.read_put in
-    let g = c.stamp-1.given in
-    let f = subst (λ (r : PutRead). PutFits r 2048 2048 2048) g.1 w.ensures.1 in
-    sym (length-take-le g.0.1.0 w.new.path (omega (arith, f.0)))
+        let f = subst (λ (r : PutRead). PutFits r 2048 2048 2048) c.in-Got.is w.ensures.1 in
+    sym (length-take-le c.in-Got.path w.new.path (omega (arith, f.0)))
 
 pub slice_bounds-d-end : goal.slice_bounds-d-end
 slice_bounds-d-end c =
     let w = c.read_put in
-    let g = c.stamp-1.given in
-    let f = subst (λ (r : PutRead). PutFits r 2048 2048 2048) g.1 w.ensures.1 in
+        let f = subst (λ (r : PutRead). PutFits r 2048 2048 2048) c.in-Got.is w.ensures.1 in
     omega (arith, f.1)
 
 pub slice_bounds-put-end-2 : goal.slice_bounds-put-end-2
 slice_bounds-put-end-2 c =
     let w = c.read_put in
-    let g = c.stamp-1.given in
-    let f = subst (λ (r : PutRead). PutFits r 2048 2048 2048) g.1 w.ensures.1 in
-    sym (length-take-le g.0.1.1.0 w.new.content (omega (arith, f.1)))
+        let f = subst (λ (r : PutRead). PutFits r 2048 2048 2048) c.in-Got.is w.ensures.1 in
+    sym (length-take-le c.in-Got.content w.new.content (omega (arith, f.1)))
 
 pub slice_bounds-m-end : goal.slice_bounds-m-end
 slice_bounds-m-end c =
     let w = c.read_put in
-    let g = c.stamp-1.given in
-    let f = subst (λ (r : PutRead). PutFits r 2048 2048 2048) g.1 w.ensures.1 in
+        let f = subst (λ (r : PutRead). PutFits r 2048 2048 2048) c.in-Got.is w.ensures.1 in
     omega (arith, f.2)
 
 pub slice_bounds-put-end-3 : goal.slice_bounds-put-end-3
 slice_bounds-put-end-3 c =
     let w = c.read_put in
-    let g = c.stamp-1.given in
-    let f = subst (λ (r : PutRead). PutFits r 2048 2048 2048) g.1 w.ensures.1 in
-    sym (length-take-le g.0.1.1.1.0 w.new.pairs (omega (arith, f.2)))
+        let f = subst (λ (r : PutRead). PutFits r 2048 2048 2048) c.in-Got.is w.ensures.1 in
+    sym (length-take-le c.in-Got.pairs w.new.pairs (omega (arith, f.2)))
 
 pub returns : goal.returns
 returns c =
@@ -89,10 +82,9 @@ returns c =
     let x = w.new.path in
     let y = w.new.content in
     let z = w.new.pairs in
-    let g = c.stamp-1.given in
-    let e = ap (put_meant l x y z) (sym g.1) ∙ w.ensures.0 in
-    let p = take g.0.1.0 x in
-    let d = take g.0.1.1.0 y in
-    let m = take g.0.1.1.1.0 z in
-    let rest = drop g.0.1.1.1.1.0 l in
-    a-put (drop a.at l) g.0.0 p d m rest e (said-yes c.ends_line.ensures (ap not c.if-not-ends_line.false)) c.put.ensures.0
+        let e = ap (put_meant l x y z) (sym c.in-Got.is) ∙ w.ensures.0 in
+    let p = take c.in-Got.path x in
+    let d = take c.in-Got.content y in
+    let m = take c.in-Got.pairs z in
+    let rest = drop c.in-Got.next l in
+    a-put (drop a.at l) c.in-Got.stamp p d m rest e (said-yes c.ends_line.ensures (ap not c.if-not-ends_line.false)) c.put.ensures.0

@@ -54,8 +54,7 @@ loop-at-smaller c =
     let p = a.piece.now in
     let nl = c.next_line in
     let b = nl.new.line in
-    let g = c.full-1.given in
-    let w = subst (λ (r : LineStep). Within (length p) d.at (length d.line) r) g.1 nl.ensures.1 in
+        let w = subst (λ (r : LineStep). Within (length p) d.at (length d.line) r) c.in-Line.is nl.ensures.1 in
     omega (arith, w.1, w.2, c.loop-at-test.true)
 
 -- src/lib.rt:72:5
@@ -67,8 +66,7 @@ loop-at-preserved c =
     let p = a.piece.now in
     let nl = c.next_line in
     let b = nl.new.line in
-    let g = c.full-1.given in
-    let w = subst (λ (r : LineStep). Within (length p) d.at (length d.line) r) g.1 nl.ensures.1 in
+        let w = subst (λ (r : LineStep). Within (length p) d.at (length d.line) r) c.in-Line.is nl.ensures.1 in
     let hl = c.held_line-result in
     let pr = c.print_result in (
       nl.auto.line ∙ i.0,
@@ -82,8 +80,8 @@ loop-at-preserved c =
       hl.auto.pairs ∙ i.8,
       (λ x A size s h y z st.
           let so = i.9 x A size s h y z st in
-          let f = subst (λ (r : LineStep). Stepped p d.at so.now b r) g.1 (nl.ensures.0 so.now so.held) in
-          one_line A size s x p d.at d.k d.line d.n d.out (memory d.tables d.arena) so b g.0.0 g.0.1.0 f hl.result (memory hl.new.tables hl.new.arena) pr.new.out
+          let f = subst (λ (r : LineStep). Stepped p d.at so.now b r) c.in-Line.is (nl.ensures.0 so.now so.held) in
+          one_line A size s x p d.at d.k d.line d.n d.out (memory d.tables d.arena) so b c.in-Line.full c.in-Line.next f hl.result (memory hl.new.tables hl.new.arena) pr.new.out
           (hl.ensures.0 f.whole A size so.state f.held (i.7 ∙ y) (i.8 ∙ z) so.store) hl.ensures.1 pr.ensures),
     )
 
@@ -132,12 +130,11 @@ returns-in-More c =
     let p = a.piece.now in
     let nl = c.next_line in
     let b = nl.new.line in
-    let g = c.rest-1.given in
-    let w = subst (λ (r : LineStep). Within (length p) d.at (length d.line) r) g.1 nl.ensures.1 in (
+        let w = subst (λ (r : LineStep). Within (length p) d.at (length d.line) r) c.in-More.is nl.ensures.1 in (
       (λ x A size s h y z st.
           let so = i.9 x A size s h y z st in
-          let u = subst (λ (r : LineStep). Stepped p d.at so.now b r) g.1 (nl.ensures.0 so.now so.held) in
-          amid A size s x p d.at d.k d.line d.n d.out (memory d.tables d.arena) so b g.0.0 u _ refl refl),
+          let u = subst (λ (r : LineStep). Stepped p d.at so.now b r) c.in-More.is (nl.ensures.0 so.now so.held) in
+          amid A size s x p d.at d.k d.line d.n d.out (memory d.tables d.arena) so b c.in-More.rest u _ refl refl),
       omega (arith, w, i.0),
       omega (arith, i.2, i.3, c.requires.2),
     )

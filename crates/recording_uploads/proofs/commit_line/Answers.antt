@@ -26,11 +26,10 @@ returns-then-not-ends_line c =
     let l = a.line.now in
     let w = c.read_commit in
     let o = w.new.list in
-    let g = c.upload-1.given in
-    let e = ap (commit_meant l o) (sym g.1) ∙ w.ensures.0 in
-    let x = take g.0.1.0 o in
-    let rest = drop g.0.1.1.0 l in
-    λ b q. no_line b q no_buffers c.refusal-then-not-ends_line.result (open-commit (drop a.at l) g.0.0 x rest e (said-no c.ends_line.ensures (ap not c.if-not-ends_line.true))) c.refusal-then-not-ends_line.ensures
+        let e = ap (commit_meant l o) (sym c.in-Got.is) ∙ w.ensures.0 in
+    let x = take c.in-Got.list o in
+    let rest = drop c.in-Got.next l in
+    λ b q. no_line b q no_buffers c.refusal-then-not-ends_line.result (open-commit (drop a.at l) c.in-Got.upload x rest e (said-no c.ends_line.ensures (ap not c.if-not-ends_line.true))) c.refusal-then-not-ends_line.ensures
 
 pub returns-then-upload-gt4294967295 : goal.returns-then-upload-gt4294967295
 returns-then-upload-gt4294967295 c =
@@ -38,24 +37,21 @@ returns-then-upload-gt4294967295 c =
     let l = a.line.now in
     let w = c.read_commit in
     let o = w.new.list in
-    let g = c.upload-1.given in
-    let e = ap (commit_meant l o) (sym g.1) ∙ w.ensures.0 in
-    let x = take g.0.1.0 o in
-    let rest = drop g.0.1.1.0 l in
+        let e = ap (commit_meant l o) (sym c.in-Got.is) ∙ w.ensures.0 in
+    let x = take c.in-Got.list o in
+    let rest = drop c.in-Got.next l in
     let q = said-yes c.ends_line.ensures (ap not c.if-not-ends_line.false) in
-    a-wide-commit (drop a.at l) g.0.0 x rest e a.tables.now a.arena.now (λ i. (c.slice_known-1.given i).fits) q c.if-upload-gt4294967295.true c.refusal-then-upload-gt4294967295.result c.refusal-then-upload-gt4294967295.ensures
+    a-wide-commit (drop a.at l) c.in-Got.upload x rest e a.tables.now a.arena.now (λ i. (c.slice_known-1.given i).fits) q c.if-upload-gt4294967295.true c.refusal-then-upload-gt4294967295.result c.refusal-then-upload-gt4294967295.ensures
 
 pub slice_bounds-parts-end : goal.slice_bounds-parts-end
 slice_bounds-parts-end c =
     let w = c.read_commit in
-    let g = c.upload-1.given in
-    omega (arith, ap commit_length (sym g.1), w.ensures.1)
+        omega (arith, ap commit_length (sym c.in-Got.is), w.ensures.1)
 
 pub slice_bounds-commit-end : goal.slice_bounds-commit-end
 slice_bounds-commit-end c =
     let w = c.read_commit in
-    let g = c.upload-1.given in
-    sym (length-take-le g.0.1.0 w.new.list (omega (arith, ap commit_length (sym g.1), w.ensures.1)))
+        sym (length-take-le c.in-Got.list w.new.list (omega (arith, ap commit_length (sym c.in-Got.is), w.ensures.1)))
 
 pub returns : goal.returns
 returns c =
@@ -63,9 +59,8 @@ returns c =
     let l = a.line.now in
     let w = c.read_commit in
     let o = w.new.list in
-    let g = c.upload-1.given in
-    let e = ap (commit_meant l o) (sym g.1) ∙ w.ensures.0 in
-    let x = take g.0.1.0 o in
-    let rest = drop g.0.1.1.0 l in
+        let e = ap (commit_meant l o) (sym c.in-Got.is) ∙ w.ensures.0 in
+    let x = take c.in-Got.list o in
+    let rest = drop c.in-Got.next l in
     let q = said-yes c.ends_line.ensures (ap not c.if-not-ends_line.false) in
-    a-commit (drop a.at l) g.0.0 x rest e a.tables.now a.arena.now (λ i. (c.slice_known-1.given i).fits) q c.commit.ensures.0
+    a-commit (drop a.at l) c.in-Got.upload x rest e a.tables.now a.arena.now (λ i. (c.slice_known-1.given i).fits) q c.commit.ensures.0

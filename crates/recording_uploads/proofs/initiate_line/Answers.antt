@@ -36,12 +36,11 @@ returns-then-not-ends_line c =
     let w = c.read_initiate in
     let x = w.new.path in
     let y = w.new.pairs in
-    let g = c.stamp-1.given in
-    let e = ap (initiate_meant l x y) (sym g.1) ∙ w.ensures.0 in
-    let p = take g.0.1.0 x in
-    let m = take g.0.1.1.0 y in
-    let rest = drop g.0.1.1.1.0 l in
-    λ b q. no_line b q no_buffers c.refusal-then-not-ends_line.result (open-initiate (drop a.at l) g.0.0 p m rest e (said-no c.ends_line.ensures (ap not c.if-not-ends_line.true))) c.refusal-then-not-ends_line.ensures
+        let e = ap (initiate_meant l x y) (sym c.in-Got.is) ∙ w.ensures.0 in
+    let p = take c.in-Got.path x in
+    let m = take c.in-Got.pairs y in
+    let rest = drop c.in-Got.next l in
+    λ b q. no_line b q no_buffers c.refusal-then-not-ends_line.result (open-initiate (drop a.at l) c.in-Got.stamp p m rest e (said-no c.ends_line.ensures (ap not c.if-not-ends_line.true))) c.refusal-then-not-ends_line.ensures
 
 -- src/multipart.rt:49:54
 pub slice_bounds-p-end : goal.slice_bounds-p-end
@@ -53,9 +52,8 @@ slice_bounds-p-end c =
 pub slice_bounds-initiate-end : goal.slice_bounds-initiate-end
 slice_bounds-initiate-end c =
     let w = c.read_initiate in
-    let g = c.stamp-1.given in
-    let f = subst (λ (r : InitiateRead). InitiateFits r 2048 2048) g.1 w.ensures.1 in
-    sym (length-take-le g.0.1.0 w.new.path (omega (arith, f.0)))
+        let f = subst (λ (r : InitiateRead). InitiateFits r 2048 2048) c.in-Got.is w.ensures.1 in
+    sym (length-take-le c.in-Got.path w.new.path (omega (arith, f.0)))
 
 -- src/multipart.rt:49:66
 pub slice_bounds-m-end : goal.slice_bounds-m-end
@@ -67,9 +65,8 @@ slice_bounds-m-end c =
 pub slice_bounds-initiate-end-2 : goal.slice_bounds-initiate-end-2
 slice_bounds-initiate-end-2 c =
     let w = c.read_initiate in
-    let g = c.stamp-1.given in
-    let f = subst (λ (r : InitiateRead). InitiateFits r 2048 2048) g.1 w.ensures.1 in
-    sym (length-take-le g.0.1.1.0 w.new.pairs (omega (arith, f.1)))
+        let f = subst (λ (r : InitiateRead). InitiateFits r 2048 2048) c.in-Got.is w.ensures.1 in
+    sym (length-take-le c.in-Got.pairs w.new.pairs (omega (arith, f.1)))
 
 -- src/multipart.rt:20:1
 pub returns : goal.returns
@@ -79,9 +76,8 @@ returns c =
     let w = c.read_initiate in
     let x = w.new.path in
     let y = w.new.pairs in
-    let g = c.stamp-1.given in
-    let e = ap (initiate_meant l x y) (sym g.1) ∙ w.ensures.0 in
-    let p = take g.0.1.0 x in
-    let m = take g.0.1.1.0 y in
-    let rest = drop g.0.1.1.1.0 l in
-    a-initiate (drop a.at l) g.0.0 p m rest e (said-yes c.ends_line.ensures (ap not c.if-not-ends_line.false)) c.initiate.ensures
+        let e = ap (initiate_meant l x y) (sym c.in-Got.is) ∙ w.ensures.0 in
+    let p = take c.in-Got.path x in
+    let m = take c.in-Got.pairs y in
+    let rest = drop c.in-Got.next l in
+    a-initiate (drop a.at l) c.in-Got.stamp p m rest e (said-yes c.ends_line.ensures (ap not c.if-not-ends_line.false)) c.initiate.ensures

@@ -44,10 +44,9 @@ returns-then-not-ends_line c =
     let w = c.read_part in
     let x = w.new.content in
     let m : ℕ × (ℕ × Bytes) → Entry = λ a. entry.part a.0 a.1.0 a.1.1 in
-    let g = c.upload-1.given in
-    let e = ap (part_meant l x) (sym g.1) ∙ w.ensures.0 in
-    let v : ℕ × (ℕ × Bytes) = (g.0.0, (g.0.1.0, take g.0.1.1.0 x)) in
-    let rest = drop g.0.1.1.1.0 l in
+        let e = ap (part_meant l x) (sym c.in-Got.is) ∙ w.ensures.0 in
+    let v : ℕ × (ℕ × Bytes) = (c.in-Got.upload, (c.in-Got.number, take c.in-Got.content x)) in
+    let rest = drop c.in-Got.next l in
     λ b q. no_line b q no_buffers c.refusal-then-not-ends_line.result (whole_open m (both number (both number string)) (drop a.at l) v rest (sym e) (said-no c.ends_line.ensures (ap not c.if-not-ends_line.true))) c.refusal-then-not-ends_line.ensures
 
 -- src/multipart.rt:82:9
@@ -59,10 +58,9 @@ returns-then-upload-gt4294967295 c =
     let w = c.read_part in
     let x = w.new.content in
     let m : ℕ × (ℕ × Bytes) → Entry = λ a. entry.part a.0 a.1.0 a.1.1 in
-    let g = c.upload-1.given in
-    let e = ap (part_meant l x) (sym g.1) ∙ w.ensures.0 in
-    let v : ℕ × (ℕ × Bytes) = (g.0.0, (g.0.1.0, take g.0.1.1.0 x)) in
-    let rest = drop g.0.1.1.1.0 l in
+        let e = ap (part_meant l x) (sym c.in-Got.is) ∙ w.ensures.0 in
+    let v : ℕ × (ℕ × Bytes) = (c.in-Got.upload, (c.in-Got.number, take c.in-Got.content x)) in
+    let rest = drop c.in-Got.next l in
     λ b q. a-line b q no_buffers (m v) (whole-form m (both number (both number string)) (drop a.at l) v rest (sym e) (said-yes c.ends_line.ensures (ap not c.if-not-ends_line.false)))
     (by_number c.refusal-then-upload-gt4294967295.ensures (wide-upload a.tables.now a.arena.now (λ i. (c.slice_known-1.given i).fits) v.0 v.1.0 v.1.1 c.if-upload-gt4294967295.true))
 
@@ -75,10 +73,9 @@ returns-then-number-gt65535 c =
     let w = c.read_part in
     let x = w.new.content in
     let m : ℕ × (ℕ × Bytes) → Entry = λ a. entry.part a.0 a.1.0 a.1.1 in
-    let g = c.upload-1.given in
-    let e = ap (part_meant l x) (sym g.1) ∙ w.ensures.0 in
-    let v : ℕ × (ℕ × Bytes) = (g.0.0, (g.0.1.0, take g.0.1.1.0 x)) in
-    let rest = drop g.0.1.1.1.0 l in
+        let e = ap (part_meant l x) (sym c.in-Got.is) ∙ w.ensures.0 in
+    let v : ℕ × (ℕ × Bytes) = (c.in-Got.upload, (c.in-Got.number, take c.in-Got.content x)) in
+    let rest = drop c.in-Got.next l in
     λ b q. a-line b q no_buffers (m v) (whole-form m (both number (both number string)) (drop a.at l) v rest (sym e) (said-yes c.ends_line.ensures (ap not c.if-not-ends_line.false)))
     (by_number c.refusal-then-number-gt65535.ensures (wide-number a.tables.now a.arena.now (λ i. (c.slice_known-1.given i).fits) v.0 v.1.0 v.1.1 c.if-number-gt65535.true))
 
@@ -90,8 +87,7 @@ slice_bounds-d-end c = omega (arith, ap part_length (sym c.in-Got.is), c.read_pa
 pub slice_bounds-part-end : goal.slice_bounds-part-end
 slice_bounds-part-end c =
     let w = c.read_part in
-    let g = c.upload-1.given in
-    sym (length-take-le g.0.1.1.0 w.new.content (omega (arith, ap part_length (sym g.1), w.ensures.1)))
+        sym (length-take-le c.in-Got.content w.new.content (omega (arith, ap part_length (sym c.in-Got.is), w.ensures.1)))
 
 -- src/multipart.rt:53:1
 pub returns : goal.returns
@@ -102,8 +98,7 @@ returns c =
     let w = c.read_part in
     let x = w.new.content in
     let m : ℕ × (ℕ × Bytes) → Entry = λ a. entry.part a.0 a.1.0 a.1.1 in
-    let g = c.upload-1.given in
-    let e = ap (part_meant l x) (sym g.1) ∙ w.ensures.0 in
-    let v : ℕ × (ℕ × Bytes) = (g.0.0, (g.0.1.0, take g.0.1.1.0 x)) in
-    let rest = drop g.0.1.1.1.0 l in
+        let e = ap (part_meant l x) (sym c.in-Got.is) ∙ w.ensures.0 in
+    let v : ℕ × (ℕ × Bytes) = (c.in-Got.upload, (c.in-Got.number, take c.in-Got.content x)) in
+    let rest = drop c.in-Got.next l in
     λ b q. a-line b q no_buffers (m v) (whole-form m (both number (both number string)) (drop a.at l) v rest (sym e) (said-yes c.ends_line.ensures (ap not c.if-not-ends_line.false))) c.part.ensures

@@ -25,7 +25,7 @@ loop-i-preserved c =
     let notes : List ℕ = c.args.notes.now in
     let b₀ : List ℕ = c.args.answer.now in
     let w = c.write_row-to in
-    let g = c.loop-i in (
+                let g = c.loop-i in (
       written_next (t) (notes) (b₀) g.answer g.i g.to g.invariant.0 c.get_u16-at.result c.get_u16-parts.result c.get_u16-at.ensures c.get_u16-parts.ensures _ _ w.ensures w.auto.answer,
       omega arith,
     )

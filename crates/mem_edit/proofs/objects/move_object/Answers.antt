@@ -129,5 +129,5 @@ returns c =
     let row = c.put_row in
     let cut = c.remove in
     let turned = c.rotate in
-    let k : length cut.new.b ≡ length (a) = omega (arith, cut.auto, turned.auto) in
+        let k : length cut.new.b ≡ length (a) = omega (arith, cut.auto, turned.auto) in
     (puts).moved (lengths) (size) (block).lengths-are (block).size_is row.new.tables turned.new.b cut.new.b row.ensures (block).block-is turned.ensures cut.ensures row.auto.tables k

@@ -89,7 +89,8 @@ loop-here-preserved c =
     let more : (here).row < length (rows_of (s)) = let n = c.loop-here-test.true in omega (arith, counted) in
     let turn : Turn (t) (a) (s) (here).row (here).at (here).base c.read_head-h.result = row-turn (t) (a) (s) (stands) (here).row (here).at (here).base (reached) (more) c.read_head-h.result c.read_head-h.ensures in
     let told : c.stops.result ≡ stops_at c.args.goal (head_of (turn).row) = c.stops.ensures ∙ ap (stops_at c.args.goal) (turn).same in
-    let next-number : c.next_row-next.result.row ≡ (here).row + 1 = ap (λ (p : RowPlace). p.row) c.next_row-next.ensures in (
+    let next-number : c.next_row-next.result.row ≡ (here).row + 1 = ap (λ (p : RowPlace). p.row) c.next_row-next.ensures in
+    (
       c.pass_rows-here-in-loop-here.ensures.1,
       c.loop-here.invariant.1
           ∙ sought-on _ _ _ (turn).row (turn).here (sym (told) ∙ c.if-stops.false)

@@ -13,6 +13,6 @@ stands-found-requires c =
 pub returns : goal.returns
 returns c =
     let d = c.stands-found in
-    let s = state_of c.args.tables.now c.args.arena.now in
+            let s = state_of c.args.tables.now c.args.arena.now in
     let here = c.seek_uploads-here.result in
     c.lookup_at.ensures ∙ found-upload s c.args.upload here d.result (upload-answer s c.args.upload here c.seek_uploads-here.ensures) d.ensures

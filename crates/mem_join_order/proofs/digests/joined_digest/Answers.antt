@@ -10,7 +10,7 @@ use Rattle.mem_join_order.proofs.digests.joined_digest.Goals as goal
 pub slice_bounds-digest-end : goal.slice_bounds-digest-end
 slice_bounds-digest-end c =
     let g = c.gather in
-    omega (arith, length-take (16 * c.args.count) g.new.all, g.auto.all, c.requires.1)
+        omega (arith, length-take (16 * c.args.count) g.new.all, g.auto.all, c.requires.1)
 
 pub returns : goal.returns
 returns c = λ k. c.digest.ensures ∙ ap md5 (c.gather.ensures k)

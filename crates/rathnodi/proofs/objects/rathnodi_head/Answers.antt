@@ -10,4 +10,4 @@ returns-then-reply-ne-REPLY_LEN c = another-length _ _ _ c.if-reply-ne-REPLY_LEN
 pub returns : goal.returns
 returns c =
     let r = c.found in
-    got _ (head-tells _ _) _ _ _ _ _ c.if-reply-ne-REPLY_LEN.false c.head-head.result _ c.head-head.ensures r.ensures.0 r.ensures.1
+        got _ (head-tells _ _) _ _ _ _ _ c.if-reply-ne-REPLY_LEN.false c.head-head.result _ c.head-head.ensures r.ensures.0 r.ensures.1

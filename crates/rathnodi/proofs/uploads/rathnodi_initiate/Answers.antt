@@ -10,4 +10,4 @@ returns-then-reply-ne-REPLY_LEN c = another-length _ _ _ c.if-reply-ne-REPLY_LEN
 pub returns : goal.returns
 returns c =
     let r = c.opened in
-    initiated _ (initiate-tells _ _ _) _ _ _ _ _ c.if-reply-ne-REPLY_LEN.false c.initiate-opened.result c.initiate-opened.ensures r.ensures.0 r.ensures.1
+        initiated _ (initiate-tells _ _ _) _ _ _ _ _ c.if-reply-ne-REPLY_LEN.false c.initiate-opened.result c.initiate-opened.ensures r.ensures.0 r.ensures.1

@@ -4,6 +4,8 @@ use Rattle.recording_lists.proofs.OnePair.{no-bracket, no_key, no-space, no_valu
 use Rattle.recording_read.specs.Meant.{string_meant, string_length, room_after}
 use mathlib.Core.Path.{sym, ap, ◌∙◌}
 use borrow.Author.Rules.{rules}
+use Rattle.recording_lists.proofs.pairs.counted_pair.Statement.{statement}
+use Rattle.recording_lists.proofs.pairs.counted_pair.Tie as tie
 use Rattle.recording_lists.proofs.pair_lists.counted_pair.Goals as goal
 
 pub returns-then-byte_at-ne40 : goal.returns-then-byte_at-ne40
@@ -37,9 +39,8 @@ returns-then-byte_at-ne32 c =
     let h = b.ensures.1 (omega arith) in
     let p = sym b.ensures.0 ∙ c.if-byte_at-ne40.false in
     let w = c.counted_string in
-    let g = c.m-1.given in
-    let e = ap (string_meant s w.new.out) (sym g.1) ∙ w.ensures.0 in
-    (no-space s o a.n a.at h p w.new.out g.0.0 g.0.1.0 e (λ x. c.if-byte_at-ne32.true (c.byte_at-2.ensures.0 ∙ x)), omega arith, omega arith)
+        let e = ap (string_meant s w.new.out) (sym c.in-Got.is) ∙ w.ensures.0 in
+    (no-space s o a.n a.at h p w.new.out c.in-Got.m c.in-Got.b e (λ x. c.if-byte_at-ne32.true (c.byte_at-2.ensures.0 ∙ x)), omega arith, omega arith)
 
 pub overflow_add-b : goal.overflow_add-b
 overflow_add-b c = omega (arith, c.byte_at-2.ensures.1 (omega arith))
@@ -53,12 +54,11 @@ counted_string-requires-2 c =
     let h = b.ensures.1 (omega arith) in
     let p = sym b.ensures.0 ∙ c.if-byte_at-ne40.false in
     let w = c.counted_string in
-    let g = c.m-1.given in
-    let e = ap (string_meant s w.new.out) (sym g.1) ∙ w.ensures.0 in
+        let e = ap (string_meant s w.new.out) (sym c.in-Got.is) ∙ w.ensures.0 in
     let b₂ = c.byte_at-2 in
     let h₂ = b₂.ensures.1 (omega arith) in
     let p₂ = sym b₂.ensures.0 ∙ c.if-byte_at-ne32.false in
-    omega (arith, ap (room_after s) (sym g.1), w.ensures.1, w.auto.out)
+    omega (arith, ap (room_after s) (sym c.in-Got.is), w.ensures.1, w.auto.out)
 
 pub returns-in_default-counted_string : goal.returns-in_default-counted_string
 returns-in_default-counted_string c =
@@ -69,13 +69,12 @@ returns-in_default-counted_string c =
     let h = b.ensures.1 (omega arith) in
     let p = sym b.ensures.0 ∙ c.if-byte_at-ne40.false in
     let w = c.counted_string in
-    let g = c.m-1.given in
-    let e = ap (string_meant s w.new.out) (sym g.1) ∙ w.ensures.0 in
+        let e = ap (string_meant s w.new.out) (sym c.in-Got.is) ∙ w.ensures.0 in
     let b₂ = c.byte_at-2 in
     let h₂ = b₂.ensures.1 (omega arith) in
     let p₂ = sym b₂.ensures.0 ∙ c.if-byte_at-ne32.false in
     let w₂ = c.counted_string-2 in
-    (no_value s o a.n a.at h p w.new.out g.0.0 g.0.1.0 e h₂ p₂ (ap (string_meant s w₂.new.out) (sym c.in_default-counted_string.is) ∙ w₂.ensures.0), omega arith, omega arith)
+    (no_value s o a.n a.at h p w.new.out c.in-Got.m c.in-Got.b e h₂ p₂ (ap (string_meant s w₂.new.out) (sym c.in_default-counted_string.is) ∙ w₂.ensures.0), omega arith, omega arith)
 
 pub returns-then-byte_at-ne41 : goal.returns-then-byte_at-ne41
 returns-then-byte_at-ne41 c =
@@ -86,16 +85,14 @@ returns-then-byte_at-ne41 c =
     let h = b.ensures.1 (omega arith) in
     let p = sym b.ensures.0 ∙ c.if-byte_at-ne40.false in
     let w = c.counted_string in
-    let g = c.m-1.given in
-    let e = ap (string_meant s w.new.out) (sym g.1) ∙ w.ensures.0 in
+        let e = ap (string_meant s w.new.out) (sym c.in-Got.is) ∙ w.ensures.0 in
     let b₂ = c.byte_at-2 in
     let h₂ = b₂.ensures.1 (omega arith) in
     let p₂ = sym b₂.ensures.0 ∙ c.if-byte_at-ne32.false in
     let w₂ = c.counted_string-2 in
-    let g₂ = c.len-1.given in
-    let e₂ = ap (string_meant s w₂.new.out) (sym g₂.1) ∙ w₂.ensures.0 in
+        let e₂ = ap (string_meant s w₂.new.out) (sym c.in-Got-counted_string.is) ∙ w₂.ensures.0 in
     let b₃ = c.byte_at-3 in
-    (no_end s o a.n a.at h p w.new.out g.0.0 g.0.1.0 e h₂ p₂ w₂.new.out g₂.0.0 g₂.0.1.0 e₂ (λ x. c.if-byte_at-ne41.true (b₃.ensures.0 ∙ x)), omega arith, omega arith)
+    (no_end s o a.n a.at h p w.new.out c.in-Got.m c.in-Got.b e h₂ p₂ w₂.new.out c.in-Got-counted_string.len c.in-Got-counted_string.next e₂ (λ x. c.if-byte_at-ne41.true (b₃.ensures.0 ∙ x)), omega arith, omega arith)
 
 pub overflow_add-result : goal.overflow_add-result
 overflow_add-result c = omega (arith, c.byte_at-3.ensures.1 (omega arith))
@@ -109,17 +106,15 @@ returns c =
     let h = b.ensures.1 (omega arith) in
     let p = sym b.ensures.0 ∙ c.if-byte_at-ne40.false in
     let w = c.counted_string in
-    let g = c.m-1.given in
-    let e = ap (string_meant s w.new.out) (sym g.1) ∙ w.ensures.0 in
+        let e = ap (string_meant s w.new.out) (sym c.in-Got.is) ∙ w.ensures.0 in
     let b₂ = c.byte_at-2 in
     let h₂ = b₂.ensures.1 (omega arith) in
     let p₂ = sym b₂.ensures.0 ∙ c.if-byte_at-ne32.false in
     let w₂ = c.counted_string-2 in
-    let g₂ = c.len-1.given in
-    let e₂ = ap (string_meant s w₂.new.out) (sym g₂.1) ∙ w₂.ensures.0 in
+        let e₂ = ap (string_meant s w₂.new.out) (sym c.in-Got-counted_string.is) ∙ w₂.ensures.0 in
     let b₃ = c.byte_at-3 in
     let h₃ = b₃.ensures.1 (omega arith) in (
-      a_pair s o a.n a.at h p w.new.out g.0.0 g.0.1.0 e h₂ p₂ w₂.new.out g₂.0.0 g₂.0.1.0 e₂ h₃ (sym b₃.ensures.0 ∙ c.if-byte_at-ne41.false),
-      omega (arith, ap (room_after s) (sym g.1), w.ensures.1, ap (room_after s) (sym g₂.1), w₂.ensures.1),
-      omega (arith, ap string_length (sym g₂.1), w₂.ensures.2, w.auto.out),
+      a_pair s o a.n a.at h p w.new.out c.in-Got.m c.in-Got.b e h₂ p₂ w₂.new.out c.in-Got-counted_string.len c.in-Got-counted_string.next e₂ h₃ (sym b₃.ensures.0 ∙ c.if-byte_at-ne41.false),
+      omega (arith, ap (room_after s) (sym c.in-Got.is), w.ensures.1, ap (room_after s) (sym c.in-Got-counted_string.is), w₂.ensures.1),
+      omega (arith, ap string_length (sym c.in-Got-counted_string.is), w₂.ensures.2, w.auto.out),
     )

@@ -7,6 +7,8 @@ use Prim.Native.Nat.{◌+◌, ◌-◌, ◌*◌, ◌≤◌}
 use lib.ListN.{length}
 use mathlib.Core.Path.{sym, ap, subst, ◌∙◌}
 use borrow.Author.Rules.{rules}
+use Rattle.recording_lists.proofs.pairs.counted_string.Statement.{statement}
+use Rattle.recording_lists.proofs.pairs.counted_string.Tie as tie
 use Rattle.recording_lists.proofs.pair_lists.counted_string.Goals as goal
 
 pub returns-then-byte_at-ne34 : goal.returns-then-byte_at-ne34
@@ -33,12 +35,11 @@ overflow_sub-len c =
     let a = c.args in
     let b = c.byte_at in
     let d = c.decode in
-    let g = c.len-1.given in
-    let h = b.ensures.1 (omega arith) in
+        let h = b.ensures.1 (omega arith) in
     omega (
       arith,
-      read_length a.s.now a.out.now a.at a.n h (sym b.ensures.0 ∙ c.if-byte_at-ne34.false) d.new.out g.0.0 g.0.1.0
-          (omega arith) (omega (arith, ap string_length (sym g.1), d.ensures.2, d.auto.out)) (ap (string_meant a.s.now d.new.out) (sym g.1) ∙ d.ensures.0),
+      read_length a.s.now a.out.now a.at a.n h (sym b.ensures.0 ∙ c.if-byte_at-ne34.false) d.new.out c.in-Got.len c.in-Got.next
+          (omega arith) (omega (arith, ap string_length (sym c.in-Got.is), d.ensures.2, d.auto.out)) (ap (string_meant a.s.now d.new.out) (sym c.in-Got.is) ∙ d.ensures.0),
     )
 
 pub overflow_sub-len-2 : goal.overflow_sub-len-2
@@ -46,12 +47,11 @@ overflow_sub-len-2 c =
     let a = c.args in
     let b = c.byte_at in
     let d = c.decode in
-    let g = c.len-1.given in
-    let h = b.ensures.1 (omega arith) in
+        let h = b.ensures.1 (omega arith) in
     omega (
       arith,
-      read_length a.s.now a.out.now a.at a.n h (sym b.ensures.0 ∙ c.if-byte_at-ne34.false) d.new.out g.0.0 g.0.1.0
-          (omega arith) (omega (arith, ap string_length (sym g.1), d.ensures.2, d.auto.out)) (ap (string_meant a.s.now d.new.out) (sym g.1) ∙ d.ensures.0),
+      read_length a.s.now a.out.now a.at a.n h (sym b.ensures.0 ∙ c.if-byte_at-ne34.false) d.new.out c.in-Got.len c.in-Got.next
+          (omega arith) (omega (arith, ap string_length (sym c.in-Got.is), d.ensures.2, d.auto.out)) (ap (string_meant a.s.now d.new.out) (sym c.in-Got.is) ∙ d.ensures.0),
     )
 
 pub returns : goal.returns
@@ -59,16 +59,15 @@ returns c =
     let a = c.args in
     let b = c.byte_at in
     let d = c.decode in
-    let g = c.len-1.given in
-    let h = b.ensures.1 (omega arith) in
+        let h = b.ensures.1 (omega arith) in
     let p = sym b.ensures.0 ∙ c.if-byte_at-ne34.false in
-    let e = ap (string_meant a.s.now d.new.out) (sym g.1) ∙ d.ensures.0 in
-    let f : g.0.0 ≤ length d.new.out = omega (arith, ap string_length (sym g.1), d.ensures.2, d.auto.out) in
+    let e = ap (string_meant a.s.now d.new.out) (sym c.in-Got.is) ∙ d.ensures.0 in
+    let f : c.in-Got.len ≤ length d.new.out = omega (arith, ap string_length (sym c.in-Got.is), d.ensures.2, d.auto.out) in
     let k : a.n + 1 ≤ length a.out.now = omega arith in
-    let n = read_length a.s.now a.out.now a.at a.n h p d.new.out g.0.0 g.0.1.0 k f e in
-    let j = no_longer a.n g.0.0 _ c.short-k.result n c.short-k.ensures in (
-      a-string a.s.now a.out.now a.at a.n h p d.new.out g.0.0 g.0.1.0 k f e c.short-k.result c.short-k.ensures,
-      room-left a.n g.0.0 c.short-k.result (length a.s.now - g.0.1.0) a.at (length a.s.now) h j
-          (subst (λ (r : StringRead). room_after a.s.now r ≤ 2 * (a.n + 1) + (length a.s.now - (a.at + 1)) - 1) g.1 d.ensures.1),
-      omega (arith, d.ensures.2, ap string_length (sym g.1)),
+    let n = read_length a.s.now a.out.now a.at a.n h p d.new.out c.in-Got.len c.in-Got.next k f e in
+    let j = no_longer a.n c.in-Got.len _ c.short-k.result n c.short-k.ensures in (
+      a-string a.s.now a.out.now a.at a.n h p d.new.out c.in-Got.len c.in-Got.next k f e c.short-k.result c.short-k.ensures,
+      room-left a.n c.in-Got.len c.short-k.result (length a.s.now - c.in-Got.next) a.at (length a.s.now) h j
+          (subst (λ (r : StringRead). room_after a.s.now r ≤ 2 * (a.n + 1) + (length a.s.now - (a.at + 1)) - 1) c.in-Got.is d.ensures.1),
+      omega (arith, d.ensures.2, ap string_length (sym c.in-Got.is)),
     )

@@ -7,6 +7,8 @@ use Rattle.recording.specs.Read.{items, read_pair}
 use lib.ListN.{length, drop}
 use Prim.Native.Nat.{◌+◌, ◌-◌, ◌*◌, ◌≤◌}
 use mathlib.Core.Path.{◌≡◌, refl, sym, ap, ◌∙◌}
+use Rattle.recording_lists.proofs.pairs.read_pairs.Statement.{statement}
+use Rattle.recording_lists.proofs.pairs.read_pairs.Tie as tie
 use Rattle.recording_lists.proofs.pair_lists.read_pairs.Goals as goal
 
 pub loop-out-init : goal.loop-out-init
@@ -48,8 +50,7 @@ loop-out-smaller c =
     let h = b.ensures.1 (omega arith) in
     let p = sym b.ensures.0 ∙ c.loop-out-test.true in
     let w = c.counted_pair in
-    let g = c.len-1.given in
-    advances (items read_pair (drop a.at s)) s l.out l.n l.i l.invariant.3 h p w.new.out g.0.0 g.0.1.0 (ap (string_meant s w.new.out) (sym g.1) ∙ w.ensures.0)
+        advances (items read_pair (drop a.at s)) s l.out l.n l.i l.invariant.3 h p w.new.out c.in-Got.len c.in-Got.next (ap (string_meant s w.new.out) (sym c.in-Got.is) ∙ w.ensures.0)
 
 pub loop-out-preserved : goal.loop-out-preserved
 loop-out-preserved c =
@@ -60,11 +61,11 @@ loop-out-preserved c =
     let h = b.ensures.1 (omega arith) in
     let p = sym b.ensures.0 ∙ c.loop-out-test.true in
     let w = c.counted_pair in
-    let g = c.len-1.given in (
+    (
       w.auto.out ∙ l.invariant.0,
-      omega (arith, l.invariant.1, ap (room_after s) (sym g.1), w.ensures.1),
-      omega (arith, ap string_length (sym g.1), w.ensures.2, w.auto.out),
-      step (items read_pair (drop a.at s)) s l.out l.n l.i l.invariant.3 h p w.new.out g.0.0 g.0.1.0 (ap (string_meant s w.new.out) (sym g.1) ∙ w.ensures.0),
+      omega (arith, l.invariant.1, ap (room_after s) (sym c.in-Got.is), w.ensures.1),
+      omega (arith, ap string_length (sym c.in-Got.is), w.ensures.2, w.auto.out),
+      step (items read_pair (drop a.at s)) s l.out l.n l.i l.invariant.3 h p w.new.out c.in-Got.len c.in-Got.next (ap (string_meant s w.new.out) (sym c.in-Got.is) ∙ w.ensures.0),
     )
 
 pub shape_of-out : goal.shape_of-out

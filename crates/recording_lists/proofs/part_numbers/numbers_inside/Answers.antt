@@ -19,20 +19,18 @@ returns-in_default c =
 pub put_u16-requires : goal.put_u16-requires
 put_u16-requires c =
     let a = c.args in
-    let g = c.value-1.given in
-    let e = ap (number_meant a.s.now) (sym g.1) ∙ c.read_number.ensures in
-    omega (arith, advances a.s.now a.at g.0.0 g.0.1.0 e, c.requires.0, c.requires.1)
+        let e = ap (number_meant a.s.now) (sym c.in-Got.is) ∙ c.read_number.ensures in
+    omega (arith, advances a.s.now a.at c.in-Got.value c.in-Got.next e, c.requires.0, c.requires.1)
 
 pub loop-i-init : goal.loop-i-init
 loop-i-init c =
     let a = c.args in
-    let g = c.value-1.given in
-    let e = ap (number_meant a.s.now) (sym g.1) ∙ c.read_number.ensures in
+        let e = ap (number_meant a.s.now) (sym c.in-Got.is) ∙ c.read_number.ensures in
     let w = c.put_u16 in
-    let k = advances a.s.now a.at g.0.0 g.0.1.0 e in (
+    let k = advances a.s.now a.at c.in-Got.value c.in-Got.next e in (
       refl,
       omega (arith, k, c.requires.0),
-      begin a.s.now a.out.now w.new.b a.at g.0.0 g.0.1.0 e c.requires.0 (omega (arith, k, c.requires.0, c.requires.1))
+      begin a.s.now a.out.now w.new.b a.at c.in-Got.value c.in-Got.next e c.requires.0 (omega (arith, k, c.requires.0, c.requires.1))
           (w.ensures ∙ ap (λ (x : ℕ). replaced_at a.out.now 0 (le 2 x) 2) c.narrow-first.ensures),
     )
 
@@ -55,34 +53,31 @@ pub put_u16-requires-in-loop-i : goal.put_u16-requires-in-loop-i
 put_u16-requires-in-loop-i c =
     let a = c.args in
     let l = c.loop-i in
-    let g = c.value-in-Got-read_number-2-1.given in
-    let e = ap (number_meant a.s.now) (sym g.1) ∙ c.read_number-in-loop-i.ensures in
+        let e = ap (number_meant a.s.now) (sym c.in-Got-read_number.is) ∙ c.read_number-in-loop-i.ensures in
     let h = c.byte_at.ensures.1 (omega arith) in
     let p = sym c.byte_at.ensures.0 ∙ c.loop-i-test.true in
-    omega (arith, fits (inside_numbers (drop a.at a.s.now)) a.s.now l.out l.n l.i l.invariant.2 h p g.0.0 g.0.1.0 e, l.invariant.0, c.requires.1)
+    omega (arith, fits (inside_numbers (drop a.at a.s.now)) a.s.now l.out l.n l.i l.invariant.2 h p c.in-Got-read_number.value c.in-Got-read_number.next e, l.invariant.0, c.requires.1)
 
 pub loop-i-smaller : goal.loop-i-smaller
 loop-i-smaller c =
     let a = c.args in
     let l = c.loop-i in
-    let g = c.value-in-Got-read_number-2-1.given in
-    let e = ap (number_meant a.s.now) (sym g.1) ∙ c.read_number-in-loop-i.ensures in
+        let e = ap (number_meant a.s.now) (sym c.in-Got-read_number.is) ∙ c.read_number-in-loop-i.ensures in
     let h = c.byte_at.ensures.1 (omega arith) in
     let p = sym c.byte_at.ensures.0 ∙ c.loop-i-test.true in
-    omega (arith, advances a.s.now (l.i + 1) g.0.0 g.0.1.0 e, h)
+    omega (arith, advances a.s.now (l.i + 1) c.in-Got-read_number.value c.in-Got-read_number.next e, h)
 
 pub loop-i-preserved : goal.loop-i-preserved
 loop-i-preserved c =
     let a = c.args in
     let l = c.loop-i in
-    let g = c.value-in-Got-read_number-2-1.given in
-    let e = ap (number_meant a.s.now) (sym g.1) ∙ c.read_number-in-loop-i.ensures in
+        let e = ap (number_meant a.s.now) (sym c.in-Got-read_number.is) ∙ c.read_number-in-loop-i.ensures in
     let h = c.byte_at.ensures.1 (omega arith) in
     let p = sym c.byte_at.ensures.0 ∙ c.loop-i-test.true in
     let w = c.put_u16-in-loop-i in (
       w.auto.b ∙ l.invariant.0,
-      omega (arith, fits (inside_numbers (drop a.at a.s.now)) a.s.now l.out l.n l.i l.invariant.2 h p g.0.0 g.0.1.0 e),
-      step (inside_numbers (drop a.at a.s.now)) a.s.now l.out l.n l.i l.invariant.2 h p g.0.0 g.0.1.0 e w.new.b (omega (arith, l.invariant.0, l.invariant.1, c.requires.1))
+      omega (arith, fits (inside_numbers (drop a.at a.s.now)) a.s.now l.out l.n l.i l.invariant.2 h p c.in-Got-read_number.value c.in-Got-read_number.next e),
+      step (inside_numbers (drop a.at a.s.now)) a.s.now l.out l.n l.i l.invariant.2 h p c.in-Got-read_number.value c.in-Got-read_number.next e w.new.b (omega (arith, l.invariant.0, l.invariant.1, c.requires.1))
           (w.ensures ∙ ap (λ (x : ℕ). replaced_at l.out l.n (le 2 x) 2) c.narrow-more.ensures),
     )
 

@@ -41,11 +41,10 @@ returns-then-byte_at-ne41 c =
     let p = sym b.ensures.0 ∙ c.if-byte_at-ne40.false in
     let t = after-byte (closed inside_numbers) packed s a.at 40 h p in
     let w = c.numbers_inside in
-    let g = c.len-1.given in
-    let y = take g.0.0 w.new.out in
-    let e = ap (string_meant s w.new.out) (sym g.1) ∙ w.ensures.0 in
+        let y = take c.in-Got.len w.new.out in
+    let e = ap (string_meant s w.new.out) (sym c.in-Got.is) ∙ w.ensures.0 in
     let b₂ = c.byte_at-2 in
-    (no-close inside_numbers packed s (a.at + 1) y g.0.1.0 e (λ x. c.if-byte_at-ne41.true (b₂.ensures.0 ∙ x)) ∙ t, omega arith)
+    (no-close inside_numbers packed s (a.at + 1) y c.in-Got.next e (λ x. c.if-byte_at-ne41.true (b₂.ensures.0 ∙ x)) ∙ t, omega arith)
 
 pub overflow_add-result : goal.overflow_add-result
 overflow_add-result c = omega (arith, c.byte_at-2.ensures.1 (omega arith))
@@ -60,8 +59,7 @@ returns c =
     let p = sym b.ensures.0 ∙ c.if-byte_at-ne40.false in
     let t = after-byte (closed inside_numbers) packed s a.at 40 h p in
     let w = c.numbers_inside in
-    let g = c.len-1.given in
-    let y = take g.0.0 w.new.out in
-    let e = ap (string_meant s w.new.out) (sym g.1) ∙ w.ensures.0 in
+        let y = take c.in-Got.len w.new.out in
+    let e = ap (string_meant s w.new.out) (sym c.in-Got.is) ∙ w.ensures.0 in
     let b₂ = c.byte_at-2 in
-    (is-closed inside_numbers packed s (a.at + 1) y g.0.1.0 e (b₂.ensures.1 (omega arith)) (sym b₂.ensures.0 ∙ c.if-byte_at-ne41.false) ∙ t, omega (arith, ap string_length (sym g.1), w.ensures.1))
+    (is-closed inside_numbers packed s (a.at + 1) y c.in-Got.next e (b₂.ensures.1 (omega arith)) (sym b₂.ensures.0 ∙ c.if-byte_at-ne41.false) ∙ t, omega (arith, ap string_length (sym c.in-Got.is), w.ensures.1))

@@ -1,6 +1,4 @@
 -- `call_commit::commit_judge` meets its contract: one law for each check, and the places that an accepted one hands on. Assumes nothing.
-use mathlib.Core.Path.{ap}
-use mathlib.Core.Bool.{not}
 use Prim.Native.Nat.{ℕ}
 use mathlib.Core.Path.{◌≡◌, sym, ◌∙◌}
 use mathlib.Core.Bool.{true}
@@ -27,7 +25,7 @@ returns-then-not-opened c =
     let a : List ℕ = c.args.arena.now in
     let a = c.args in
     let r = c.refused.ensures in
-    (r ∙ missing-judged a.tables.now a.arena.now a.upload.0 a.list.now c.find_upload-opened.result c.find_upload-opened.ensures (not-true _ (ap not c.if-not-opened.true)), λ z. absurd (omega arith))
+    (r ∙ missing-judged a.tables.now a.arena.now a.upload.0 a.list.now c.find_upload-opened.result c.find_upload-opened.ensures (not-true _ c.if-not-opened.true), λ z. absurd (omega arith))
 
 pub judge_list-judged-requires : goal.judge_list-judged-requires
 judge_list-judged-requires c =
@@ -37,7 +35,7 @@ judge_list-judged-requires c =
     let u : ℕ = c.args.upload.0 in
     let here : RowPlace = c.place_of-here.result in
     let here-is : here ≡ upload_row_of s u = c.place_of-here.ensures ∙ upload-lookup s u c.find_upload-opened.result c.find_upload-opened.ensures in
-    let is_open : is_some (lookup by_number u s.U) ≡ true = open-found t a u c.args.list.now c.find_upload-opened.result c.find_upload-opened.ensures true (not-false _ (ap not c.if-not-opened.false)) in
+    let is_open : is_some (lookup by_number u s.U) ≡ true = open-found t a u c.args.list.now c.find_upload-opened.result c.find_upload-opened.ensures true (not-false _ c.if-not-opened.false) in
     let there : WholeOpenAt t a here = (c.requires.0, (u, here-is, is_open)) in
     there
 
@@ -52,7 +50,7 @@ returns-then-not-judged c =
     let here-is : here ≡ upload_row_of s u = c.place_of-here.ensures ∙ upload-lookup s u c.find_upload-opened.result c.find_upload-opened.ensures in
     let f = c.find_upload-opened in
     let r = c.refused-then-not-judged.ensures in
-    (r ∙ unfit-judged (t) (a) (u) c.args.list.now f.result f.ensures (bytes) c.requires.0 (not-false _ (ap not c.if-not-opened.false)) c.judge_list-judged.result.fits (λ x e. (c.judge_list-judged.ensures (u) x (here-is) e).0) (not-true _ (ap not c.if-not-judged.true)), λ z. absurd (omega arith))
+    (r ∙ unfit-judged (t) (a) (u) c.args.list.now f.result f.ensures (bytes) c.requires.0 (not-false _ c.if-not-opened.false) c.judge_list-judged.result.fits (λ x e. (c.judge_list-judged.ensures (u) x (here-is) e).0) (not-true _ c.if-not-judged.true), λ z. absurd (omega arith))
 
 pub commit_room-path-requires : goal.commit_room-path-requires
 commit_room-path-requires c =
@@ -62,7 +60,7 @@ commit_room-path-requires c =
     let u : ℕ = c.args.upload.0 in
     let here : RowPlace = c.place_of-here.result in
     let here-is : here ≡ upload_row_of s u = c.place_of-here.ensures ∙ upload-lookup s u c.find_upload-opened.result c.find_upload-opened.ensures in
-    let is_open : is_some (lookup by_number u s.U) ≡ true = open-found t a u c.args.list.now c.find_upload-opened.result c.find_upload-opened.ensures true (not-false _ (ap not c.if-not-opened.false)) in
+    let is_open : is_some (lookup by_number u s.U) ≡ true = open-found t a u c.args.list.now c.find_upload-opened.result c.find_upload-opened.ensures true (not-false _ c.if-not-opened.false) in
     let there : WholeOpenAt t a here = (c.requires.0, (u, here-is, is_open)) in
     there
 
@@ -77,7 +75,7 @@ returns-then-path-ne0 c =
     let here-is : here ≡ upload_row_of s u = c.place_of-here.ensures ∙ upload-lookup s u c.find_upload-opened.result c.find_upload-opened.ensures in
     let judged : c.commit_room-path.result.refusal ≡ result_of (outcome (COMMIT (u) (part_list c.args.list.now)) (memory (t) (a))) = let f = c.find_upload-opened in
     let l = c.judge_list-judged in
-    room-judged (t) (a) (u) c.args.list.now f.result f.ensures (bytes) c.requires.0 (not-false _ c.if-not-opened.left) l.result.fits (λ x e. (l.ensures (u) x (here-is) e).0) (not-false _ (ap not c.if-not-judged.false))
+    room-judged (t) (a) (u) c.args.list.now f.result f.ensures (bytes) c.requires.0 (not-false _ c.if-not-opened.false) l.result.fits (λ x e. (l.ensures (u) x (here-is) e).0) (not-false _ c.if-not-judged.false)
     c.commit_room-path.result.refusal (λ x e. (c.commit_room-path.ensures (u) x (here-is) e).0) in
     let r = c.refused-then-path-ne0.ensures in
     (r ∙ judged, λ z. absurd (c.if-path-ne0.true (sym r ∙ z)))
@@ -90,7 +88,7 @@ upload_bounds-bounds-requires c =
     let u : ℕ = c.args.upload.0 in
     let here : RowPlace = c.place_of-here.result in
     let here-is : here ≡ upload_row_of s u = c.place_of-here.ensures ∙ upload-lookup s u c.find_upload-opened.result c.find_upload-opened.ensures in
-    let is_open : is_some (lookup by_number u s.U) ≡ true = open-found t a u c.args.list.now c.find_upload-opened.result c.find_upload-opened.ensures true (not-false _ (ap not c.if-not-opened.false)) in
+    let is_open : is_some (lookup by_number u s.U) ≡ true = open-found t a u c.args.list.now c.find_upload-opened.result c.find_upload-opened.ensures true (not-false _ c.if-not-opened.false) in
     let there : WholeOpenAt t a here = (c.requires.0, (u, here-is, is_open)) in
     (there, λ v x q e. (c.judge_list-judged.ensures v x q e).2, c.rows_end-end.ensures)
 
@@ -105,6 +103,6 @@ returns c =
     let here-is : here ≡ upload_row_of s u = c.place_of-here.ensures ∙ upload-lookup s u c.find_upload-opened.result c.find_upload-opened.ensures in
     let judged : c.commit_room-path.result.refusal ≡ result_of (outcome (COMMIT (u) (part_list c.args.list.now)) (memory (t) (a))) = let f = c.find_upload-opened in
     let l = c.judge_list-judged in
-    room-judged (t) (a) (u) c.args.list.now f.result f.ensures (bytes) c.requires.0 (not-false _ c.if-not-opened.left) l.result.fits (λ x e. (l.ensures (u) x (here-is) e).0) (not-false _ (ap not c.if-not-judged.false))
+    room-judged (t) (a) (u) c.args.list.now f.result f.ensures (bytes) c.requires.0 (not-false _ c.if-not-opened.false) l.result.fits (λ x e. (l.ensures (u) x (here-is) e).0) (not-false _ c.if-not-judged.false)
     c.commit_room-path.result.refusal (λ x e. (c.commit_room-path.ensures (u) x (here-is) e).0) in
     (sym c.if-path-ne0.false ∙ judged, λ z x e. (c.upload_bounds-bounds.ensures (u) x (here-is) e, (c.commit_room-path.ensures (u) x (here-is) e).1, (c.judge_list-judged.ensures (u) x (here-is) e).1))

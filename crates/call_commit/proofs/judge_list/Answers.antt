@@ -125,7 +125,7 @@ number_fits-requires c =
     let first-is : (v : ℕ) → here ≡ upload_row_of s v → first ≡ parts_row_of s v = λ v e. first-part-row s v here first e c.next_row-first.ensures in
     let first-place : WholePlace t a first = (c.requires.0, parts-row-place s u first (first-is u c.requires.1.1) c.requires.1.2) in
     let parts : PassedParts = c.pass_parts_from-parts.result in
-    let twice : length (list c) ≡ 2 * (parts).count = omega (arith, c.if-list-count.left) in
+    let twice : length (list) ≡ 2 * (parts).count = omega (arith, c.if-list-count.false) in
     let inside : 2 * c.loop-i.i + 2 ≤ length (list) = let n = c.loop-i-test.true in omega (arith, twice) in
     (first-place, inside)
 
@@ -141,7 +141,7 @@ returns-then-not-number_fits c v x q e =
     let parts : PassedParts = c.pass_parts_from-parts.result in
     let parts_are : OfOpenAt (t) (a) (here) (λ s v x. parts ≡ passed_parts s v x) = λ v x q e. let r = c.pass_listed-reached in
     c.pass_parts_from-parts.ensures v x (first-is v q) e (reached-within (s) v x e (first) (first-is v q) (list) r.result r.ensures) in
-    let twice : length (list c) ≡ 2 * (parts).count = omega (arith, c.if-list-count.left) in
+    let twice : length (list) ≡ 2 * (parts).count = omega (arith, c.if-list-count.false) in
     let inside : 2 * c.loop-i.i + 2 ≤ length (list) = let n = c.loop-i-test.true in omega (arith, twice) in
     (unfit-number x.parts (list) c.loop-i.i (inside) (sym (c.number_fits.ensures v x (first-is v q) e) ∙ not-true _ (ap not c.if-not-number_fits.true)), λ z. absurd (false≢true z), parts_are v x q e)
 
@@ -149,7 +149,7 @@ pub loop-i-preserved : goal.loop-i-preserved
 loop-i-preserved c =
     let list : List ℕ = c.args.list.now in
     let parts : PassedParts = c.pass_parts_from-parts.result in
-    let twice : length (list c) ≡ 2 * (parts).count = omega (arith, c.if-list-count.left) in
+    let twice : length (list) ≡ 2 * (parts).count = omega (arith, c.if-list-count.false) in
     let inside : 2 * c.loop-i.i + 2 ≤ length (list) = let n = c.loop-i-test.true in omega (arith, twice) in
     let l = c.loop-i in
         (omega arith, λ v x q e. passed-next x.parts (list) l.i (inside) (l.invariant.1 v x q e) (sym (c.number_fits.ensures v x q e) ∙ not-false _ (ap not c.if-not-number_fits.false)))
@@ -168,6 +168,6 @@ returns c v x q e =
     let parts_are : OfOpenAt (t) (a) (here) (λ s v x. parts ≡ passed_parts s v x) = λ v x q e. let r = c.pass_listed-reached in
     c.pass_parts_from-parts.ensures v x (first-is v q) e (reached-within (s) v x e (first) (first-is v q) (list) r.result r.ensures) in
     let counted : OfOpenAt (t) (a) (here) (λ s v x. parts.count ≡ length x.parts) = λ v x q e. count-is (s) v x parts (parts_are v x q e) in
-    let twice : length (list c) ≡ 2 * (parts).count = omega (arith, c.if-list-count.left) in
+    let twice : length (list) ≡ 2 * (parts).count = omega (arith, c.if-list-count.false) in
     let end : c.loop-i.i ≡ (parts).count = omega arith in
     (fit-list (t) (a) (bytes) c.requires.0 v (parts).count x e (counted v x q e) (list) (twice) (subst (Passed x.parts (list)) end (c.loop-i.invariant.1 v x (first-is v q) e)), λ z. absurd (false≢true z), parts_are v x q e)

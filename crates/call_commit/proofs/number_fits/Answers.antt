@@ -1,6 +1,4 @@
 -- `call_commit::number_fits` meets its contract: no part has the number, or one before it is the same, or it fits. Assumes nothing.
-use mathlib.Core.Path.{ap}
-use mathlib.Core.Bool.{not}
 use borrow.Author.Tests.{not-true, not-false}
 use Rattle.mem_layout.specs.Memory.{state_of}
 use Rattle.call_commit.proofs.Fitting.{number-absent, number-there}
@@ -12,7 +10,7 @@ returns-then-not-place c =
     let a = c.args in
     let g = c.get_u16-number in
     let f = c.find_part_from-place in
-    λ u x p e. number-absent (state_of a.tables.now a.arena.now) u x a.list.now a.i g.result g.ensures f.result (f.ensures u x p e) (not-true _ (ap not c.if-not-place.true))
+    λ u x p e. number-absent (state_of a.tables.now a.arena.now) u x a.list.now a.i g.result g.ensures f.result (f.ensures u x p e) (not-true _ c.if-not-place.true)
 
 pub returns : goal.returns
 returns c =
@@ -20,4 +18,4 @@ returns c =
     let g = c.get_u16-number in
     let f = c.find_part_from-place in
     let l = c.is_listed_before in
-    λ u x p e. number-there (state_of a.tables.now a.arena.now) u x a.list.now a.i g.result g.ensures f.result (f.ensures u x p e) (not-false _ (ap not c.if-not-place.false)) l.result l.ensures
+    λ u x p e. number-there (state_of a.tables.now a.arena.now) u x a.list.now a.i g.result g.ensures f.result (f.ensures u x p e) (not-false _ c.if-not-place.false) l.result l.ensures

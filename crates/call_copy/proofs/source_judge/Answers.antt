@@ -1,6 +1,4 @@
 -- `call_copy::source_judge` meets its contract: the source is missing, or its block is put at the destination. Assumes nothing.
-use mathlib.Core.Path.{ap}
-use mathlib.Core.Bool.{not}
 use Prim.Native.Nat.{ℕ}
 use mathlib.Core.Path.{◌≡◌, ◌∙◌}
 use mathlib.Core.Bool.{true, false}
@@ -24,7 +22,7 @@ returns-then-not-from c =
     let q : List ℕ = c.args.destination.now in
     let place : Lookup = c.find_two-looked_up.result.first in
     let r = c.refused.ensures in
-    let none = place_found (state_of (t) (a)) (p) (place) false c.find_two-looked_up.ensures.0 (not-true _ (ap not c.if-not-from.true)) in
+    let none = place_found (state_of (t) (a)) (p) (place) false c.find_two-looked_up.ensures.0 (not-true _ c.if-not-from.true) in
     (r ∙ judged-missing (length (a)) (state_of (t) (a)) c.args.stamp.0 (p) (q) none, λ z. absurd (omega arith))
 
 pub read_head-h-requires : goal.read_head-h-requires
@@ -34,7 +32,7 @@ read_head-h-requires c =
     let p : List ℕ = c.args.source.now in
     let place : Lookup = c.find_two-looked_up.result.first in
     let there : place.found ≡ true → ObjectThere t a p place = λ e. object-there t a p (λ j. (c.shared_slice_known-1.given j).fits) c.requires.0 (place_found (state_of t a) p place true c.find_two-looked_up.ensures.0 e) place c.find_two-looked_up.ensures.0 in
-    let z = front-inside (t) (a) (p) (place) (there (not-false _ (ap not c.if-not-from.false))) in
+    let z = front-inside (t) (a) (p) (place) (there (not-false _ c.if-not-from.false)) in
     omega arith
 
 pub object_room-room-requires : goal.object_room-room-requires
@@ -51,6 +49,6 @@ returns c =
     let place : Lookup = c.find_two-looked_up.result.first in
     let there : place.found ≡ true → ObjectThere t a p place = λ e. object-there t a p (λ j. (c.shared_slice_known-1.given j).fits) c.requires.0 (place_found (state_of t a) p place true c.find_two-looked_up.ensures.0 e) place c.find_two-looked_up.ensures.0 in
     let r = c.object_room-room.ensures (q) c.find_two-looked_up.ensures.1 in (
-      judged-source (t) (a) (p) (place) (there (not-false _ (ap not c.if-not-from.false))) c.read_head-h.result c.read_head-h.ensures c.object_room-room.result.refusal c.args.stamp.0 (q) r.0,
+      judged-source (t) (a) (p) (place) (there (not-false _ c.if-not-from.false)) c.read_head-h.result c.read_head-h.ensures c.object_room-room.result.refusal c.args.stamp.0 (q) r.0,
       λ _. record { source-place = c.find_two-looked_up.ensures.0; destination-place = (r.1.0, c.rows_end-end.ensures) },
     )

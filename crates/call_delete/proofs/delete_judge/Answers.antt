@@ -19,12 +19,12 @@ returns-then-not-place c =
     let a = c.args in
     let f = c.find_object-place in
     let yes = said-yes c.request_path_ok.ensures (ap not c.if-not-request_path_ok.false) in
-    (delete-absent (memory a.tables.now a.arena.now) a.path.now yes f.result f.ensures (not-true f.result.found (ap not c.if-not-place.true)), λ z. absurd (omega arith))
+    (delete-absent (memory a.tables.now a.arena.now) a.path.now yes f.result f.ensures (not-true f.result.found c.if-not-place.true), λ z. absurd (omega arith))
 
 pub returns : goal.returns
 returns c =
     let a = c.args in
     let f = c.find_object-place in
     let yes = said-yes c.request_path_ok.ensures (ap not c.if-not-request_path_ok.false) in
-    let there = not-false f.result.found (ap not c.if-not-place.false) in
+    let there = not-false f.result.found c.if-not-place.false in
     (delete-judged (memory a.tables.now a.arena.now) a.path.now yes f.result f.ensures there, λ _. (there, f.ensures))

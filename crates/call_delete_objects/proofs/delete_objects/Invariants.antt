@@ -7,7 +7,7 @@ use Rattle.call_delete_objects.proofs.delete_objects.Given as goal
 
 abbrev pub invariant-loop-i : goal.invariant-loop-i
 invariant-loop-i l =
-    Walked l.names (name_places l.places) (memory l.initial.tables l.initial.arena) l.initial.results l.refusal l.i (memory l.tables l.arena) l.results
+    Walked l.names (name_places l.places) (memory l.fn.tables l.fn.arena) l.fn.results l.refusal l.i (memory l.tables l.arena) l.results
 
 abbrev pub decreases-loop-i : goal.decreases-loop-i
 decreases-loop-i l = l.turns - l.i

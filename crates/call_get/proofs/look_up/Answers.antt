@@ -19,9 +19,9 @@ returns-then-not-request_path_ok c = is-bad _ _ c.if-path-eq0.false (said-no c.r
 pub returns-then-not-place : goal.returns-then-not-place
 returns-then-not-place c =
     let ok : request_path_ok c.args.path.now ≡ true = said-yes c.request_path_ok.ensures (ap not c.if-not-request_path_ok.false) in
-    is-absent _ _ c.if-path-eq0.false (ok) c.find_object-place.result c.find_object-place.ensures (not-true _ (ap not c.if-not-place.true))
+    is-absent _ _ c.if-path-eq0.false (ok) c.find_object-place.result c.find_object-place.ensures (not-true _ c.if-not-place.true)
 
 pub returns : goal.returns
 returns c =
     let ok : request_path_ok c.args.path.now ≡ true = said-yes c.request_path_ok.ensures (ap not c.if-not-request_path_ok.false) in
-    is-object _ _ c.if-path-eq0.false (ok) c.find_object-place.result c.find_object-place.ensures (not-false _ (ap not c.if-not-place.false))
+    is-object _ _ c.if-path-eq0.false (ok) c.find_object-place.result c.find_object-place.ensures (not-false _ c.if-not-place.false)

@@ -20,13 +20,13 @@ returns-then-not-place c =
     let a = c.args in
     let f = c.find_upload-place in
     let r = c.refused-then-not-place.ensures in
-    (r ∙ not-open (memory a.tables.now a.arena.now) a.upload.0 a.number.0 a.content.now (sym c.request_part_ok.ensures ∙ not-false _ (ap not c.if-not-request_part_ok.false)) f.result f.ensures (not-true _ (ap not c.if-not-place.true)), λ z. absurd (omega arith))
+    (r ∙ not-open (memory a.tables.now a.arena.now) a.upload.0 a.number.0 a.content.now (sym c.request_part_ok.ensures ∙ not-false _ (ap not c.if-not-request_part_ok.false)) f.result f.ensures (not-true _ c.if-not-place.true), λ z. absurd (omega arith))
 
 pub part_room-requires : goal.part_room-requires
 part_room-requires c =
     let a = c.args in
     let f = c.find_upload-place in
-    ((c.requires.0, open-found (memory a.tables.now a.arena.now) a.upload.0 a.number.0 a.content.now f.result f.ensures (not-false _ (ap not c.if-not-place.false))), f.ensures, c.requires)
+    ((c.requires.0, open-found (memory a.tables.now a.arena.now) a.upload.0 a.number.0 a.content.now f.result f.ensures (not-false _ c.if-not-place.false)), f.ensures, c.requires)
 
 pub returns : goal.returns
 returns c =

@@ -37,12 +37,12 @@ returns-then-not-judge c =
 
 pub held-requires : goal.held-requires
 held-requires c =
-    let taken : pairs_ok (pair_list c.args.pairs.now) ≡ true = said-yes c.judge.ensures c.if-not-judge.left in
+    let taken : pairs_ok (pair_list c.args.pairs.now) ≡ true = said-yes c.judge.ensures (ap not c.if-not-judge.false) in
     formed-is _ (taken)
 
 pub overflow_add-n : goal.overflow_add-n
 overflow_add-n c =
-    let taken : pairs_ok (pair_list c.args.pairs.now) ≡ true = said-yes c.judge.ensures c.if-not-judge.left in
+    let taken : pairs_ok (pair_list c.args.pairs.now) ≡ true = said-yes c.judge.ensures (ap not c.if-not-judge.false) in
     let ps : List ℕ = c.args.pairs.now in
     let held-there : c.held.result ≡ pairs_held (pair_map (pair_list ps)) = c.held.ensures ∙ sym (held-is (pair_list ps) (taken)) in
     let z = kept-held (pair_map (pair_list (ps))) (taken-kept (pair_list (ps)) (taken)) in
@@ -50,7 +50,7 @@ overflow_add-n c =
 
 pub returns : goal.returns
 returns c =
-    let taken : pairs_ok (pair_list c.args.pairs.now) ≡ true = said-yes c.judge.ensures c.if-not-judge.left in
+    let taken : pairs_ok (pair_list c.args.pairs.now) ≡ true = said-yes c.judge.ensures (ap not c.if-not-judge.false) in
     let ps : List ℕ = c.args.pairs.now in
     let held-there : c.held.result ≡ pairs_held (pair_map (pair_list ps)) = c.held.ensures ∙ sym (held-is (pair_list ps) (taken)) in
     let a = c.args in

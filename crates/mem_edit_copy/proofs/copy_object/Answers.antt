@@ -76,8 +76,7 @@ copy_at-requires c =
     let from : Lookup = c.args.from in
     let known : AreBytes t = λ j. (c.slice_known-1.given j).fits in
     let there : ObjectThere t a p from = object-there t a p known c.requires.0.is_whole c.requires.0.there from c.requires.1.source-place in
-    let few : length c.lengths-kept.result.now ≤ 16 = let e = c in
-    let f = lengths-few (t e) (a e) (p e) (from e) (there e) in
+    let few : length c.lengths-kept.result.now ≤ 16 = let f = lengths-few (t) (a) (p) (from) (there) in
     omega (arith, ap length c.lengths-kept.ensures) in
     omega (arith, few)
 
@@ -89,10 +88,9 @@ splice_within-requires c =
     let q : List ℕ = c.args.destination.now in
     let from : Lookup = c.args.from in
     let known : AreBytes t = λ j. (c.slice_known-1.given j).fits in
-    let copies : Copying (t) (a) (p) (q) c.args.stamp c.args.digest (from) c.args.place c.args.end c.old_row-old.result c.read_head-h.result = let s = c in
-    let o = c.old_row-old in
-    copying (t) (a) (p) (q) (known) s.args.stamp s.args.digest s.pre.0 (sym c.equal.ensures ∙ c.if-equal.left)
-    (from) s.args.place s.args.end s.pre.1 o.result (o.ensures ∙ old_row (t) (a) (known) s.pre.0.is_whole (q) s.args.place s.pre.1.destination-place.0)
+    let copies : Copying (t) (a) (p) (q) c.args.stamp c.args.digest (from) c.args.place c.args.end c.old_row-old.result c.read_head-h.result = let o = c.old_row-old in
+    copying (t) (a) (p) (q) (known) c.args.stamp c.args.digest c.requires.0 (sym c.equal.ensures ∙ c.if-equal.false)
+    (from) c.args.place c.args.end c.requires.1 o.result (o.ensures ∙ old_row (t) (a) (known) c.requires.0.is_whole (q) c.args.place c.requires.1.destination-place.0)
     c.read_head-h.result c.read_head-h.ensures in
     (copies).block_room
 
@@ -104,8 +102,7 @@ slice_bounds-lengths-end c =
     let from : Lookup = c.args.from in
     let known : AreBytes t = λ j. (c.slice_known-1.given j).fits in
     let there : ObjectThere t a p from = object-there t a p known c.requires.0.is_whole c.requires.0.there from c.requires.1.source-place in
-    let few : length c.lengths-kept.result.now ≤ 16 = let e = c in
-    let f = lengths-few (t e) (a e) (p e) (from e) (there e) in
+    let few : length c.lengths-kept.result.now ≤ 16 = let f = lengths-few (t) (a) (p) (from) (there) in
     omega (arith, ap length c.lengths-kept.ensures) in
     omega (arith, few)
 
@@ -117,8 +114,7 @@ slice_bounds-put_row-end c =
     let from : Lookup = c.args.from in
     let known : AreBytes t = λ j. (c.slice_known-1.given j).fits in
     let there : ObjectThere t a p from = object-there t a p known c.requires.0.is_whole c.requires.0.there from c.requires.1.source-place in
-    let few : length c.lengths-kept.result.now ≤ 16 = let e = c in
-    let f = lengths-few (t e) (a e) (p e) (from e) (there e) in
+    let few : length c.lengths-kept.result.now ≤ 16 = let f = lengths-few (t) (a) (p) (from) (there) in
     omega (arith, ap length c.lengths-kept.ensures) in
     sym (length-take-le (length c.lengths-kept.result.now) c.copy_at.new.dst (omega (arith, few, c.copy_at.auto.dst)))
 
@@ -130,12 +126,11 @@ put_row-requires c =
     let q : List ℕ = c.args.destination.now in
     let from : Lookup = c.args.from in
     let known : AreBytes t = λ j. (c.slice_known-1.given j).fits in
-    let copies : Copying (t) (a) (p) (q) c.args.stamp c.args.digest (from) c.args.place c.args.end c.old_row-old.result c.read_head-h.result = let s = c in
-    let o = c.old_row-old in
-    copying (t) (a) (p) (q) (known) s.args.stamp s.args.digest s.pre.0 (sym c.equal.ensures ∙ c.if-equal.left)
-    (from) s.args.place s.args.end s.pre.1 o.result (o.ensures ∙ old_row (t) (a) (known) s.pre.0.is_whole (q) s.args.place s.pre.1.destination-place.0)
+    let copies : Copying (t) (a) (p) (q) c.args.stamp c.args.digest (from) c.args.place c.args.end c.old_row-old.result c.read_head-h.result = let o = c.old_row-old in
+    copying (t) (a) (p) (q) (known) c.args.stamp c.args.digest c.requires.0 (sym c.equal.ensures ∙ c.if-equal.false)
+    (from) c.args.place c.args.end c.requires.1 o.result (o.ensures ∙ old_row (t) (a) (known) c.requires.0.is_whole (q) c.args.place c.requires.1.destination-place.0)
     c.read_head-h.result c.read_head-h.ensures in
-    let lengths-are : take (length c.lengths-kept.result.now) c.copy_at.new.dst ≡ lengths_at (drop (from (c c)).at (t (c c))) = front-written _ c.copy_at.new.dst c.lengths-kept.result.now c.copy_at.ensures ∙ c.lengths-kept.ensures in
+    let lengths-are : take (length c.lengths-kept.result.now) c.copy_at.new.dst ≡ lengths_at (drop (from).at (t)) = front-written _ c.copy_at.new.dst c.lengths-kept.result.now c.copy_at.ensures ∙ c.lengths-kept.ensures in
     (copies).row_room _ (lengths-are)
 
 pub returns : goal.returns
@@ -146,12 +141,11 @@ returns c =
     let q : List ℕ = c.args.destination.now in
     let from : Lookup = c.args.from in
     let known : AreBytes t = λ j. (c.slice_known-1.given j).fits in
-    let copies : Copying (t) (a) (p) (q) c.args.stamp c.args.digest (from) c.args.place c.args.end c.old_row-old.result c.read_head-h.result = let s = c in
-    let o = c.old_row-old in
-    copying (t) (a) (p) (q) (known) s.args.stamp s.args.digest s.pre.0 (sym c.equal.ensures ∙ c.if-equal.left)
-    (from) s.args.place s.args.end s.pre.1 o.result (o.ensures ∙ old_row (t) (a) (known) s.pre.0.is_whole (q) s.args.place s.pre.1.destination-place.0)
+    let copies : Copying (t) (a) (p) (q) c.args.stamp c.args.digest (from) c.args.place c.args.end c.old_row-old.result c.read_head-h.result = let o = c.old_row-old in
+    copying (t) (a) (p) (q) (known) c.args.stamp c.args.digest c.requires.0 (sym c.equal.ensures ∙ c.if-equal.false)
+    (from) c.args.place c.args.end c.requires.1 o.result (o.ensures ∙ old_row (t) (a) (known) c.requires.0.is_whole (q) c.args.place c.requires.1.destination-place.0)
     c.read_head-h.result c.read_head-h.ensures in
-    let lengths-are : take (length c.lengths-kept.result.now) c.copy_at.new.dst ≡ lengths_at (drop (from (c c)).at (t (c c))) = front-written _ c.copy_at.new.dst c.lengths-kept.result.now c.copy_at.ensures ∙ c.lengths-kept.ensures in
+    let lengths-are : take (length c.lengths-kept.result.now) c.copy_at.new.dst ≡ lengths_at (drop (from).at (t)) = front-written _ c.copy_at.new.dst c.lengths-kept.result.now c.copy_at.ensures ∙ c.lengths-kept.ensures in
     let row = c.put_row in
     let block = c.splice_within in
     (copies).stands _ (lengths-are) row.new.tables block.new.b row.ensures block.ensures row.auto.tables block.auto.b

@@ -104,8 +104,8 @@ join_with-requires c =
     let n : ℕ = length c.lengths-stored.result.now in
     let are : (k : Listed (s) (u) (part_list (list))) → c.lengths-stored.result.now ≡ pair_lengths k.upload.pairs = λ k. c.lengths-stored.ensures ∙ lengths-there (t) (a) (s) (stands) (u) k.upload k.found (b).at (at-is) in
     let copied : take (n) c.copy_at.new.dst ≡ c.lengths-stored.result.now = ap (take (n)) c.copy_at.ensures ∙ take_at c.lengths-stored.result.now _ (n) (λ i. n) in
-    let with-lengths : (j : JoinableAt (t c) (a c) (u c) (b c) (c c).args.place (list c) (c c).args.ascends (c c).args.path.now (c c).args.stamp)
-    → JoinableWith (t c) (a c) (u c) (b c) (c c).args.place (list c) (c c).args.ascends (c c).args.path.now (take (n) c.copy_at.new.dst) (c c).args.stamp = λ j. record { at_path = j; lengths-are = copied ∙ are j.joinable.listed } in
+    let with-lengths : (j : JoinableAt (t) (a) (u) (b) c.args.place (list) c.args.ascends c.args.path.now c.args.stamp)
+    → JoinableWith (t) (a) (u) (b) c.args.place (list) c.args.ascends c.args.path.now (take (n) c.copy_at.new.dst) c.args.stamp = λ j. record { at_path = j; lengths-are = copied ∙ are j.joinable.listed } in
     with-lengths c.requires
 
 pub returns : goal.returns
@@ -124,6 +124,6 @@ returns c =
     let n : ℕ = length c.lengths-stored.result.now in
     let are : (k : Listed (s) (u) (part_list (list))) → c.lengths-stored.result.now ≡ pair_lengths k.upload.pairs = λ k. c.lengths-stored.ensures ∙ lengths-there (t) (a) (s) (stands) (u) k.upload k.found (b).at (at-is) in
     let copied : take (n) c.copy_at.new.dst ≡ c.lengths-stored.result.now = ap (take (n)) c.copy_at.ensures ∙ take_at c.lengths-stored.result.now _ (n) (λ i. n) in
-    let with-lengths : (j : JoinableAt (t c) (a c) (u c) (b c) (c c).args.place (list c) (c c).args.ascends (c c).args.path.now (c c).args.stamp)
-    → JoinableWith (t c) (a c) (u c) (b c) (c c).args.place (list c) (c c).args.ascends (c c).args.path.now (take (n) c.copy_at.new.dst) (c c).args.stamp = λ j. record { at_path = j; lengths-are = copied ∙ are j.joinable.listed } in
+    let with-lengths : (j : JoinableAt (t) (a) (u) (b) c.args.place (list) c.args.ascends c.args.path.now c.args.stamp)
+    → JoinableWith (t) (a) (u) (b) c.args.place (list) c.args.ascends c.args.path.now (take (n) c.copy_at.new.dst) c.args.stamp = λ j. record { at_path = j; lengths-are = copied ∙ are j.joinable.listed } in
     λ j. c.join_with.ensures (with-lengths j)

@@ -26,22 +26,22 @@ pub overflow_add-row_at : goal.overflow_add-row_at
 overflow_add-row_at c =
     let turned : (k : ListedAt c.args.tables.now c.args.arena.now c.args.at c.args.base c.args.list.now)
     → Turned c.args.tables.now c.args.arena.now c.args.at c.args.base c.args.list.now k
-    c.bring-size.new.tables c.bring-size.new.arena (c.loop-i.row-at + head_length) (c.loop-i.data-at + c.bring-size.result) (drop (c.loop-i.i + 2) c.args.list.now) = λ k. let l = c.loop-i.invariant.2 k in
-    let more = c.loop-i-test.taken in
+    c.bring-size.new.tables c.bring-size.new.arena (c.loop-i.row_at + head_length) (c.loop-i.data_at + c.bring-size.result) (drop (c.loop-i.i + 2) c.args.list.now) = λ k. let l = c.loop-i.invariant.2 k in
+    let more = c.loop-i-test.true in
     turn _ _ _ _ _ k _ _ _ _ _ l more c.get_u16-number.result c.get_u16-number.ensures _ _ c.bring-size.result
     (c.bring-size.ensures (turn-part _ _ _ _ _ k _ _ _ _ _ l more c.get_u16-number.result c.get_u16-number.ensures)) in
-    let region : Region c.bring-size.new.tables c.bring-size.new.arena (c.loop-i.row-at + head_length) (c.loop-i.data-at + c.bring-size.result) = (turned c.requires).rest.region in
+    let region : Region c.bring-size.new.tables c.bring-size.new.arena (c.loop-i.row_at + head_length) (c.loop-i.data_at + c.bring-size.result) = (turned c.requires).rest.region in
     omega (arith, (within _ _ _ _ (region)).0)
 
 pub overflow_add-data_at : goal.overflow_add-data_at
 overflow_add-data_at c =
     let turned : (k : ListedAt c.args.tables.now c.args.arena.now c.args.at c.args.base c.args.list.now)
     → Turned c.args.tables.now c.args.arena.now c.args.at c.args.base c.args.list.now k
-    c.bring-size.new.tables c.bring-size.new.arena (c.loop-i.row-at + head_length) (c.loop-i.data-at + c.bring-size.result) (drop (c.loop-i.i + 2) c.args.list.now) = λ k. let l = c.loop-i.invariant.2 k in
-    let more = c.loop-i-test.taken in
+    c.bring-size.new.tables c.bring-size.new.arena (c.loop-i.row_at + head_length) (c.loop-i.data_at + c.bring-size.result) (drop (c.loop-i.i + 2) c.args.list.now) = λ k. let l = c.loop-i.invariant.2 k in
+    let more = c.loop-i-test.true in
     turn _ _ _ _ _ k _ _ _ _ _ l more c.get_u16-number.result c.get_u16-number.ensures _ _ c.bring-size.result
     (c.bring-size.ensures (turn-part _ _ _ _ _ k _ _ _ _ _ l more c.get_u16-number.result c.get_u16-number.ensures)) in
-    let region : Region c.bring-size.new.tables c.bring-size.new.arena (c.loop-i.row-at + head_length) (c.loop-i.data-at + c.bring-size.result) = (turned c.requires).rest.region in
+    let region : Region c.bring-size.new.tables c.bring-size.new.arena (c.loop-i.row_at + head_length) (c.loop-i.data_at + c.bring-size.result) = (turned c.requires).rest.region in
     omega (arith, (within _ _ _ _ (region)).1)
 
 pub overflow_add-i : goal.overflow_add-i
@@ -53,8 +53,8 @@ pub loop-i-preserved : goal.loop-i-preserved
 loop-i-preserved c =
     let turned : (k : ListedAt c.args.tables.now c.args.arena.now c.args.at c.args.base c.args.list.now)
     → Turned c.args.tables.now c.args.arena.now c.args.at c.args.base c.args.list.now k
-    c.bring-size.new.tables c.bring-size.new.arena (c.loop-i.row-at + head_length) (c.loop-i.data-at + c.bring-size.result) (drop (c.loop-i.i + 2) c.args.list.now) = λ k. let l = c.loop-i.invariant.2 k in
-    let more = c.loop-i-test.taken in
+    c.bring-size.new.tables c.bring-size.new.arena (c.loop-i.row_at + head_length) (c.loop-i.data_at + c.bring-size.result) (drop (c.loop-i.i + 2) c.args.list.now) = λ k. let l = c.loop-i.invariant.2 k in
+    let more = c.loop-i-test.true in
     turn _ _ _ _ _ k _ _ _ _ _ l more c.get_u16-number.result c.get_u16-number.ensures _ _ c.bring-size.result
     (c.bring-size.ensures (turn-part _ _ _ _ _ k _ _ _ _ _ l more c.get_u16-number.result c.get_u16-number.ensures)) in
     (omega arith, omega arith, λ k. turned k)

@@ -8,7 +8,7 @@ use borrow.Author.Tests.{lt-leb}
 use borrow.Author.Rules.{rules}
 use native.Mathlib.Omega.{arith}
 use Rattle.mem_scan_rows.proofs.numbers_ok.Goals as goal
-use Rattle.mem_scan_rows.proofs.numbers_ok.Goals.{then-h-ne0, else-h-ne0}
+use Rattle.mem_scan_rows.proofs.numbers_ok.Goals.{then-h-ne0+else-most_parts-h, else-h-ne0}
 
 pub returns-then-h-gt-JOINED_KIND : goal.returns-then-h-gt-JOINED_KIND
 unfolding all object_rule
@@ -29,5 +29,5 @@ pub returns : goal.returns
 unfolding all object_rule
 returns c most last path lengths content =
     let h = c.args.h in
-    let m : h.count ≤ cond (eqb h.kind plain_kind) 0 parts_most = elim c.if-h-ne0.branch [ then-h-ne0 w ↦ rw w.most_parts.ensures at w.if-most_parts-h.false | else-h-ne0 w ↦ omega arith ] in
+    let m : h.count ≤ cond (eqb h.kind plain_kind) 0 parts_most = elim c.if-h-ne0.branch [ then-h-ne0+else-most_parts-h w ↦ rw w.most_parts.ensures at w.if-most_parts-h.false | else-h-ne0 w ↦ omega arith ] in
     search tests

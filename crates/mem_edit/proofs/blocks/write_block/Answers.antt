@@ -47,7 +47,7 @@ copy_at-requires c =
     let content : List ℕ = c.args.content.now in
     let lengths : List ℕ = c.args.lengths.now in
     let z = laws.content-room (a) c.args.at (pairs) (content) (lengths) c.requires c.held-held.result c.held-held.ensures in
-    omega (arith, c.write-Kept.auto.1.0)
+    omega (arith, c.write_kept.auto.lengths)
 
 pub overflow_mul-result : goal.overflow_mul-result
 overflow_mul-result c =
@@ -74,4 +74,4 @@ returns c =
     let content : List ℕ = c.args.content.now in
     let lengths : List ℕ = c.args.lengths.now in
     laws.block_written (a) c.args.at (pairs) (content) (lengths) c.requires c.count-kept.result c.held-held.result _ _ _
-    c.count-kept.ensures c.held-held.ensures c.write-Kept.ensures.0 c.write-Kept.ensures.1 c.copy_at.ensures
+    c.count-kept.ensures c.held-held.ensures c.write_kept.ensures.0 c.write_kept.ensures.1 c.copy_at.ensures

@@ -56,6 +56,7 @@ next_row-next-requires c =
     (c.requires.0, (c.loop-here.invariant.0.0, more))
 
 pub pass_rows-here-requires-in-loop-here : goal.pass_rows-here-requires-in-loop-here
+unfolding row_place_at
 pass_rows-here-requires-in-loop-here c =
     let t : List ℕ = c.args.tables.now in
     let a : List ℕ = c.args.arena.now in
@@ -69,6 +70,7 @@ pass_rows-here-requires-in-loop-here c =
     (c.requires.0, (c.next_row-next.ensures ∙ ap (row_place_at (rows_of (s))) (sym n), omega arith))
 
 pub loop-here-smaller : goal.loop-here-smaller
+unfolding row_place_at
 loop-here-smaller c =
     let here : RowPlace = c.loop-here.here in
     let next-number : c.next_row-next.result.row ≡ (here).row + 1 = ap (λ (p : RowPlace). p.row) c.next_row-next.ensures in
@@ -78,6 +80,7 @@ loop-here-smaller c =
     omega arith
 
 pub loop-here-preserved : goal.loop-here-preserved
+unfolding row_place_at
 loop-here-preserved c =
     let t : List ℕ = c.args.tables.now in
     let a : List ℕ = c.args.arena.now in

@@ -34,6 +34,7 @@ unfolding all upload_rule
 returns-then-not-stored_path_ok c = search (tests, said-no c.stored_path_ok.ensures (ap not c.if-not-stored_path_ok.true))
 
 pub returns-then-not-is_zero : goal.returns-then-not-is_zero
+unfolding all upload_rule
 returns-then-not-is_zero c =
     let passed : let a = c.args in
     upload_rule a.most a.next a.m a.h a.digest.now a.path.now a.lengths.now a.content.now
@@ -41,6 +42,7 @@ returns-then-not-is_zero c =
     sym (passed ∙ rw (said-no c.is_zero.ensures (ap not c.if-not-is_zero.true)))
 
 pub returns-then-not-pairs_ok : goal.returns-then-not-pairs_ok
+unfolding all upload_rule
 returns-then-not-pairs_ok c =
     let passed : let a = c.args in
     upload_rule a.most a.next a.m a.h a.digest.now a.path.now a.lengths.now a.content.now
@@ -56,6 +58,7 @@ sum_of-requires c =
     omega (arith, lengths-few a.most a.h a.lengths.now a.content.now (said-yes c.pairs_ok.ensures (ap not c.if-not-pairs_ok.false)))
 
 pub returns : goal.returns
+unfolding all upload_rule
 returns c =
     let passed : let a = c.args in
     upload_rule a.most a.next a.m a.h a.digest.now a.path.now a.lengths.now a.content.now

@@ -4,8 +4,6 @@ use Rattle.recording_lists.proofs.OnePair.{no-bracket, no_key, no-space, no_valu
 use Rattle.recording_read.specs.Meant.{string_meant, string_length, room_after}
 use mathlib.Core.Path.{sym, ap, ◌∙◌}
 use borrow.Author.Rules.{rules}
-use Rattle.recording_lists.proofs.pairs.counted_pair.Statement.{statement}
-use Rattle.recording_lists.proofs.pairs.counted_pair.Tie as tie
 use Rattle.recording_lists.proofs.pair_lists.counted_pair.Goals as goal
 
 pub returns-then-byte_at-ne40 : goal.returns-then-byte_at-ne40

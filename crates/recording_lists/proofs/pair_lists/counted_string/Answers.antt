@@ -7,8 +7,6 @@ use Prim.Native.Nat.{◌+◌, ◌-◌, ◌*◌, ◌≤◌}
 use lib.ListN.{length}
 use mathlib.Core.Path.{sym, ap, subst, ◌∙◌}
 use borrow.Author.Rules.{rules}
-use Rattle.recording_lists.proofs.pairs.counted_string.Statement.{statement}
-use Rattle.recording_lists.proofs.pairs.counted_string.Tie as tie
 use Rattle.recording_lists.proofs.pair_lists.counted_string.Goals as goal
 
 pub returns-then-byte_at-ne34 : goal.returns-then-byte_at-ne34

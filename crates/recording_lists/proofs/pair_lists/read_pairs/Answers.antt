@@ -7,8 +7,6 @@ use Rattle.recording.specs.Read.{items, read_pair}
 use lib.ListN.{length, drop}
 use Prim.Native.Nat.{◌+◌, ◌-◌, ◌*◌, ◌≤◌}
 use mathlib.Core.Path.{◌≡◌, refl, sym, ap, ◌∙◌}
-use Rattle.recording_lists.proofs.pairs.read_pairs.Statement.{statement}
-use Rattle.recording_lists.proofs.pairs.read_pairs.Tie as tie
 use Rattle.recording_lists.proofs.pair_lists.read_pairs.Goals as goal
 
 pub loop-out-init : goal.loop-out-init

@@ -5,128 +5,131 @@ use call_types::{
     Counts, DoneAnswer, Etag, GetAnswer, InitiateAnswer, ListAnswer, Metadata, PartAnswer, Sweep,
     SweepAnswer,
 };
-use libc::STDOUT_FILENO;
+use std::io;
 
-pub fn print(bytes: &[u8]) {
-    io::write_all(STDOUT_FILENO, bytes);
+// Bytes that need not be text.
+pub fn print(rt: &impl Print, bytes: &[u8]) -> io::Result<()> {
+    rt.write_all(bytes)
 }
 
-fn print_number(name: &[u8], n: u64) {
-    print(name);
-    io::print_decimal(STDOUT_FILENO, n);
+fn print_number(rt: &impl Print, name: &[u8], n: u64) -> io::Result<()> {
+    print(rt, name)?;
+    rt.print(n)
 }
 
-pub fn print_result(n: u8) {
-    print_number(b": ", n as u64);
+pub fn print_result(rt: &impl Print, n: u8) -> io::Result<()> {
+    print_number(rt, b": ", n as u64)
 }
 
-fn print_digest(d: Digest) {
+fn print_digest(rt: &impl Print, d: Digest) -> io::Result<()> {
     let mut text = [0u8; 32];
     base_text::put_digest(&mut text, 0, d.a, d.b, d.c, d.d);
-    print(&text);
+    print(rt, &text)
 }
 
-fn print_etag(name: &[u8], e: Etag) {
-    print(name);
+fn print_etag(rt: &impl Print, name: &[u8], e: Etag) -> io::Result<()> {
+    print(rt, name)?;
     match e {
-        Etag::Absent => print(b"absent"),
-        Etag::Plain(d) => print_digest(d),
+        Etag::Absent => print(rt, b"absent"),
+        Etag::Plain(d) => print_digest(rt, d),
         Etag::Joined(d, n) => {
-            print_digest(d);
-            print_number(b"-", n as u64);
+            print_digest(rt, d)?;
+            print_number(rt, b"-", n as u64)
         }
     }
 }
 
 // The metadata; the counts of pairs where they are asked for.
-fn print_metadata(m: Metadata, pairs: bool) {
-    print_number(b": 0, length ", m.length as u64);
+fn print_metadata(rt: &impl Print, m: Metadata, pairs: bool) -> io::Result<()> {
+    print_number(rt, b": 0, length ", m.length as u64)?;
     let created = m.created;
-    print_number(b", created ", created.0);
+    print_number(rt, b", created ", created.0)?;
     let e = m.etag;
-    print_etag(b", etag ", e);
+    print_etag(rt, b", etag ", e)?;
     if pairs {
-        print_number(b", pairs ", m.pairs as u64);
-        print_number(b", bytes ", m.bytes as u64);
+        print_number(rt, b", pairs ", m.pairs as u64)?;
+        print_number(rt, b", bytes ", m.bytes as u64)?;
     }
+    Ok(())
 }
 
-fn print_counts(c: Counts) {
-    print_number(b": 0, records ", c.records as u64);
-    print_number(b", bytes ", c.bytes as u64);
+fn print_counts(rt: &impl Print, c: Counts) -> io::Result<()> {
+    print_number(rt, b": 0, records ", c.records as u64)?;
+    print_number(rt, b", bytes ", c.bytes as u64)
 }
 
-pub fn print_done(a: DoneAnswer) {
+pub fn print_done(rt: &impl Print, a: DoneAnswer) -> io::Result<()> {
     match a {
-        DoneAnswer::Refused(n) => print_result(n),
-        DoneAnswer::Done => print_result(0),
+        DoneAnswer::Refused(n) => print_result(rt, n),
+        DoneAnswer::Done => print_result(rt, 0),
     }
 }
 
-pub fn print_found(a: GetAnswer, pairs: bool) {
+pub fn print_found(rt: &impl Print, a: GetAnswer, pairs: bool) -> io::Result<()> {
     match a {
-        GetAnswer::Refused(n) => print_result(n),
-        GetAnswer::Found(m) => print_metadata(m, pairs),
+        GetAnswer::Refused(n) => print_result(rt, n),
+        GetAnswer::Found(m) => print_metadata(rt, m, pairs),
     }
 }
 
-pub fn print_stored(a: PartAnswer) {
+pub fn print_stored(rt: &impl Print, a: PartAnswer) -> io::Result<()> {
     match a {
-        PartAnswer::Refused(n) => print_result(n),
-        PartAnswer::Stored(e) => print_etag(b": 0, etag ", e),
+        PartAnswer::Refused(n) => print_result(rt, n),
+        PartAnswer::Stored(e) => print_etag(rt, b": 0, etag ", e),
     }
 }
 
-pub fn print_opened(a: InitiateAnswer) {
+pub fn print_opened(rt: &impl Print, a: InitiateAnswer) -> io::Result<()> {
     match a {
-        InitiateAnswer::Refused(n) => print_result(n),
-        InitiateAnswer::Opened(u) => print_number(b": 0, upload ", u.0 as u64),
+        InitiateAnswer::Refused(n) => print_result(rt, n),
+        InitiateAnswer::Opened(u) => print_number(rt, b": 0, upload ", u.0 as u64),
     }
 }
 
-pub fn print_written(a: ListAnswer) {
+pub fn print_written(rt: &impl Print, a: ListAnswer) -> io::Result<()> {
     match a {
-        ListAnswer::Refused(n) => print_result(n),
-        ListAnswer::Written(c) => print_counts(c),
+        ListAnswer::Refused(n) => print_result(rt, n),
+        ListAnswer::Written(c) => print_counts(rt, c),
     }
 }
 
-fn print_sweep(s: Sweep) {
-    print_number(b": 0, swept ", s.count as u64);
+fn print_sweep(rt: &impl Print, s: Sweep) -> io::Result<()> {
+    print_number(rt, b": 0, swept ", s.count as u64)?;
     if s.more {
-        print(b", more 1");
+        print(rt, b", more 1")
     } else {
-        print(b", more 0");
+        print(rt, b", more 0")
     }
 }
 
-pub fn print_swept(a: SweepAnswer) {
+pub fn print_swept(rt: &impl Print, a: SweepAnswer) -> io::Result<()> {
     match a {
-        SweepAnswer::Refused(n) => print_result(n),
-        SweepAnswer::Swept(s) => print_sweep(s),
+        SweepAnswer::Refused(n) => print_result(rt, n),
+        SweepAnswer::Swept(s) => print_sweep(rt, s),
     }
 }
 
 // Each byte in decimal.
-fn print_each(bytes: &[u8]) {
+fn print_each(rt: &impl Print, bytes: &[u8]) -> io::Result<()> {
     for i in 0..bytes.len() {
-        print_number(b" ", base_number::wide(bytes[i]) as u64);
+        print_number(rt, b" ", base_number::wide(bytes[i]) as u64)?;
     }
+    Ok(())
 }
 
 // An answer buffer, on a line of its own: as text, or each byte in decimal.
-pub fn print_buffer(bytes: &[u8], text: bool) {
-    print(b"\n   ");
+pub fn print_buffer(rt: &impl Print, bytes: &[u8], text: bool) -> io::Result<()> {
+    print(rt, b"\n   ")?;
     if text {
-        print(b" ");
-        print(bytes);
+        print(rt, b" ")?;
+        print(rt, bytes)
     } else {
-        print_each(bytes);
+        print_each(rt, bytes)
     }
 }
 
 // The front of memory, as long as the line says.
-pub fn print_front(memory: &[u8], line: &[u8]) {
+pub fn print_front(rt: &impl Print, memory: &[u8], line: &[u8]) -> io::Result<()> {
     let n = front_len(true, line, 0, memory);
-    print_buffer(&memory[..n], false);
+    print_buffer(rt, &memory[..n], false)
 }

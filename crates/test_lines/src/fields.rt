@@ -1,6 +1,6 @@
 // A line's fields, separated by one space.
 ghost use Rattle.std.specs.Prelude.{◌+◌, ◌≤◌, length};
-ghost use Rattle.io.specs.Counts.{IsPrefixLen};
+ghost use Rattle.test_lines.specs.Counts.{IsPrefixLen};
 
 // The kinds of lists: part numbers as COMMIT takes them, 16 bits each; places as DELETE_OBJECTS takes them from C, two numbers of 32 bits
 // each; pairs as PUT and INITIATE take them. The low byte of a number is first.

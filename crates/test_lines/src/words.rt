@@ -1,6 +1,6 @@
 // The words that a line begins with.
 ghost use Rattle.std.specs.Prelude.{◌≤◌, length};
-ghost use Rattle.io.specs.Counts.{IsPrefixLen};
+ghost use Rattle.test_lines.specs.Counts.{IsPrefixLen};
 
 use crate::fields::{field, number};
 

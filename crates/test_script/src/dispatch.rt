@@ -4,6 +4,7 @@ ghost use Rattle.std.specs.Prelude.{◌≡◌, length};
 use call_types::{
     DoneAnswer, InitiateAnswer, PartAnswer, PartNumber, Stamp, SweepAnswer, UploadNumber,
 };
+use std::io;
 use test_lines::answers::{
     print_buffer, print_done, print_found, print_front, print_opened, print_result, print_stored,
     print_swept, print_written,
@@ -23,45 +24,75 @@ fn commit(tables: &mut [u8], arena: &mut [u8], upload: u32, text: &[u8]) -> Done
 
 // LIST or UPLOADS.
 fn list_or_uploads(
+    rt: &impl Print,
     tables: &[u8],
     arena: &[u8],
     word: usize,
     a: &[u8],
     b: &[u8],
     answer: &mut [u8],
-) {
+) -> io::Result<()> {
     match word {
-        LIST => print_written(store::list(tables, arena, a, b, answer)),
-        _ => print_written(store::uploads(tables, arena, a, answer)),
+        LIST => print_written(rt, store::list(tables, arena, a, b, answer)),
+        _ => print_written(rt, store::uploads(tables, arena, a, answer)),
     }
 }
 
 // The same, and the answer buffer after it.
-fn list_and_show(tables: &[u8], arena: &[u8], word: usize, line: &[u8], answer: &mut [u8]) {
-    list_or_uploads(tables, arena, word, field(line, 2), field(line, 3), answer);
-    print_buffer(answer, false);
+fn list_and_show(
+    rt: &impl Print,
+    tables: &[u8],
+    arena: &[u8],
+    word: usize,
+    line: &[u8],
+    answer: &mut [u8],
+) -> io::Result<()> {
+    list_or_uploads(
+        rt,
+        tables,
+        arena,
+        word,
+        field(line, 2),
+        field(line, 3),
+        answer,
+    )?;
+    print_buffer(rt, answer, false)
 }
 
 // The second answer buffer after GET or HEAD, where the line gives one.
-fn show_pairs(pairs: &[u8]) {
+fn show_pairs(rt: &impl Print, pairs: &[u8]) -> io::Result<()> {
     if 0 < pairs.len() {
-        print_buffer(pairs, false);
+        print_buffer(rt, pairs, false)?;
     }
+    Ok(())
 }
 
 // GET, and both answer buffers after it, the first as text.
-fn get_and_show(tables: &[u8], arena: &[u8], path: &[u8], answer: &mut [u8], pairs: &mut [u8]) {
+fn get_and_show(
+    rt: &impl Print,
+    tables: &[u8],
+    arena: &[u8],
+    path: &[u8],
+    answer: &mut [u8],
+    pairs: &mut [u8],
+) -> io::Result<()> {
     let given = 0 < pairs.len();
-    print_found(store::get(tables, arena, path, answer, pairs), given);
-    print_buffer(answer, true);
-    show_pairs(pairs);
+    print_found(rt, store::get(tables, arena, path, answer, pairs), given)?;
+    print_buffer(rt, answer, true)?;
+    show_pairs(rt, pairs)
 }
 
 // HEAD, and the second answer buffer after it.
-fn head_and_show(tables: &[u8], arena: &[u8], path: &[u8], pairs: &mut [u8]) {
+fn head_and_show(
+    rt: &impl Print,
+    tables: &[u8],
+    arena: &[u8],
+    path: &[u8],
+    pairs: &mut [u8],
+) -> io::Result<()> {
     let given = 0 < pairs.len();
-    print_found(store::head(tables, arena, path, pairs), given);
-    show_pairs(pairs);
+    print_found(rt, store::head(tables, arena, path, pairs), given)?;
+    show_pairs(rt, pairs)
 }
 
 // An answer buffer of dots.
@@ -72,42 +103,55 @@ fn dots() -> [u8; 1024]
 }
 
 // LIST or UPLOADS, over a buffer as long as the line says.
-fn list_with_buffer(tables: &[u8], arena: &[u8], word: usize, line: &[u8]) {
+fn list_with_buffer(
+    rt: &impl Print,
+    tables: &[u8],
+    arena: &[u8],
+    word: usize,
+    line: &[u8],
+) -> io::Result<()> {
     let mut space = dots();
     let n = front_len(true, line, 0, &space);
-    list_and_show(tables, arena, word, line, &mut space[..n]);
+    list_and_show(rt, tables, arena, word, line, &mut space[..n])
 }
 
 // GET, over buffers as long as the line says.
-fn get_with_buffers(tables: &[u8], arena: &[u8], line: &[u8]) {
+fn get_with_buffers(rt: &impl Print, tables: &[u8], arena: &[u8], line: &[u8]) -> io::Result<()> {
     let mut space = dots();
     let mut second = dots();
     let n = front_len(true, line, 0, &space);
     let m = length_in(line, 3, &second);
     get_and_show(
+        rt,
         tables,
         arena,
         field(line, 2),
         &mut space[..n],
         &mut second[..m],
-    );
+    )
 }
 
 // HEAD, over a second buffer as long as the line says.
-fn head_with_buffer(tables: &[u8], arena: &[u8], line: &[u8]) {
+fn head_with_buffer(rt: &impl Print, tables: &[u8], arena: &[u8], line: &[u8]) -> io::Result<()> {
     let mut second = dots();
     let m = length_in(line, 2, &second);
-    head_and_show(tables, arena, field(line, 1), &mut second[..m]);
+    head_and_show(rt, tables, arena, field(line, 1), &mut second[..m])
 }
 
 // The words that change nothing.
-fn reading_call(tables: &[u8], arena: &[u8], word: usize, line: &[u8]) {
+fn reading_call(
+    rt: &impl Print,
+    tables: &[u8],
+    arena: &[u8],
+    word: usize,
+    line: &[u8],
+) -> io::Result<()> {
     match word {
-        TABLES => print_front(tables, line),
-        ARENA => print_front(arena, line),
-        HEAD => head_with_buffer(tables, arena, line),
-        GET => get_with_buffers(tables, arena, line),
-        _ => list_with_buffer(tables, arena, word, line),
+        TABLES => print_front(rt, tables, line),
+        ARENA => print_front(rt, arena, line),
+        HEAD => head_with_buffer(rt, tables, arena, line),
+        GET => get_with_buffers(rt, tables, arena, line),
+        _ => list_with_buffer(rt, tables, arena, word, line),
     }
 }
 
@@ -215,48 +259,72 @@ fn places_room() -> [u8; 8016]
 
 // DELETE_OBJECTS of the places that the text says, and the result buffer after it.
 fn delete_and_show(
+    rt: &impl Print,
     tables: &mut [u8],
     arena: &mut [u8],
     names: &[u8],
     text: &[u8],
     results: &mut [u8],
-) {
+) -> io::Result<()> {
     let mut places = places_room();
     let n = list_bytes(text, PLACES, &mut places);
-    print_done(store::delete_packed(tables, arena, names, &places[..n], results));
-    print_buffer(results, false);
+    print_done(
+        rt,
+        store::delete_packed(tables, arena, names, &places[..n], results),
+    )?;
+    print_buffer(rt, results, false)
 }
 
 // The same, over a result buffer as long as the line says.
-fn delete_objects(tables: &mut [u8], arena: &mut [u8], line: &[u8]) {
+fn delete_objects(
+    rt: &impl Print,
+    tables: &mut [u8],
+    arena: &mut [u8],
+    line: &[u8],
+) -> io::Result<()> {
     let mut space = dots();
     let n = front_len(true, line, 0, &space);
     delete_and_show(
+        rt,
         tables,
         arena,
         field(line, 2),
         field(line, 3),
         &mut space[..n],
-    );
+    )
 }
 
 // The words that may change memory.
-fn changing_call(tables: &mut [u8], arena: &mut [u8], word: usize, line: &[u8]) {
+fn changing_call(
+    rt: &impl Print,
+    tables: &mut [u8],
+    arena: &mut [u8],
+    word: usize,
+    line: &[u8],
+) -> io::Result<()> {
     match word {
-        FRESH => print_result(store::fresh(tables, arena)),
-        INITIATE => print_opened(initiate(tables, arena, line)),
-        PART => print_stored(part(tables, arena, line)),
-        DELETE_OBJECTS => delete_objects(tables, arena, line),
-        SWEEP => print_swept(sweep(tables, arena, line)),
-        _ => print_done(done_call(tables, arena, word, line)),
+        FRESH => print_result(rt, store::fresh(tables, arena)),
+        INITIATE => print_opened(rt, initiate(tables, arena, line)),
+        PART => print_stored(rt, part(tables, arena, line)),
+        DELETE_OBJECTS => delete_objects(rt, tables, arena, line),
+        SWEEP => print_swept(rt, sweep(tables, arena, line)),
+        _ => print_done(rt, done_call(tables, arena, word, line)),
     }
 }
 
 // The call that the word says, with the line's fields; nothing for another word.
-pub(crate) fn run(tables: &mut [u8], arena: &mut [u8], word: usize, line: &[u8]) {
+pub(crate) fn run(
+    rt: &impl Print,
+    tables: &mut [u8],
+    arena: &mut [u8],
+    word: usize,
+    line: &[u8],
+) -> io::Result<()> {
     if word <= UPLOADS {
-        reading_call(tables, arena, word, line);
+        reading_call(rt, tables, arena, word, line)
     } else if word <= SWEEP {
-        changing_call(tables, arena, word, line);
+        changing_call(rt, tables, arena, word, line)
+    } else {
+        Ok(())
     }
 }

@@ -13,10 +13,14 @@
 
 mod dispatch;
 
-ghost use Rattle.std.specs.Prelude.{◌≤◌, ◌≡◌, length};
+ghost use Rattle.std.specs.Prelude.{◌≤◌, ◌≡◌, length, IfOk};
 
-use libc::STDIN_FILENO;
+use std::io;
+use std::io::Read;
 use test_lines::{answers, fields, words};
+
+// The most bytes of standard input that are read.
+const INPUT_MOST: u64 = 65536;
 
 // Tables. The contract spares the caller's proof the length of the list, which is too long to compute.
 fn tables_room() -> [u8; 58194]
@@ -25,33 +29,47 @@ fn tables_room() -> [u8; 58194]
     [0u8; 58194]
 }
 
+// An arena.
+fn arena_room() -> [u8; 4096]
+    ensures { length result ≡ 4096 }
+{
+    [0u8; 4096]
+}
+
 // One line, over the first `before` bytes of the arena. Answers how many it is over now.
-fn step(tables: &mut [u8], arena: &mut [u8], before: usize, line: &[u8]) -> usize
+fn step(
+    rt: &impl Print,
+    tables: &mut [u8],
+    arena: &mut [u8],
+    before: usize,
+    line: &[u8],
+) -> io::Result<usize>
     requires { before ≤ length arena.old }
-    ensures { result ≤ length arena.old }
+    ensures { IfOk result (λ n. n ≤ length arena.old) }
 {
     let word = words::word_of(line);
     let n = words::front_len(word == words::FRESH, line, before, arena);
-    answers::print(line);
-    dispatch::run(tables, &mut arena[..n], word, line);
-    answers::print(b"\n");
-    n
+    answers::print(rt, line)?;
+    dispatch::run(rt, tables, &mut arena[..n], word, line)?;
+    answers::print(rt, b"\n")?;
+    Ok(n)
 }
 
-fn each_line(tables: &mut [u8], arena: &mut [u8], text: &[u8]) {
+fn each_line(rt: &impl Print, tables: &mut [u8], arena: &mut [u8], text: &[u8]) -> io::Result<()> {
     let mut n = 0;
     let mut at = 0;
     while at < text.len() {
         let end = fields::find(text, at, b'\n');
-        n = step(tables, arena, n, &text[at..end]);
+        n = step(rt, tables, arena, n, &text[at..end])?;
         at = end + 1;
     }
+    Ok(())
 }
 
-fn main() {
-    let mut input = io::large_buffer();
-    let n = io::read_full(STDIN_FILENO, &mut input);
+fn main(rt: HostRuntime) -> io::Result<()> {
+    let mut input = Vec::new(rt.alloc());
+    rt.reader().take(INPUT_MOST).read_to_end(&mut input)?;
     let mut tables = tables_room();
-    let mut arena = io::buffer();
-    each_line(&mut tables, &mut arena, &input[..n]);
+    let mut arena = arena_room();
+    each_line(&rt, &mut tables, &mut arena, &input)
 }

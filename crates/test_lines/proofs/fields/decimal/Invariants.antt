@@ -1,8 +1,5 @@
--- `test_lines::fields::decimal` is safe and ends. The invariant: n is below ten times the number at which it stops. Assumes nothing.
-use borrow.Author.Rules.{rules}
-use lib.ListN.{length}
-use Prim.Native.Nat.{◌-◌, ◌≤◌, ◌<◌}
-use native.Mathlib.Omega.{arith}
+-- The number is below ten times the one at which the loop stops.
+use Rattle.std.proofs.Common.{length, ◌-◌, ◌≤◌, ◌<◌}
 use Rattle.test_lines.proofs.fields.decimal.Given as goal
 
 abbrev pub invariant-loop-i : goal.invariant-loop-i

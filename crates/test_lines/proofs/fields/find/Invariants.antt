@@ -1,7 +1,5 @@
--- `test_lines::fields::find` meets its contract. The invariant: i is within the text. Assumes nothing.
-use lib.ListN.{length}
-use Prim.Native.Nat.{◌-◌, ◌≤◌}
-use native.Mathlib.Omega.{arith}
+-- The place is within the text, and not before the first.
+use Rattle.std.proofs.Common.{length, ◌-◌, ◌≤◌}
 use Rattle.test_lines.proofs.fields.find.Given as goal
 
 abbrev pub invariant-loop-i : goal.invariant-loop-i

@@ -2,40 +2,47 @@
 // MD5, with tools/vectors.py.
 #![tactic(auto)]
 
-ghost use Rattle.std.specs.Prelude.{◌≡◌, length};
+ghost use Rattle.std.specs.Prelude.{◌≡◌, length, IfOk};
 
 use base_md5::words::Digest;
-use libc::STDOUT_FILENO;
+use std::alloc::{AllocError, Global};
+use std::io;
 
 // A digest in hexadecimal, and a byte after it.
-fn write(v: Digest, end: u8) {
+fn write(rt: &impl Print, v: Digest, end: u8) -> io::Result<()> {
     let mut text = [end; 33];
     base_text::put_digest(&mut text, 0, v.a, v.b, v.c, v.d);
-    io::write_all(STDOUT_FILENO, &text);
+    rt.write_all(&text)
 }
 
 // The digest of data on a line, and the same by crate `bench_md5_bytes`.
-fn line(data: &[u8]) {
-    write(base_md5::digest(data), b' ');
-    write(bench_md5_bytes::digest(data), b'\n');
+fn line(rt: &impl Print, data: &[u8]) -> io::Result<()> {
+    write(rt, base_md5::digest(data), b' ')?;
+    write(rt, bench_md5_bytes::digest(data), b'\n')
 }
 
 // RFC 1321's seven.
-fn published() {
-    line(b"");
-    line(b"a");
-    line(b"abc");
-    line(b"message digest");
-    line(b"abcdefghijklmnopqrstuvwxyz");
-    line(b"ABCDEFGHIJKLMNOPQRSTUVWXYZabcdefghijklmnopqrstuvwxyz0123456789");
-    line(b"12345678901234567890123456789012345678901234567890123456789012345678901234567890");
+fn published(rt: &impl Print) -> io::Result<()> {
+    line(rt, b"")?;
+    line(rt, b"a")?;
+    line(rt, b"abc")?;
+    line(rt, b"message digest")?;
+    line(rt, b"abcdefghijklmnopqrstuvwxyz")?;
+    line(
+        rt,
+        b"ABCDEFGHIJKLMNOPQRSTUVWXYZabcdefghijklmnopqrstuvwxyz0123456789",
+    )?;
+    line(
+        rt,
+        b"12345678901234567890123456789012345678901234567890123456789012345678901234567890",
+    )
 }
 
-// A million bytes. The contract spares the caller's proof the length of the list, which is too long to compute.
-fn room() -> [u8; 1000000]
-    ensures { length result ≡ 1000000 }
+// A million bytes, on the heap.
+fn room(alloc: Global) -> Result<Vec<u8>, AllocError>
+    ensures { IfOk result (λ v. length v.items ≡ 1000000) }
 {
-    [0u8; 1000000]
+    vec![in alloc; 0u8; 1000000]
 }
 
 // Byte i is 7 * i + 3 modulo 251.
@@ -48,27 +55,28 @@ fn fill(b: &mut [u8]) {
 }
 
 // The digest of the first n bytes.
-fn front(data: &[u8], n: usize) {
+fn front(rt: &impl Print, data: &[u8], n: usize) -> io::Result<()> {
     if n <= data.len() {
-        line(&data[..n]);
+        line(rt, &data[..n])?;
     }
+    Ok(())
 }
 
 // Lengths at which the padding or the count of blocks changes, and many blocks.
-fn edges(data: &[u8]) {
-    front(data, 55);
-    front(data, 56);
-    front(data, 63);
-    front(data, 64);
-    front(data, 65);
-    front(data, 119);
-    front(data, 120);
-    line(data);
+fn edges(rt: &impl Print, data: &[u8]) -> io::Result<()> {
+    front(rt, data, 55)?;
+    front(rt, data, 56)?;
+    front(rt, data, 63)?;
+    front(rt, data, 64)?;
+    front(rt, data, 65)?;
+    front(rt, data, 119)?;
+    front(rt, data, 120)?;
+    line(rt, data)
 }
 
-fn main() {
-    published();
-    let mut data = room();
+fn main(rt: HostRuntime) -> io::Result<()> {
+    published(&rt)?;
+    let mut data = room(rt.alloc())?;
     fill(&mut data);
-    edges(&data);
+    edges(&rt, &data)
 }

@@ -1,7 +1,0 @@
--- `test_vectors::room` meets its contract: the length of a repeat, which is not computed. Assumes nothing.
-use Prim.Native.Nat.{ℕ}
-use lib.ListN.{length-replicate}
-use Rattle.test_vectors.proofs.room.Goals as goal
-
-pub returns : goal.returns
-returns c = length-replicate {0} {A = ℕ} 1000000 0

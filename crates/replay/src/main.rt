@@ -2,15 +2,30 @@
 // number of each line on a line, as it goes. It holds a piece of the input and the front of one line: a line of any length is one 9.
 #![tactic(auto)]
 
-ghost use Rattle.std.specs.Prelude.{◌≡◌, ◌*◌, ◌≤◌, length};
+ghost use Rattle.std.specs.Prelude.{◌≡◌, ◌*◌, ◌≤◌, length, IfOk};
 
-use libc::{STDIN_FILENO, STDOUT_FILENO};
+use std::io;
+use std::io::Read;
 
 // Tables. The contract spares the caller's proof the length of the list, which is too long to compute.
 fn tables_room() -> [u8; 58194]
     ensures { length result ≡ 58194 }
 {
     [0u8; 58194]
+}
+
+// An arena, an answer buffer, and the results of a piece of the input.
+fn large_room() -> [u8; 65536]
+    ensures { length result ≡ 65536 }
+{
+    [0u8; 65536]
+}
+
+// The front of a line.
+fn line_room() -> [u8; 4096]
+    ensures { length result ≡ 4096 }
+{
+    [0u8; 4096]
 }
 
 // A piece of the input: the results of its lines, two bytes each, have room in 65,536 bytes.
@@ -22,6 +37,7 @@ fn piece_room() -> [u8; 32768]
 
 // The lines that a piece finishes, each replayed, and their results printed. Answers how much of the next line is held.
 fn feed(
+    rt: &impl Print,
     tables: &mut [u8],
     arena: &mut [u8],
     answer: &mut [u8],
@@ -30,38 +46,39 @@ fn feed(
     held: usize,
     piece: &[u8],
     out: &mut [u8],
-) -> usize
+) -> io::Result<usize>
     requires { (length line.old ≡ 4096) × (held ≤ 4097) × (2 * length piece.now ≤ length out.old)
         × (length piece.now ≤ 65536) }
-    ensures { result ≤ 4097 }
+    ensures { IfOk result (λ kept. kept ≤ 4097) }
 {
     let fed = recording_run::replay_piece(tables, arena, answer, pairs, line, held, piece, out);
     let n = fed.written;
-    io::write_all(STDOUT_FILENO, &out[..n]);
-    fed.held
+    rt.write_all(&out[..n])?;
+    Ok(fed.held)
 }
 
 // The line that the input's end finishes, if bytes of it are held.
 fn last_line(
+    rt: &impl Print,
     tables: &mut [u8],
     arena: &mut [u8],
     answer: &mut [u8],
     pairs: &mut [u8],
     line: &[u8],
     held: usize,
-)
+) -> io::Result<()>
     requires { length line.now ≡ 4096 }
 {
     if held == 0 {
-        return;
+        return Ok(());
     }
     let result = recording_run::held_line(tables, arena, answer, pairs, line, held);
-    io::print_decimal(STDOUT_FILENO, result as u64);
-    io::write_all(STDOUT_FILENO, b"\n");
+    println!(rt; "{result}")
 }
 
-// A proved loop has to end, and nothing says that the input does: the loop counts its turns down, from a number that no run uses up.
+// A proved loop has to end, and nothing says that the input does: the loop takes a number of turns that no run uses up.
 fn each_piece(
+    rt: &(impl Input + Print),
     tables: &mut [u8],
     arena: &mut [u8],
     answer: &mut [u8],
@@ -69,33 +86,42 @@ fn each_piece(
     line: &mut [u8],
     piece: &mut [u8],
     out: &mut [u8],
-)
+) -> io::Result<()>
     requires { (length line.old ≡ 4096) × (2 * length piece.old ≤ length out.old) × (length piece.old ≤ 65536) }
 {
+    let mut input = rt.reader();
     let mut held: usize = 0;
-    let mut turns = u64::MAX;
-    while turns > 0 {
-        let got = libc::read(STDIN_FILENO, piece);
-        let n = io::count(got, piece);
+    for _ in 0..u64::MAX {
+        let n = input.read(piece)?;
         if n == 0 {
-            last_line(tables, arena, answer, pairs, line, held);
-            return;
+            return last_line(rt, tables, arena, answer, pairs, line, held);
         }
-        held = feed(tables, arena, answer, pairs, line, held, &piece[..n], out);
-        turns -= 1;
+        held = feed(
+            rt,
+            tables,
+            arena,
+            answer,
+            pairs,
+            line,
+            held,
+            &piece[..n],
+            out,
+        )?;
     }
+    Ok(())
 }
 
-fn main() {
+fn main(rt: HostRuntime) -> io::Result<()> {
     let mut tables = tables_room();
-    let mut arena = io::large_buffer();
-    let mut answer = io::large_buffer();
-    let mut pairs = io::large_buffer();
-    let mut line = io::buffer();
+    let mut arena = large_room();
+    let mut answer = large_room();
+    let mut pairs = large_room();
+    let mut line = line_room();
     let mut piece = piece_room();
-    let mut out = io::large_buffer();
+    let mut out = large_room();
     call_fresh::fresh(&mut tables, &mut arena);
     each_piece(
+        &rt,
         &mut tables,
         &mut arena,
         &mut answer,
@@ -103,5 +129,5 @@ fn main() {
         &mut line,
         &mut piece,
         &mut out,
-    );
+    )
 }

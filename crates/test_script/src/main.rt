@@ -19,9 +19,6 @@ use std::io;
 use std::io::Read;
 use test_lines::{answers, fields, words};
 
-// The most bytes of standard input that are read.
-const INPUT_MOST: u64 = 65536;
-
 // Tables. The contract spares the caller's proof the length of the list, which is too long to compute.
 fn tables_room() -> [u8; 58194]
     ensures { length result ≡ 58194 }
@@ -34,6 +31,13 @@ fn arena_room() -> [u8; 4096]
     ensures { length result ≡ 4096 }
 {
     [0u8; 4096]
+}
+
+// The most of standard input that is read.
+fn input_room() -> [u8; 65536]
+    ensures { length result ≡ 65536 }
+{
+    [0u8; 65536]
 }
 
 // One line, over the first `before` bytes of the arena. Answers how many it is over now.
@@ -66,10 +70,26 @@ fn each_line(rt: &impl Print, tables: &mut [u8], arena: &mut [u8], text: &[u8]) 
     Ok(())
 }
 
+// What standard input has, as far as there is room. Answers how many bytes.
+fn read_all(rt: &impl Input, input: &mut [u8]) -> io::Result<usize>
+    ensures { IfOk result (λ n. n ≤ length input.old) }
+{
+    let mut reader = rt.reader();
+    let mut n: usize = 0;
+    for _ in 0..input.len() {
+        let got = reader.read(&mut input[n..])?;
+        if got == 0 {
+            return Ok(n);
+        }
+        n += got;
+    }
+    Ok(n)
+}
+
 fn main(rt: HostRuntime) -> io::Result<()> {
-    let mut input = Vec::new(rt.alloc());
-    rt.reader().take(INPUT_MOST).read_to_end(&mut input)?;
+    let mut input = input_room();
+    let n = read_all(&rt, &mut input)?;
     let mut tables = tables_room();
     let mut arena = arena_room();
-    each_line(&rt, &mut tables, &mut arena, &input)
+    each_line(&rt, &mut tables, &mut arena, &input[..n])
 }

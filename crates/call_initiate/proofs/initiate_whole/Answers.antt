@@ -37,6 +37,17 @@ open_upload-requires c =
     let valid = target-valid m stamp (p) (ps) (zero-result) (whole-stands (t) (a) (bytes) c.requires.0).valid in
     (pairs-taken m stamp (p) (ps) (zero-result), c.initiate_judge-room.ensures.1 c.if-room-ne0.false, (c.requires.0, valid))
 
+pub overflow_cast-result : goal.overflow_cast-result
+overflow_cast-result c =
+    let t : List ℕ = c.args.tables.now in
+    let a : List ℕ = c.args.arena.now in
+    let p : List ℕ = c.args.path.now in
+    let ps : List Pair = pair_list c.args.pairs.now in
+    let bytes : AreBytes t = λ j. (c.slice_known-1.given j).fits in
+    let zero-result : result_of (outcome (INITIATE c.args.stamp.0 p ps) (memory t a)) ≡ 0 = sym c.initiate_judge-room.ensures.0 ∙ c.if-room-ne0.false in
+    let h = c.read_header-header in
+    omega (arith, last-number (memory (t) (a)) c.args.stamp.0 (p) (ps) (zero-result), next-is (t) (a) (bytes) c.requires.0 h.result h.ensures)
+
 pub returns : goal.returns
 returns c =
     let t : List ℕ = c.args.tables.now in

@@ -96,7 +96,7 @@ slice_bounds-path-end c =
     let at-is : b.at ≡ header_length + length (encode_rows (before_upload s u)) = bounds-at s u k.upload b (c.requires.placed k.upload k.found).0 in
     let small : c.read_head-h.result.pathlen ≤ 128 = path-small (t) (a) (s) (stands) (u) (k).upload (k).found (b).at (at-is) c.read_head-h.result c.read_head-h.ensures in
     let n : ℕ = c.read_head-h.result.pathlen in
-    let short : n ≤ length c.copy_at.new.dst = omega (arith, small, c.copy_at.auto) in
+    let short : n ≤ length c.copy_at.new.dst = omega (arith, small, c.copy_at.auto.dst) in
     omega (arith, short)
 
 pub slice_bounds-join_at-end : goal.slice_bounds-join_at-end
@@ -111,7 +111,7 @@ slice_bounds-join_at-end c =
     let at-is : b.at ≡ header_length + length (encode_rows (before_upload s u)) = bounds-at s u k.upload b (c.requires.placed k.upload k.found).0 in
     let small : c.read_head-h.result.pathlen ≤ 128 = path-small (t) (a) (s) (stands) (u) (k).upload (k).found (b).at (at-is) c.read_head-h.result c.read_head-h.ensures in
     let n : ℕ = c.read_head-h.result.pathlen in
-    let short : n ≤ length c.copy_at.new.dst = omega (arith, small, c.copy_at.auto) in
+    let short : n ≤ length c.copy_at.new.dst = omega (arith, small, c.copy_at.auto.dst) in
     sym (length-take-le (n) c.copy_at.new.dst (short))
 
 pub join_at-requires : goal.join_at-requires
@@ -136,7 +136,6 @@ join_at-requires c =
     at_path c.requires
 
 pub returns : goal.returns
-unfolding at_path
 returns c =
     let t : List ℕ = c.args.tables.now in
     let a : List ℕ = c.args.arena.now in

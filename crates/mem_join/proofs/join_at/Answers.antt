@@ -67,7 +67,7 @@ slice_bounds-lengths-end c =
     let are : (k : Listed (s) (u) (part_list (list))) → c.lengths-stored.result.now ≡ pair_lengths k.upload.pairs = λ k. c.lengths-stored.ensures ∙ lengths-there (t) (a) (s) (stands) (u) k.upload k.found (b).at (at-is) in
     let few : n ≤ 16 = let k = c.requires.joinable.listed in
     omega (arith, ap length (are k), lengths-few (t) (a) (s) (stands) (u) k.upload k.found (b).at (at-is)) in
-    let short : n ≤ length c.copy_at.new.dst = omega (arith, few, c.copy_at.kept) in
+    let short : n ≤ length c.copy_at.new.dst = omega (arith, few, c.copy_at.auto.dst) in
     omega (arith, short)
 
 pub slice_bounds-join_with-end : goal.slice_bounds-join_with-end
@@ -86,7 +86,7 @@ slice_bounds-join_with-end c =
     let are : (k : Listed (s) (u) (part_list (list))) → c.lengths-stored.result.now ≡ pair_lengths k.upload.pairs = λ k. c.lengths-stored.ensures ∙ lengths-there (t) (a) (s) (stands) (u) k.upload k.found (b).at (at-is) in
     let few : n ≤ 16 = let k = c.requires.joinable.listed in
     omega (arith, ap length (are k), lengths-few (t) (a) (s) (stands) (u) k.upload k.found (b).at (at-is)) in
-    let short : n ≤ length c.copy_at.new.dst = omega (arith, few, c.copy_at.kept) in
+    let short : n ≤ length c.copy_at.new.dst = omega (arith, few, c.copy_at.auto.dst) in
     sym (length-take-le (n) c.copy_at.new.dst (short))
 
 pub join_with-requires : goal.join_with-requires
@@ -109,7 +109,6 @@ join_with-requires c =
     with-lengths c.requires
 
 pub returns : goal.returns
-unfolding with-lengths
 returns c =
     let t : List ℕ = c.args.tables.now in
     let a : List ℕ = c.args.arena.now in

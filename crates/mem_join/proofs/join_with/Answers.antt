@@ -25,7 +25,7 @@ move_object-requires c =
     let stands : Stands t a (state_of t a) = whole-stands t a (λ j. (c.slice_known-1.given j).fits) c.requires.at_path.joinable.is_whole in
     let j = c.requires in
     let out = c.take_upload-taken.ensures j.at_path.joinable.listed in
-    let kept : length (a₁) ≡ length (a) = omega (arith, c.take_upload-taken.auto) in
+    let kept : length (a₁) ≡ length (a) = omega (arith, c.take_upload-taken.auto.tables) in
     (moved-place _ _ _ _ _ _ _ _ _ _ j (stands) (t₁) (a₁) _ out, movable _ _ _ _ _ _ _ _ _ _ j (stands) (t₁) (a₁) _ out kept)
 
 pub returns : goal.returns

@@ -20,7 +20,6 @@ use Rattle.mem_join.proofs.UploadBounds.{row-begins, count_small, rows-within, b
 use Rattle.mem_join.proofs.upload_bounds.Goals as goal
 
 pub read_head-h-requires : goal.read_head-h-requires
-unfolding x
 read_head-h-requires c =
     let t : List ℕ = c.args.tables.now in
     let a : List ℕ = c.args.arena.now in
@@ -34,7 +33,6 @@ read_head-h-requires c =
     omega (arith, row-begins (t) (a) (s) (stands) (u) (x) (found) (here) (here-is))
 
 pub overflow_add-data : goal.overflow_add-data
-unfolding x
 overflow_add-data c =
     let t : List ℕ = c.args.tables.now in
     let a : List ℕ = c.args.arena.now in
@@ -51,7 +49,6 @@ overflow_add-data c =
     omega (arith, inside)
 
 pub overflow_mul-result : goal.overflow_mul-result
-unfolding x
 overflow_mul-result c =
     let t : List ℕ = c.args.tables.now in
     let a : List ℕ = c.args.arena.now in
@@ -68,7 +65,6 @@ overflow_mul-result c =
     omega (arith, few)
 
 pub overflow_sub-result : goal.overflow_sub-result
-unfolding x
 overflow_sub-result c =
     let t : List ℕ = c.args.tables.now in
     let a : List ℕ = c.args.arena.now in
@@ -85,7 +81,6 @@ overflow_sub-result c =
     omega (arith, rows)
 
 pub overflow_sub-result-2 : goal.overflow_sub-result-2
-unfolding x
 overflow_sub-result-2 c =
     let t : List ℕ = c.args.tables.now in
     let a : List ℕ = c.args.arena.now in

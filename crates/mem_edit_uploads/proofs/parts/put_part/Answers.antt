@@ -21,6 +21,27 @@ splice-requires c =
     c.old_row-old.result c.old_row-old.ensures c.read_header-header.result c.read_header-header.ensures = putting _ _ _ _ _ _ _ _ _ _ _ _ _ _ _ in
     (known).room
 
+pub overflow_cast-h : goal.overflow_cast-h
+overflow_cast-h c =
+    let known : let a = c.args in
+    Putting a.tables.now a.arena.now (λ j. (c.slice_known-1.given j).fits) a.upload a.number a.digest a.content.now c.requires.1 a.place a.end c.requires.0
+    c.old_row-old.result c.old_row-old.ensures c.read_header-header.result c.read_header-header.ensures = putting _ _ _ _ _ _ _ _ _ _ _ _ _ _ _ in
+    let z = (known).small in omega arith
+
+pub overflow_add-after : goal.overflow_add-after
+overflow_add-after c =
+    let known : let a = c.args in
+    Putting a.tables.now a.arena.now (λ j. (c.slice_known-1.given j).fits) a.upload a.number a.digest a.content.now c.requires.1 a.place a.end c.requires.0
+    c.old_row-old.result c.old_row-old.ensures c.read_header-header.result c.read_header-header.ensures = putting _ _ _ _ _ _ _ _ _ _ _ _ _ _ _ in
+    let z = (known).few in omega arith
+
+pub overflow_sub-after : goal.overflow_sub-after
+overflow_sub-after c =
+    let known : let a = c.args in
+    Putting a.tables.now a.arena.now (λ j. (c.slice_known-1.given j).fits) a.upload a.number a.digest a.content.now c.requires.1 a.place a.end c.requires.0
+    c.old_row-old.result c.old_row-old.ensures c.read_header-header.result c.read_header-header.ensures = putting _ _ _ _ _ _ _ _ _ _ _ _ _ _ _ in
+    let z = (known).fewer in omega arith
+
 pub replace_rows-requires : goal.replace_rows-requires
 replace_rows-requires c =
     let known : let a = c.args in

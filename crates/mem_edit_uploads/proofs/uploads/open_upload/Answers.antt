@@ -29,10 +29,10 @@ overflow_cast-h c =
     let bytes : AreBytes c.args.tables.now = λ j. (c.slice_known-1.given j).fits in
     let n : ℕ = c.write_block-block.result.lengths in
     let lengths : List ℕ = take n c.write_block-block.new.lengths in
-    let lengths-length : length lengths ≡ n = let z = c.write_block-block.ensures.few in length-take-le n c.write_block-block.new.lengths (omega (arith, c.write_block-block.kept.1.1.1.1.0)) in
+    let lengths-length : length lengths ≡ n = let z = c.write_block-block.ensures.few in length-take-le n c.write_block-block.new.lengths (omega (arith, c.write_block-block.auto.lengths)) in
     let done : Opened c.args.tables.now c.args.arena.now (bytes) c.requires.2.0 c.args.end c.requires.1 c.read_header-header.result c.read_header-header.ensures
     c.args.stamp c.args.path.now (kept_of c.args.pairs.now) c.requires.2.1
-    c.write_block-block.new.arena n c.write_block-block.result.bytes c.write_block-block.ensures.bytes c.write_block-block.ensures.block c.write_block-block.kept.0 lengths lengths-length c.write_block-block.ensures.lengths = after_block _ _ _ _ _ _ _ _ _ _ _ _ _ _ _ _ _ _ _ _ _ in
+    c.write_block-block.new.arena n c.write_block-block.result.bytes c.write_block-block.ensures.bytes c.write_block-block.ensures.block c.write_block-block.auto.arena lengths lengths-length c.write_block-block.ensures.lengths = after_block _ _ _ _ _ _ _ _ _ _ _ _ _ _ _ _ _ _ _ _ _ in
     let z = (done).small in omega arith
 
 pub overflow_cast-h-2 : goal.overflow_cast-h-2
@@ -67,7 +67,7 @@ pub slice_bounds-replace_rows-end : goal.slice_bounds-replace_rows-end
 slice_bounds-replace_rows-end c =
     let n : ℕ = c.write_block-block.result.lengths in
     let lengths : List ℕ = take n c.write_block-block.new.lengths in
-    let lengths-length : length lengths ≡ n = let z = c.write_block-block.ensures.few in length-take-le n c.write_block-block.new.lengths (omega (arith, c.write_block-block.kept.1.1.1.1.0)) in
+    let lengths-length : length lengths ≡ n = let z = c.write_block-block.ensures.few in length-take-le n c.write_block-block.new.lengths (omega (arith, c.write_block-block.auto.lengths)) in
     sym (lengths-length)
 
 pub replace_rows-requires : goal.replace_rows-requires
@@ -75,10 +75,10 @@ replace_rows-requires c =
     let bytes : AreBytes c.args.tables.now = λ j. (c.slice_known-1.given j).fits in
     let n : ℕ = c.write_block-block.result.lengths in
     let lengths : List ℕ = take n c.write_block-block.new.lengths in
-    let lengths-length : length lengths ≡ n = let z = c.write_block-block.ensures.few in length-take-le n c.write_block-block.new.lengths (omega (arith, c.write_block-block.kept.1.1.1.1.0)) in
+    let lengths-length : length lengths ≡ n = let z = c.write_block-block.ensures.few in length-take-le n c.write_block-block.new.lengths (omega (arith, c.write_block-block.auto.lengths)) in
     let done : Opened c.args.tables.now c.args.arena.now (bytes) c.requires.2.0 c.args.end c.requires.1 c.read_header-header.result c.read_header-header.ensures
     c.args.stamp c.args.path.now (kept_of c.args.pairs.now) c.requires.2.1
-    c.write_block-block.new.arena n c.write_block-block.result.bytes c.write_block-block.ensures.bytes c.write_block-block.ensures.block c.write_block-block.kept.0 lengths lengths-length c.write_block-block.ensures.lengths = after_block _ _ _ _ _ _ _ _ _ _ _ _ _ _ _ _ _ _ _ _ _ in
+    c.write_block-block.new.arena n c.write_block-block.result.bytes c.write_block-block.ensures.bytes c.write_block-block.ensures.block c.write_block-block.auto.arena lengths lengths-length c.write_block-block.ensures.lengths = after_block _ _ _ _ _ _ _ _ _ _ _ _ _ _ _ _ _ _ _ _ _ in
     (done).room
 
 pub returns : goal.returns
@@ -86,8 +86,8 @@ returns c =
     let bytes : AreBytes c.args.tables.now = λ j. (c.slice_known-1.given j).fits in
     let n : ℕ = c.write_block-block.result.lengths in
     let lengths : List ℕ = take n c.write_block-block.new.lengths in
-    let lengths-length : length lengths ≡ n = let z = c.write_block-block.ensures.few in length-take-le n c.write_block-block.new.lengths (omega (arith, c.write_block-block.kept.1.1.1.1.0)) in
+    let lengths-length : length lengths ≡ n = let z = c.write_block-block.ensures.few in length-take-le n c.write_block-block.new.lengths (omega (arith, c.write_block-block.auto.lengths)) in
     let done : Opened c.args.tables.now c.args.arena.now (bytes) c.requires.2.0 c.args.end c.requires.1 c.read_header-header.result c.read_header-header.ensures
     c.args.stamp c.args.path.now (kept_of c.args.pairs.now) c.requires.2.1
-    c.write_block-block.new.arena n c.write_block-block.result.bytes c.write_block-block.ensures.bytes c.write_block-block.ensures.block c.write_block-block.kept.0 lengths lengths-length c.write_block-block.ensures.lengths = after_block _ _ _ _ _ _ _ _ _ _ _ _ _ _ _ _ _ _ _ _ _ in
+    c.write_block-block.new.arena n c.write_block-block.result.bytes c.write_block-block.ensures.bytes c.write_block-block.ensures.block c.write_block-block.auto.arena lengths lengths-length c.write_block-block.ensures.lengths = after_block _ _ _ _ _ _ _ _ _ _ _ _ _ _ _ _ _ _ _ _ _ in
     (done).stands c.replace_rows.new.tables c.replace_rows.ensures c.replace_rows.auto.tables

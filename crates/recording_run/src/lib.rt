@@ -34,11 +34,11 @@ pub fn held_line(
 }
 
 // A result and a line feed, after the first k bytes of `out`.
-fn print_result(out: &mut [u8], k: usize, res: u32)
-    requires { (k + 2 ≤ length out.old) × (res < 10) }
-    ensures { take (k + 2) out.new ≡ take k out.old ++ (48 + res) ∷ 10 ∷ [] }
+fn print_result(out: &mut [u8], k: usize, number: u32)
+    requires { (k + 2 ≤ length out.old) × (number < 10) }
+    ensures { take (k + 2) out.new ≡ take k out.old ++ (48 + number) ∷ 10 ∷ [] }
 {
-    out[k] = 48 + res as u8;
+    out[k] = 48 + number as u8;
     out[k + 1] = 10;
 }
 

@@ -11,10 +11,10 @@ use Rattle.recording_run.proofs.print_result.Goals as goal
 pub bounds-out-k-2 : goal.bounds-out-k-2
 bounds-out-k-2 c =
     let a = c.args in
-    omega (arith, c.requires.0, length-set a.out.now a.k (48 + a.result))
+    omega (arith, c.requires.0, length-set a.out.now a.k (48 + a.number))
 
 -- src/lib.rt:37:1
 pub returns : goal.returns
 returns c =
     let a = c.args in
-    two-stored a.out.now a.k (48 + a.result) 10 c.requires.0
+    two-stored a.out.now a.k (48 + a.number) 10 c.requires.0

@@ -8,7 +8,7 @@ use Rattle.call_contract.specs.Answers.{places_in, left_over}
 use Rattle.call_contract.specs.Made.{Memory, fresh_result}
 use Rattle.c_shift.specs.declared.Shelf.{Shelf}
 use Rattle.c_shift.specs.declared.Weighed.{Weighed}
-use Rattle.c_shift.specs.declared.Shift.{Shift}
+use Rattle.c_shift.specs.declared.Returned.{Returned}
 use Rattle.c_shift.specs.declared.ShiftAnswer.{ShiftAnswer}
 use Rattle.c_shift.specs.declared.ShiftAnswer.TheVariants as answer
 use Rattle.c_history.specs.Events.{Event, alone, replied, line}
@@ -80,7 +80,7 @@ slices answer found kept about listing counts results opened sent uploads upload
     }
 
 -- all thirteen calls
-unfoldable pub shift_events : (stamp : ℕ) (path content pairs other names places list : Bytes) (most : ℕ) → Shift → (b b' : Slices) → List Event
+unfoldable pub shift_events : (stamp : ℕ) (path content pairs other names places list : Bytes) (most : ℕ) → Returned → (b b' : Slices) → List Event
 shift_events stamp path content pairs other names places list most n b b' =
     shelf_events stamp path content pairs other n.shelf b.answer b.found b.kept b.about b.listing b.counts
     b'.answer b'.found b'.kept b'.about b'.listing b'.counts
@@ -90,6 +90,6 @@ shift_events stamp path content pairs other names places list most n b b' =
     ++ sweep_events stamp most n.swept b.swept b'.swept))
 
 -- FRESH refused by a number that is not 0, and nothing changed; or the calls of the list were made, and all that C knows of them holds
-abbrev pub Concluded : (m : Memory) (list : Shift → (b b' : Slices) → List Event) → ShiftAnswer → (b b' : Slices) (m' : Memory) → Type 0
+abbrev pub Concluded : (m : Memory) (list : Returned → (b b' : Slices) → List Event) → ShiftAnswer → (b b' : Slices) (m' : Memory) → Type 0
 Concluded m list (answer.Refused n) b b' m' = (n ≡ 0 → ⊥) × (n ≡ fresh_result m) × (m' ≡ m) × (b' ≡ b)
 Concluded m list (answer.Ran n) b b' m' = Known (length m.arena) (list n b b') m'

@@ -153,7 +153,7 @@ fn weigh(
 
 // What the calls of a shift returned.
 #[derive(Clone, Copy)]
-pub struct Shift {
+pub struct Returned {
     pub shelf: Shelf,
     pub cleared: u32,
     pub weighed: Weighed,
@@ -164,7 +164,7 @@ pub struct Shift {
 #[derive(Clone, Copy)]
 pub enum ShiftAnswer {
     Refused(u32),
-    Ran(Shift),
+    Ran(Returned),
 }
 
 // FRESH, then every call one time.
@@ -244,7 +244,7 @@ pub fn fresh_shift(
         upload_counts,
     );
     let last = sweep(tables, arena, stamp, most, swept);
-    ShiftAnswer::Ran(Shift {
+    ShiftAnswer::Ran(Returned {
         shelf,
         cleared,
         weighed,

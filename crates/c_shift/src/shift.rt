@@ -37,17 +37,7 @@ pub fn fresh_shift(
         return ShiftAnswer::Refused(n);
     }
     let weighed = crate::weigh(
-        tables,
-        arena,
-        stamp,
-        path,
-        pairs,
-        content,
-        list,
-        opened,
-        sent,
-        answer,
-        counts,
+        tables, arena, stamp, path, pairs, content, list, opened, sent, answer, counts,
     );
     ShiftAnswer::Ran(weighed)
 }

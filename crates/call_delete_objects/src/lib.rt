@@ -1,5 +1,4 @@
 // DELETE_OBJECTS: the DELETE of each name place of a list, in order.
-// A slice of structs is not covered by the borrow checker, so the two functions here are thin and proved by hand.
 #![tactic(auto)]
 
 mod judge;

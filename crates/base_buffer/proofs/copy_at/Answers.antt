@@ -1,10 +1,10 @@
 -- `base_buffer::copy_at` meets its contract. The invariant: `dst` is what it was with the first i bytes of `src` pasted in from `at`.
 -- Assumes nothing.
-use mathlib.Core.Path.{◌≡◌, refl}
-use Prim.Native.Nat.{◌-◌, ◌≤◌}
+use mathlib.Core.Path.{refl}
+use Prim.Native.Nat.{◌-◌}
 use native.Mathlib.Omega.{arith}
-use lib.ListN.{length, length-set}
-use lib.Seq.{paste, paste-zero}
+use lib.ListN.{length-set}
+use lib.Seq.{paste-zero}
 use Rattle.base_buffer.proofs.Copying.{copy_step, copy-all}
 use Rattle.base_buffer.proofs.copy_at.Goals as goal
 

@@ -1,11 +1,9 @@
 -- `base_buffer::copy_at` meets its contract. The invariant: `dst` is what it was with the first i bytes of `src` pasted in from `at`.
 -- Assumes nothing.
-use mathlib.Core.Path.{◌≡◌, refl}
+use mathlib.Core.Path.{◌≡◌}
 use Prim.Native.Nat.{◌-◌, ◌≤◌}
-use native.Mathlib.Omega.{arith}
-use lib.ListN.{length, length-set}
-use lib.Seq.{paste, paste-zero}
-use Rattle.base_buffer.proofs.Copying.{copy_step, copy-all}
+use lib.ListN.{length}
+use lib.Seq.{paste}
 use Rattle.base_buffer.proofs.copy_at.Given as goal
 
 abbrev pub invariant-loop-i : goal.invariant-loop-i

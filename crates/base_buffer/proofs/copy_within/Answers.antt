@@ -5,7 +5,6 @@ use native.Mathlib.Omega.{arith}
 use lib.ListN.{drop}
 use lib.Seq.{paste}
 use Rattle.base_buffer.proofs.Moving.{in_place}
-use borrow.Author.Rules.{rules}
 use Rattle.base_buffer.proofs.copy_within.Goals as goal
 
 pub returns-else-from-to : goal.returns-else-from-to

@@ -3,7 +3,6 @@ use mathlib.Core.Path.{refl}
 use Prim.Native.Nat.{◌+◌}
 use native.Mathlib.Omega.{arith}
 use lib.ListN.{take, replicate, length-take}
-use borrow.Author.Rules.{rules}
 use Rattle.base_buffer.proofs.Moving.{held, put_back}
 use Rattle.base_buffer.proofs.move_block.Goals as goal
 

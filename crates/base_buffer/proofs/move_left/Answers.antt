@@ -1,9 +1,8 @@
 -- `base_buffer::move_left` meets its contract. The invariant: `b` is what it was with the first i of the bytes pasted in at `to`. Assumes nothing.
 use mathlib.Core.Path.{◌≡◌, refl, ◌∙◌, ap}
-use Prim.Native.Nat.{ℕ, ◌-◌, ◌≤◌}
-use lib.ListN.{length, drop}
+use Prim.Native.Nat.{ℕ, ◌-◌}
+use lib.ListN.{drop}
 use lib.Seq.{paste, paste-zero}
-use borrow.Author.Rules.{rules}
 use Rattle.base_buffer.proofs.Moving.{left-block}
 use native.Mathlib.Omega.{arith}
 use Rattle.base_buffer.proofs.move_left.Goals as goal

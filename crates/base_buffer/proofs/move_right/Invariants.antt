@@ -1,10 +1,8 @@
 -- `base_buffer::move_right` meets its contract. The invariant: `b` is what it was with the bytes from the i-th on moved. Assumes nothing.
-use mathlib.Core.Path.{◌≡◌, refl, ◌∙◌}
+use mathlib.Core.Path.{◌≡◌}
 use Prim.Native.Nat.{◌≤◌}
 use lib.ListN.{length}
-use borrow.Author.Rules.{rules}
-use Rattle.base_buffer.proofs.Moving.{moved-from, right-none, right-block, right-all}
-use native.Mathlib.Omega.{arith}
+use Rattle.base_buffer.proofs.Moving.{moved-from}
 use Rattle.base_buffer.proofs.move_right.Given as goal
 
 abbrev pub invariant-loop-i : goal.invariant-loop-i

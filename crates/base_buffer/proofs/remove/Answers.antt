@@ -1,6 +1,5 @@
 -- `base_buffer::remove` meets its contract: one move to the left. Assumes nothing.
 use Rattle.base_buffer.proofs.Splicing.{move-only}
-use borrow.Author.Rules.{rules}
 use Rattle.base_buffer.proofs.remove.Goals as goal
 
 pub returns : goal.returns

@@ -1,9 +1,6 @@
 -- `base_buffer::rotate` meets its contract. The invariant: what is left to rotate, from `from` on, gives what the whole rotation gives. Assumes nothing.
-use mathlib.Core.Path.{◌≡◌, refl, ◌∙◌}
-use Prim.Native.Nat.{◌+◌, ◌≤◌}
-use lib.ListN.{length}
+use mathlib.Core.Path.{refl, ◌∙◌}
 use native.Mathlib.Omega.{arith}
-use Rattle.base_buffer.specs.Buffer.{rotated}
 use Rattle.base_buffer.proofs.Rotating.{swap-left, swap-right, none_left, none_right}
 use Rattle.base_buffer.proofs.rotate.Goals as goal
 

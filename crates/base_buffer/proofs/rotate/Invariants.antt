@@ -1,10 +1,8 @@
 -- `base_buffer::rotate` meets its contract. The invariant: what is left to rotate, from `from` on, gives what the whole rotation gives. Assumes nothing.
-use mathlib.Core.Path.{◌≡◌, refl, ◌∙◌}
+use mathlib.Core.Path.{◌≡◌}
 use Prim.Native.Nat.{◌+◌, ◌≤◌}
 use lib.ListN.{length}
-use native.Mathlib.Omega.{arith}
 use Rattle.base_buffer.specs.Buffer.{rotated}
-use Rattle.base_buffer.proofs.Rotating.{swap-left, swap-right, none_left, none_right}
 use Rattle.base_buffer.proofs.rotate.Given as goal
 
 abbrev pub invariant-loop-l : goal.invariant-loop-l

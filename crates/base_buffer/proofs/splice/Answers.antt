@@ -1,6 +1,5 @@
 -- `base_buffer::splice` meets its contract: a move and a copy. Assumes nothing.
 use Rattle.base_buffer.proofs.Splicing.{move-copy}
-use borrow.Author.Rules.{rules}
 use Rattle.base_buffer.proofs.splice.Goals as goal
 
 pub returns : goal.returns

@@ -3,7 +3,6 @@ use mathlib.Core.Logic.{⊎_elim}
 use Prim.Native.Nat.{◌+◌, ◌≤◌}
 use Rattle.base_buffer.proofs.Splicing.{copy-before, copy-after}
 use native.Mathlib.Omega.{arith}
-use borrow.Author.Rules.{rules}
 use Rattle.base_buffer.proofs.splice_within.Goals as goal
 
 pub overflow_sub-from : goal.overflow_sub-from

@@ -1,5 +1,5 @@
 -- `base_md5::digest` meets its contract: the whole blocks, then the last one or two that `tail` makes, chain to the definition (`Chain.digested`). Assumes nothing.
-use Rattle.std.proofs.Common.{refl, arith, rules}
+use Rattle.std.proofs.Common.{refl, arith}
 use Rattle.base_md5.proofs.Chain.{digested}
 use Rattle.base_md5.proofs.digest.Goals as goal
 

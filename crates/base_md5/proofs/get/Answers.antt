@@ -1,6 +1,5 @@
 -- `base_md5::get` meets its contract: four words, read in their order (`Fields.gets`). Assumes nothing.
 use Rattle.base_md5.proofs.Fields.{gets}
-use Rattle.std.proofs.Common.{rules}
 use Rattle.base_md5.proofs.get.Goals as goal
 
 pub returns : goal.returns

@@ -1,6 +1,5 @@
 -- `base_md5::put` meets its contract: four words, each written after the one before (`Fields.puts`). Assumes nothing.
 use Rattle.base_md5.proofs.Fields.{puts}
-use Rattle.std.proofs.Common.{rules}
 use Rattle.base_md5.proofs.put.Goals as goal
 
 pub returns : goal.returns

@@ -3,7 +3,6 @@ use mathlib.Core.Path.{◌∙◌}
 use Prim.Native.Nat.{◌+◌}
 use Rattle.base_number.proofs.Halves.{get-byte, get-halves}
 use native.Mathlib.Omega.{arith}
-use borrow.Author.Rules.{rules}
 use Rattle.base_number.proofs.get_u16.Goals as goal
 
 pub returns : goal.returns

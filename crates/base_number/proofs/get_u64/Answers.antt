@@ -1,6 +1,5 @@
 -- `base_number::get_u64` meets its contract: a number is read by its halves. Assumes nothing.
 use Rattle.base_number.proofs.Halves.{get-halves}
-use borrow.Author.Rules.{rules}
 use Rattle.base_number.proofs.get_u64.Goals as goal
 
 pub returns : goal.returns

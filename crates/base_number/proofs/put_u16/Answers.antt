@@ -3,7 +3,6 @@ use Prim.Native.Nat.{◌+◌, ◌%◌, ◌/◌}
 use lib.ListN.{set, length-set}
 use Rattle.base_number.proofs.Halves.{put_byte, put-halves}
 use native.Mathlib.Omega.{arith}
-use borrow.Author.Rules.{rules}
 use Rattle.base_number.proofs.put_u16.Goals as goal
 
 pub bounds-b-at-2 : goal.bounds-b-at-2

@@ -1,6 +1,5 @@
 -- `base_number::put_u32` meets its contract: a number is written by its halves. Assumes nothing.
 use Rattle.base_number.proofs.Halves.{put-halves}
-use borrow.Author.Rules.{rules}
 use Rattle.base_number.proofs.put_u32.Goals as goal
 
 pub returns : goal.returns

@@ -2,7 +2,6 @@
 use mathlib.Core.Path.{sym}
 use lib.ListN.{length, length-take}
 use native.Mathlib.Omega.{arith}
-use borrow.Author.Rules.{rules}
 use Rattle.base_order.specs.Order.{begins}
 use Rattle.base_order.proofs.AffixLaws.{begins-short}
 use Rattle.base_order.proofs.begins_with.Goals as goal

@@ -1,6 +1,5 @@
 -- `base_order::big_u64` meets its contract: the bytes read low byte first, and turned. Assumes nothing.
 use Rattle.base_order.proofs.BigLaws.{turned-word}
-use borrow.Author.Rules.{rules}
 use Rattle.base_order.proofs.big_u64.Goals as goal
 
 pub returns : goal.returns

@@ -1,7 +1,6 @@
 -- `base_order::common_bytes` meets its contract. The invariant: the first i bytes are the same. Assumes nothing.
-use mathlib.Core.Path.{◌≡◌, refl}
-use Prim.Native.Nat.{◌-◌, ◌≤◌}
-use lib.ListN.{take}
+use mathlib.Core.Path.{refl}
+use Prim.Native.Nat.{◌-◌}
 use Rattle.base_order.proofs.Strings.{same_byte}
 use native.Mathlib.Omega.{arith}
 use Rattle.base_order.proofs.common_bytes.Goals as goal

@@ -1,9 +1,7 @@
 -- `base_order::common_bytes` meets its contract. The invariant: the first i bytes are the same. Assumes nothing.
-use mathlib.Core.Path.{◌≡◌, refl}
+use mathlib.Core.Path.{◌≡◌}
 use Prim.Native.Nat.{◌-◌, ◌≤◌}
 use lib.ListN.{take}
-use Rattle.base_order.proofs.Strings.{same_byte}
-use native.Mathlib.Omega.{arith}
 use Rattle.base_order.proofs.common_bytes.Given as goal
 
 abbrev pub invariant-loop-i : goal.invariant-loop-i

@@ -1,6 +1,5 @@
 -- `base_order::compare` meets its contract: the deciding numbers tell, or the lengths do. Assumes nothing.
 use native.Mathlib.Omega.{arith}
-use borrow.Author.Rules.{rules}
 use Rattle.base_order.proofs.compare.Goals as goal
 
 pub returns-then-t : goal.returns-then-t

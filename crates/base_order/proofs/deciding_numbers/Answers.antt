@@ -1,7 +1,6 @@
 -- `base_order::deciding_numbers` meets its contract: the deciding words tell. Assumes nothing.
 use native.Mathlib.Omega.{arith}
 use Rattle.base_order.proofs.Tells.{tells_as, words-tell}
-use borrow.Author.Rules.{rules}
 use Rattle.base_order.proofs.deciding_numbers.Goals as goal
 
 pub returns : goal.returns

@@ -1,12 +1,7 @@
 -- `base_order::deciding_word` meets its contract. The invariant: the first i bytes are the same. Assumes nothing.
-use mathlib.Core.Path.{◌≡◌, sym, ap, ◌∙◌}
-use Prim.Native.Nat.{◌+◌, ◌-◌, ◌≤◌}
+use mathlib.Core.Path.{◌≡◌}
+use Prim.Native.Nat.{◌-◌, ◌≤◌}
 use lib.ListN.{take}
-use Rattle.base_order.proofs.Strings.{same_word, same-fewer}
-use Rattle.base_number.specs.Number.{from_le}
-use native.Mathlib.Omega.{arith}
-use Rattle.base_order.proofs.deciding_word.Reads as reads
-use Rattle.base_number.proofs.get_u64.Reads as get-u64-reads
 use Rattle.base_order.proofs.deciding_word.Given as goal
 
 abbrev pub invariant-loop-i : goal.invariant-loop-i

@@ -5,7 +5,6 @@ use Prim.Native.Nat.{ℕ, ◌-◌, ◌≤◌}
 use lib.ListN.{length, drop, length-drop}
 use lib.Seq.{take_all}
 use native.Mathlib.Omega.{arith}
-use borrow.Author.Rules.{rules}
 use Rattle.base_order.specs.Order.{same, ends}
 use Rattle.base_order.proofs.AffixLaws.{ends-short}
 use Rattle.base_order.proofs.ends_with.Goals as goal

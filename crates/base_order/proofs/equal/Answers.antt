@@ -1,7 +1,6 @@
 -- `base_order::equal` meets its contract: strings of one length are equal where the deciding numbers are. Assumes nothing.
 use mathlib.Core.Path.{refl}
 use native.Mathlib.Omega.{arith}
-use borrow.Author.Rules.{rules}
 use Rattle.base_order.proofs.Strings.{both-empty, other_length}
 use Rattle.base_order.proofs.Answers.{same-told}
 use Rattle.base_order.proofs.equal.Goals as goal

@@ -1,6 +1,5 @@
 -- `base_order::is_below` meets its contract: the deciding numbers tell, or the lengths do. Assumes nothing.
 use native.Mathlib.Omega.{arith}
-use borrow.Author.Rules.{rules}
 use Rattle.base_order.proofs.Answers.{below_less, below-greater, below_length}
 use Rattle.base_order.proofs.is_below.Goals as goal
 

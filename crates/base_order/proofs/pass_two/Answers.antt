@@ -4,7 +4,6 @@ use Prim.Native.Nat.{◌+◌}
 use lib.ListN.{take}
 use native.Mathlib.Omega.{arith}
 use Rattle.base_order.proofs.Strings.{same_word}
-use borrow.Author.Rules.{rules}
 use Rattle.base_order.proofs.pass_two.Goals as goal
 
 pub returns-then-get_u64-2 : goal.returns-then-get_u64-2

@@ -1,8 +1,7 @@
 -- `base_order::pass_words` meets its contract. The invariant: the first i bytes are the same. Assumes nothing.
-use mathlib.Core.Path.{◌≡◌, refl}
-use Prim.Native.Nat.{◌-◌, ◌≤◌}
+use mathlib.Core.Path.{refl}
+use Prim.Native.Nat.{◌-◌}
 use native.Mathlib.Omega.{arith}
-use lib.ListN.{take}
 use Rattle.base_order.proofs.pass_words.Goals as goal
 
 pub loop-i-init : goal.loop-i-init

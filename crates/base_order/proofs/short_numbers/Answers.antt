@@ -1,7 +1,6 @@
 -- `base_order::short_numbers` meets its contract: of four bytes and more the halves tell, of fewer the first bytes that differ. Assumes nothing.
 use native.Mathlib.Omega.{arith}
 use Rattle.base_order.proofs.Tells.{tells_as, halves-tell, bytes-tell, none_differ}
-use borrow.Author.Rules.{rules}
 use Rattle.base_order.proofs.short_numbers.Goals as goal
 
 pub returns-then-n-ge4 : goal.returns-then-n-ge4

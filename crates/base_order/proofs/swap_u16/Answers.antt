@@ -2,7 +2,6 @@
 use Prim.Native.Nat.{◌/◌, ◌%◌, ◌<◌}
 use native.Mathlib.Omega.{arith}
 use Rattle.base_order.proofs.BigLaws.{turned-byte, turned-halves}
-use borrow.Author.Rules.{rules}
 use Rattle.base_order.proofs.swap_u16.Goals as goal
 
 pub returns : goal.returns

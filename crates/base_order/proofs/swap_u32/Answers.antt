@@ -1,6 +1,5 @@
 -- `base_order::swap_u32` meets its contract: a number is turned by its halves. Assumes nothing.
 use Rattle.base_order.proofs.BigLaws.{turned-halves}
-use borrow.Author.Rules.{rules}
 use Rattle.base_order.proofs.swap_u32.Goals as goal
 
 pub returns : goal.returns

@@ -1,7 +1,6 @@
 -- `base_text::hex_digit` meets its contract: by its test. Assumes nothing.
 use borrow.Author.Tests.{lt-ltb, le-ltb}
 use Rattle.base_text.specs.Text.{hex_digit}
-use borrow.Author.Rules.{rules}
 use Rattle.base_text.proofs.hex_digit.Goals as goal
 
 pub returns-then-n-lt10 : goal.returns-then-n-lt10

@@ -1,7 +1,6 @@
 -- `base_text::put_decimal` meets its contract: of the last five digits, those are copied that stand after the zeros. Assumes nothing.
 use native.Mathlib.Omega.{arith}
 use Rattle.base_text.proofs.Decimals.{padded, decimal-written}
-use borrow.Author.Rules.{rules}
 use Rattle.base_text.proofs.put_decimal.Goals as goal
 
 pub returns : goal.returns

@@ -6,7 +6,6 @@ use Rattle.base_number.specs.Number.{le}
 use Rattle.base_number.proofs.NumberLaws.{length-le}
 use Rattle.base_text.proofs.Hexes.{four-words, digest-written}
 use native.Mathlib.Omega.{arith}
-use borrow.Author.Rules.{rules}
 use Rattle.base_text.proofs.put_digest.Goals as goal
 
 pub returns : goal.returns

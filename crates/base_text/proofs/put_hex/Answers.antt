@@ -1,8 +1,8 @@
 -- `base_text::put_hex` meets its contract. The invariant: `dst` is what it was with the digits of the first i bytes pasted in from `at`. Assumes nothing.
-use mathlib.Core.Path.{◌≡◌, refl}
-use Prim.Native.Nat.{◌*◌, ◌-◌, ◌≤◌}
-use lib.ListN.{length, length-set}
-use lib.Seq.{paste, paste-zero}
+use mathlib.Core.Path.{refl}
+use Prim.Native.Nat.{◌-◌}
+use lib.ListN.{length-set}
+use lib.Seq.{paste-zero}
 use Rattle.base_text.specs.Text.{hex}
 use Rattle.base_text.proofs.Hexes.{hex-step, hex-all}
 use native.Mathlib.Omega.{arith}

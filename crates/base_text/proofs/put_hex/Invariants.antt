@@ -1,11 +1,9 @@
 -- `base_text::put_hex` meets its contract. The invariant: `dst` is what it was with the digits of the first i bytes pasted in from `at`. Assumes nothing.
-use mathlib.Core.Path.{◌≡◌, refl}
+use mathlib.Core.Path.{◌≡◌}
 use Prim.Native.Nat.{◌*◌, ◌-◌, ◌≤◌}
-use lib.ListN.{length, length-set}
-use lib.Seq.{paste, paste-zero}
+use lib.ListN.{length}
+use lib.Seq.{paste}
 use Rattle.base_text.specs.Text.{hex}
-use Rattle.base_text.proofs.Hexes.{hex-step, hex-all}
-use native.Mathlib.Omega.{arith}
 use Rattle.base_text.proofs.put_hex.Given as goal
 
 abbrev pub invariant-loop-i : goal.invariant-loop-i

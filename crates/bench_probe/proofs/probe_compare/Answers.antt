@@ -1,7 +1,6 @@
 -- `bench_probe::probe_compare` meets its contract: each arm has its number. Assumes nothing.
 use mathlib.Core.Path.{sym, ap, ◌∙◌}
 use Rattle.bench_probe.specs.Probe.{place}
-use borrow.Author.Rules.{rules}
 use Rattle.bench_probe.proofs.probe_compare.Goals as goal
 
 pub returns-in-Less : goal.returns-in-Less

@@ -1,10 +1,8 @@
 -- `bench_probe::probe_copy_within` meets its contract: what the tests refuse is what does not fit. Assumes nothing.
-use mathlib.Core.Path.{ap}
+use mathlib.Core.Path.{ap, refl}
 use mathlib.Core.Bool.{not}
-use mathlib.Core.Path.{refl}
 use Rattle.bench_probe.proofs.Tests.{failed, passed}
 use borrow.Author.Tests.{leb-true}
-use borrow.Author.Rules.{rules}
 use Rattle.bench_probe.proofs.probe_copy_within.Goals as goal
 
 pub returns-then-not-fits : goal.returns-then-not-fits

@@ -3,7 +3,6 @@ use mathlib.Core.Path.{sym, ap, ◌∙◌}
 use Rattle.base_md5.specs.Md5.{bytes_of}
 use Rattle.base_md5.specs.DigestBytes.{digest_bytes-is}
 use Rattle.bench_probe.specs.Probe.{changed}
-use borrow.Author.Rules.{rules}
 use Rattle.bench_probe.proofs.probe_digest.Goals as goal
 
 pub returns : goal.returns

@@ -1,5 +1,4 @@
 -- `bench_probe::probe_digest_bytes` meets its contract: the bytes of a digest are put. Assumes nothing.
-use borrow.Author.Rules.{rules}
 use Rattle.bench_probe.proofs.probe_digest_bytes.Goals as goal
 
 pub returns : goal.returns

@@ -1,13 +1,11 @@
 -- `bench_probe::probe_splice` meets its contract: what the tests refuse is what does not fit. Assumes nothing.
-use mathlib.Core.Path.{ap}
+use mathlib.Core.Path.{ap, refl}
 use mathlib.Core.Bool.{not}
 use native.Mathlib.Omega.{arith}
-use mathlib.Core.Path.{refl}
 use Rattle.bench_probe.proofs.Tests.{failed, passed}
 use borrow.Author.Tests.{leb-true, le-leb, lt-leb}
 use Prim.Native.Nat.{◌+◌, ◌-◌, ◌≤◌}
 use lib.ListN.{length}
-use borrow.Author.Rules.{rules}
 use Rattle.bench_probe.proofs.probe_splice.Goals as goal
 
 pub returns-then-not-fits : goal.returns-then-not-fits

@@ -3,7 +3,6 @@ use mathlib.Core.Path.{refl, ◌∙◌}
 use borrow.Author.Tests.{eq-eqb, ne_eqb}
 use Rattle.base_md5.specs.Md5.{bytes_of}
 use Rattle.bench_probe.proofs.Tests.{whole}
-use borrow.Author.Rules.{rules}
 use Rattle.bench_probe.proofs.put_digest.Goals as goal
 
 pub returns-then-out-ne16 : goal.returns-then-out-ne16

@@ -1,10 +1,6 @@
 -- `c_reply::done_alone` meets its contract. Assumes nothing.
 use mathlib.Core.Path.{sym, ◌∙◌}
 use Rattle.c_reply.proofs.Alone.{refused-leaves, done-clears}
-use borrow.Author.Rules.{rules}
-use Rattle.c_reply.proofs.done_alone.Reads as reads
-use Rattle.c_reply.proofs.done.Reads as done-reads
-use Rattle.c_reply.proofs.fields.write.Reads as write-reads
 use Rattle.c_reply.proofs.done_alone.Goals as goal
 
 -- src/lib.rt:35:9

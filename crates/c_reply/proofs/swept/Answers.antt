@@ -1,7 +1,6 @@
 -- `c_reply::swept` meets its contract: a refusal, or the reply of the answer. Assumes nothing.
 use mathlib.Core.Path.{refl}
 use Rattle.c_reply.specs.Reply.{reply_bytes}
-use borrow.Author.Rules.{rules}
 use Rattle.c_reply.proofs.swept.Goals as goal
 
 pub returns-in-Swept : goal.returns-in-Swept

@@ -1,5 +1,4 @@
 -- `c_shift::clear` meets its contract. Assumes nothing.
-use borrow.Author.Rules.{rules}
 use Rattle.c_history.specs.Lists.{delete-objects, stop, call}
 use Rattle.c_shift.specs.Shift.{clear_events}
 use Rattle.c_shift.proofs.clear.Goals as goal

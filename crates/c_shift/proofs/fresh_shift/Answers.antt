@@ -1,5 +1,4 @@
 -- `c_shift::fresh_shift` meets its contract: FRESH refused, or the four lists one after the other. Assumes nothing.
-use borrow.Author.Rules.{rules}
 use mathlib.Core.Path.{refl, ◌∙◌}
 use Rattle.c_shift.specs.Shift.{shift_events}
 use Rattle.c_history.proofs.Known.{then, conclude}

@@ -1,5 +1,4 @@
 -- `c_shift::replay` meets its contract. Assumes nothing.
-use borrow.Author.Rules.{rules}
 use Rattle.c_history.specs.Lists.{replay, stop, call}
 use Rattle.c_shift.specs.Shift.{replay_events}
 use Rattle.c_shift.proofs.replay.Goals as goal

@@ -1,5 +1,4 @@
 -- `c_shift::shelve` meets its contract. Assumes nothing.
-use borrow.Author.Rules.{rules}
 use Rattle.c_history.specs.Lists.{put, get, head, copy, list, delete, stop, call}
 use Rattle.c_shift.specs.Shift.{shelf_events}
 use mathlib.Core.Path.{◌∙◌}

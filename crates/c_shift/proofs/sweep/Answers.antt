@@ -1,5 +1,4 @@
 -- `c_shift::sweep` meets its contract. Assumes nothing.
-use borrow.Author.Rules.{rules}
 use Rattle.c_history.specs.Lists.{sweep, stop, call}
 use Rattle.c_shift.specs.Shift.{sweep_events}
 use Rattle.c_shift.proofs.sweep.Goals as goal

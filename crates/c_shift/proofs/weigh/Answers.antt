@@ -1,5 +1,4 @@
 -- `c_shift::weigh` meets its contract. Assumes nothing.
-use borrow.Author.Rules.{rules}
 use Rattle.c_history.specs.Lists.{initiate, part, uploads, commit, abort, stop, call}
 use Rattle.c_shift.specs.Shift.{weigh_events}
 use mathlib.Core.Path.{◌∙◌}

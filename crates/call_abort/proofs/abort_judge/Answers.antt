@@ -1,7 +1,6 @@
 -- `call_abort::abort_judge` meets its contract. Assumes nothing.
 use Rattle.call_contract.specs.Made.{memory}
 use Rattle.call_abort.proofs.Aborting.{abort-open, abort-closed}
-use borrow.Author.Rules.{rules}
 use Rattle.call_abort.proofs.abort_judge.Goals as goal
 
 pub returns-then-place : goal.returns-then-place

@@ -1,7 +1,6 @@
 -- `call_abort::abort_whole` meets its contract: refused, or the upload removed. Assumes nothing.
 use Prim.Native.Nat.{ℕ}
 use mathlib.Core.Path.{◌≡◌, refl, sym, ◌∙◌}
-use borrow.Author.Rules.{rules}
 use Rattle.machine.specs.Calls.{ABORT, nothing, no_buffers}
 use Rattle.mem_find.specs.Places.{upload_row_of}
 use Rattle.mem_find.proofs.Found.{is-some}
@@ -29,5 +28,5 @@ returns c =
     let accepts : result_of (outcome (ABORT u) m) ≡ 0 = sym c.abort_judge-judged.ensures.0 ∙ c.if-judged-ne0.false in
     let here-is : c.place_of-here.result ≡ upload_row_of (state_in m) u = let j = c.abort_judge-judged in c.place_of-here.ensures ∙ upload-lookup (state_in m) u j.result.place j.ensures.1 in
     let o = c.remove_upload in
-        let x = is-some _ (abort-there (m) (u) (accepts)) in
+    let x = is-some _ (abort-there (m) (u) (accepts)) in
     (done nothing no_buffers _ (abort-accepted (m) (u) (accepts)) refl (o.ensures.0 (u) x.0 (here-is) x.1) o.auto.tables o.auto.arena, tt)

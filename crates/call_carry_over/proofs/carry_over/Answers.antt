@@ -4,7 +4,6 @@ use mathlib.Core.Bool.{not}
 use Rattle.machine.proofs.Tests.{said-no, said-yes}
 use Rattle.call_carry_over.proofs.Carrying.{other_length, not-whole, former-fits, carried-over}
 use native.Mathlib.Omega.{arith}
-use borrow.Author.Rules.{rules}
 use Rattle.call_carry_over.proofs.carry_over.Goals as goal
 
 pub returns-then-tables-ne-TABLES_LENGTH : goal.returns-then-tables-ne-TABLES_LENGTH

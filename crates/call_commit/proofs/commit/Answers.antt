@@ -1,5 +1,4 @@
 -- `call_commit::commit` meets its contract: refused by 1, or over whole memory. Assumes nothing.
-use borrow.Author.Rules.{rules}
 use Rattle.mem_scan.proofs.Ends.{found-bad, found-good}
 use Rattle.call_contract.proofs.MadeLaws.{one_not_zero, not-whole, over-whole}
 use Rattle.call_commit.proofs.commit.Goals as goal

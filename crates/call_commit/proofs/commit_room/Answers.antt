@@ -5,7 +5,6 @@ use Rattle.base_number.specs.Number.{AreBytes}
 use Rattle.mem_row.specs.Row.{span}
 use Rattle.call_commit.proofs.PathRoom.{row_inside, path-ends, path-place, room-old, room-new, room-full}
 use native.Mathlib.Omega.{arith}
-use borrow.Author.Rules.{rules}
 use Rattle.call_commit.proofs.commit_room.Goals as goal
 
 pub read_head-h-requires : goal.read_head-h-requires

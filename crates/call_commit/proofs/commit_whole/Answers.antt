@@ -1,6 +1,5 @@
 -- `call_commit::commit_whole` meets its contract: refused, or the parts joined. Assumes nothing.
 use mathlib.Core.Path.{◌≡◌, refl, sym, ◌∙◌}
-use borrow.Author.Rules.{rules}
 use Rattle.base_number.specs.Number.{AreBytes}
 use Rattle.machine.specs.Calls.{COMMIT, nothing, no_buffers}
 use Rattle.machine.specs.PartLists.{part_list}

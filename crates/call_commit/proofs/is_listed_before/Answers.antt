@@ -22,7 +22,7 @@ loop-k-preserved c =
     let inside : 2 * l.k + 2 ≤ length a.list.now = omega arith in (
       omega arith,
       elim c.if-get_u16-number.branch [
-        then-get_u16-number w ↦ w.listed-is ∙ member-here a.list.now l.k inside a.number (sym g.ensures ∙ w.if-get_u16-number.true)
+        | then-get_u16-number w ↦ w.listed-is ∙ member-here a.list.now l.k inside a.number (sym g.ensures ∙ w.if-get_u16-number.true)
         | else-get_u16-number w ↦ member-elsewhere a.list.now l.k inside a.number c.if-get_u16-number.listed (w.listed-is ∙ l.invariant.1) (λ e. w.if-get_u16-number.false (g.ensures ∙ e))
       ],
     )

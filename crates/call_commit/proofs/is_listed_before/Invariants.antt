@@ -1,12 +1,8 @@
 -- `call_commit::is_listed_before` meets its contract. The invariant: whether the number is one of the first k. Assumes nothing.
-use Prim.Native.Nat.{ℕ, ◌+◌, ◌-◌, ◌*◌, ◌≤◌}
-use mathlib.Core.Path.{◌≡◌, sym, ap, ◌∙◌}
-use mathlib.Core.Logic.{⊎_elim}
-use lib.ListN.{length}
+use Prim.Native.Nat.{◌-◌, ◌≤◌}
+use mathlib.Core.Path.{◌≡◌}
 use Rattle.machine.specs.ListFits.{member}
 use Rattle.call_commit.specs.Numbers.{first_numbers}
-use Rattle.call_commit.proofs.Listing.{no_number, member-here, member-elsewhere}
-use native.Mathlib.Omega.{arith}
 use Rattle.call_commit.proofs.is_listed_before.Given as goal
 
 abbrev pub invariant-loop-k : goal.invariant-loop-k

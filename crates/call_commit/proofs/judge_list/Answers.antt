@@ -1,9 +1,7 @@
 -- `call_commit::judge_list` meets its contract. In order it fits. The invariant of other lists: the first i numbers fit. Assumes nothing.
-use mathlib.Core.Path.{ap}
-use mathlib.Core.Bool.{not}
+use mathlib.Core.Path.{ap, ◌≡◌, sym, ◌∙◌, subst}
+use mathlib.Core.Bool.{not, false≢true}
 use Prim.Native.Nat.{ℕ, ◌+◌, ◌-◌, ◌*◌, ◌≤◌}
-use mathlib.Core.Path.{◌≡◌, sym, ◌∙◌, subst}
-use mathlib.Core.Bool.{false≢true}
 use mathlib.Core.Option.{some}
 use mathlib.Core.List.{List}
 use native.Mathlib.Omega.{arith}
@@ -15,7 +13,7 @@ use Rattle.machine.specs.State.{Upload, State}
 use Rattle.mem_layout.specs.Memory.{state_of}
 use Rattle.mem_find.specs.declared.RowPlace.{RowPlace}
 use Rattle.mem_find.specs.declared.PassedParts.{PassedParts}
-use Rattle.mem_find.specs.Known.{WholePlace, OfOpenAt, OfOpenBefore}
+use Rattle.mem_find.specs.Known.{WholePlace, OfOpenAt}
 use Rattle.mem_find.specs.Places.{upload_row_of, parts_row_of, passed_parts}
 use Rattle.mem_find.proofs.Found.{is-some}
 use Rattle.mem_find_uploads.proofs.Answers.{open-row-place, first-part-row, parts-row-place}
@@ -152,7 +150,7 @@ loop-i-preserved c =
     let twice : length (list) ≡ 2 * (parts).count = omega (arith, c.if-list-count.false) in
     let inside : 2 * c.loop-i.i + 2 ≤ length (list) = let n = c.loop-i-test.true in omega (arith, twice) in
     let l = c.loop-i in
-        (omega arith, λ v x q e. passed-next x.parts (list) l.i (inside) (l.invariant.1 v x q e) (sym (c.number_fits.ensures v x q e) ∙ not-false _ (ap not c.if-not-number_fits.false)))
+    (omega arith, λ v x q e. passed-next x.parts (list) l.i (inside) (l.invariant.1 v x q e) (sym (c.number_fits.ensures v x q e) ∙ not-false _ (ap not c.if-not-number_fits.false)))
 
 pub returns : goal.returns
 returns c v x q e =

@@ -2,7 +2,6 @@
 use borrow.Author.Tests.{not-true, not-false}
 use Rattle.mem_layout.specs.Memory.{state_of}
 use Rattle.call_commit.proofs.Fitting.{number-absent, number-there}
-use borrow.Author.Rules.{rules}
 use Rattle.call_commit.proofs.number_fits.Goals as goal
 
 pub returns-then-not-place : goal.returns-then-not-place

@@ -1,11 +1,9 @@
 -- `call_commit::pass_listed` meets its contract. The invariant: the rows passed are the parts that the list's first i numbers name. Assumes nothing.
-use mathlib.Core.Bool.{not}
+use mathlib.Core.Bool.{not, Bool}
 use Prim.Native.Nat.{ℕ, ◌+◌, ◌-◌, ◌*◌, ◌≤◌, ◌<◌}
 use mathlib.Core.Path.{◌≡◌, sym, ap, ◌∙◌}
-use mathlib.Core.Bool.{Bool}
 use mathlib.Core.List.{List}
 use native.Mathlib.Omega.{arith}
-use borrow.Author.Rules.{rules}
 use borrow.Author.Tests.{not-true, not-false}
 use lib.ListN.{length}
 use Rattle.machine.specs.State.{State}

@@ -1,12 +1,10 @@
 -- `call_copy::copy_judge` meets its contract: stamp and paths, then the source. Assumes nothing.
-use mathlib.Core.Path.{ap}
+use mathlib.Core.Path.{ap, ◌∙◌}
 use mathlib.Core.Bool.{not}
-use mathlib.Core.Path.{◌∙◌}
 use native.Mathlib.Omega.{arith}
 use Rattle.machine.proofs.Tests.{said-no, said-yes}
 use Rattle.call_contract.specs.Made.{memory}
 use Rattle.call_copy.proofs.Sources.{copy-bad, copy-judged}
-use borrow.Author.Rules.{rules}
 use Rattle.call_copy.proofs.copy_judge.Goals as goal
 
 pub returns-then-not-stamp_ok : goal.returns-then-not-stamp_ok

@@ -2,7 +2,6 @@
 use Prim.Native.Nat.{ℕ}
 use mathlib.Core.Path.{◌≡◌, refl, sym, ◌∙◌}
 use mathlib.Core.List.{List}
-use borrow.Author.Rules.{rules}
 use Rattle.base_number.specs.Number.{AreBytes}
 use Rattle.base_md5.specs.Md5.{md5}
 use Rattle.machine.specs.Calls.{COPY, nothing, no_buffers}
@@ -55,5 +54,5 @@ returns c =
     let placed : CopyPlaced t a p q room.source room.place room.end = c.copy_judge-room.ensures.1 c.if-room-ne0.false in
     let digest-is : c.source_digest-digest.result ≡ md5 (content_at (state_of (t) (a)) (p)) = c.source_digest-digest.ensures (p) (placed).source-place in
     let o = c.copy_object in
-        let stands = copy-stands (t) (a) (p) (q) c.args.stamp.0 c.source_digest-digest.result c.requires.0 (zero-result) (digest-is) o.new.tables o.new.arena o.ensures in
+    let stands = copy-stands (t) (a) (p) (q) c.args.stamp.0 c.source_digest-digest.result c.requires.0 (zero-result) (digest-is) o.new.tables o.new.arena o.ensures in
     (done nothing no_buffers _ (copy-accepted (memory (t) (a)) c.args.stamp.0 (p) (q) (zero-result)) refl stands o.auto.tables o.auto.arena, tt)

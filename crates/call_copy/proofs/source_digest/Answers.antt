@@ -4,7 +4,6 @@ use mathlib.Core.Bool.{true}
 use mathlib.Core.List.{List}
 use Prim.Native.Nat.{ℕ, ◌+◌, ◌≤◌}
 use native.Mathlib.Omega.{arith}
-use borrow.Author.Rules.{rules}
 use Rattle.base_md5.specs.Md5.{md5}
 use Rattle.mem_layout.specs.Memory.{state_of, arena_most}
 use Rattle.mem_find.specs.declared.Lookup.{Lookup}
@@ -88,7 +87,7 @@ slice_bounds-digest-end c =
     let p : List ℕ = c.requires.0.1.0 in
     let there : ObjectThere t a p place = at_path p c.requires.0.1.1 in
     let h = c.read_head-h in
-        block_inside (t) (a) (p) (place) (there) h.result h.ensures
+    block_inside (t) (a) (p) (place) (there) h.result h.ensures
 
 pub returns : goal.returns
 returns c q is =
@@ -99,4 +98,4 @@ returns c q is =
     let p : List ℕ = c.requires.0.1.0 in
     let n = c.pairs_size in
     let h = c.read_head-h in
-        c.digest.ensures ∙ ap md5 (data-read (t) (a) q (place) (at_path q is) h.result h.ensures n.result n.ensures)
+    c.digest.ensures ∙ ap md5 (data-read (t) (a) q (place) (at_path q is) h.result h.ensures n.result n.ensures)

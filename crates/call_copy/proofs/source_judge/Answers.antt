@@ -6,7 +6,6 @@ use mathlib.Core.List.{List}
 use native.Mathlib.Omega.{arith}
 use borrow.Author.Tests.{not-true, not-false}
 use lib.ListN.{length}
-use borrow.Author.Rules.{rules}
 use Rattle.mem_layout.specs.Memory.{state_of}
 use Rattle.mem_find.specs.declared.Lookup.{Lookup}
 use Rattle.mem_find.proofs.Found.{place_found}

@@ -6,7 +6,6 @@ use borrow.Author.Tests.{not-true, not-false}
 use Rattle.call_contract.specs.Made.{memory}
 use Rattle.call_delete.proofs.Deleting.{delete-bad, delete-absent, delete-judged}
 use native.Mathlib.Omega.{arith}
-use borrow.Author.Rules.{rules}
 use Rattle.call_delete.proofs.delete_judge.Goals as goal
 
 pub returns-then-not-request_path_ok : goal.returns-then-not-request_path_ok

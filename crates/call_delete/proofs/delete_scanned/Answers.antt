@@ -1,6 +1,5 @@
 -- `call_delete::delete_scanned` meets its contract: refused, or the object removed. Assumes nothing.
 use mathlib.Core.Path.{sym, ◌∙◌}
-use borrow.Author.Rules.{rules}
 use Rattle.call_contract.specs.Made.{memory}
 use Rattle.call_contract.proofs.MadeLaws.{judged}
 use Rattle.call_delete.proofs.Deleting.{delete-made}

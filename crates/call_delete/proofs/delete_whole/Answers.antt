@@ -1,6 +1,5 @@
 -- `call_delete::delete_whole` meets its contract: refused, or the object removed. Assumes nothing.
 use mathlib.Core.Path.{sym, ◌∙◌}
-use borrow.Author.Rules.{rules}
 use Rattle.mem_layout.specs.Memory.{state_of}
 use Rattle.mem_find_uploads.proofs.Answers.{object-row-place}
 use Rattle.call_contract.specs.Made.{memory}

@@ -1,6 +1,5 @@
 -- `call_fresh::fresh` meets its contract: two lengths, then the header. Assumes nothing.
 use Rattle.call_fresh.proofs.Freshness.{other-tables, large-arena, made-fresh}
-use borrow.Author.Rules.{rules}
 use Rattle.call_fresh.proofs.fresh.Goals as goal
 
 pub returns-then-tables-ne-TABLES_LENGTH : goal.returns-then-tables-ne-TABLES_LENGTH

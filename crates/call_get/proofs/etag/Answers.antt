@@ -1,6 +1,5 @@
 -- `call_get::etag` meets its contract: the digest is read by its words, and the kind picks the etag. Assumes nothing.
 use mathlib.Core.Path.{◌≡◌}
-use borrow.Author.Rules.{rules}
 use lib.ListN.{drop}
 use Rattle.base_md5.specs.Md5.{bytes_of}
 use Rattle.mem_row.specs.Row.{digest_at}

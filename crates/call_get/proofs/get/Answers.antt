@@ -1,9 +1,6 @@
 -- `call_get::get` meets its contract: refused by 1, or over whole memory. Assumes nothing.
-use mathlib.Core.Path.{ap}
-use mathlib.Core.Bool.{not}
-use mathlib.Core.Path.{◌≡◌}
-use mathlib.Core.Bool.{true}
-use borrow.Author.Rules.{rules}
+use mathlib.Core.Path.{ap, ◌≡◌}
+use mathlib.Core.Bool.{not, true}
 use Rattle.machine.proofs.Tests.{said-no, said-yes}
 use Rattle.mem_layout.specs.Memory.{whole}
 use Rattle.call_contract.proofs.MadeLaws.{not-whole}

@@ -1,7 +1,6 @@
 -- `call_get::get_whole` meets its contract: the reply by what the path names. Assumes nothing.
 use Prim.Native.Nat.{ℕ}
 use mathlib.Core.List.{List}
-use borrow.Author.Rules.{rules}
 use Rattle.base_number.specs.Number.{AreBytes}
 use Rattle.call_get.proofs.Replies.{get_refused, get-root, holds, get-found}
 use Rattle.call_get.proofs.get_whole.Goals as goal

@@ -1,7 +1,6 @@
 -- `call_get::head_whole` meets its contract: the reply by what the path names. Assumes nothing.
 use Prim.Native.Nat.{ℕ}
 use mathlib.Core.List.{List}
-use borrow.Author.Rules.{rules}
 use Rattle.base_number.specs.Number.{AreBytes}
 use Rattle.call_get.proofs.Replies.{head-refused, head-root, holds, head-found}
 use Rattle.call_get.proofs.head_whole.Goals as goal

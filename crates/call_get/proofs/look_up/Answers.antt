@@ -1,9 +1,6 @@
 -- `call_get::look_up` meets its contract: each answer by the tests that led to it. Assumes nothing.
-use mathlib.Core.Path.{ap}
-use mathlib.Core.Bool.{not}
-use mathlib.Core.Path.{◌≡◌}
-use mathlib.Core.Bool.{true}
-use borrow.Author.Rules.{rules}
+use mathlib.Core.Path.{ap, ◌≡◌}
+use mathlib.Core.Bool.{not, true}
 use borrow.Author.Tests.{not-true, not-false}
 use Rattle.machine.proofs.Tests.{said-no, said-yes}
 use Rattle.machine.specs.Names.{request_path_ok}

@@ -3,7 +3,6 @@ use Prim.Native.Nat.{ℕ}
 use mathlib.Core.Path.{◌≡◌, ap, ◌∙◌}
 use mathlib.Core.List.{List}
 use native.Mathlib.Omega.{arith}
-use borrow.Author.Rules.{rules}
 use lib.ListN.{length, drop}
 use Rattle.pairs_stored.specs.Stored.{sum_of}
 use Rattle.mem_row.specs.Row.{lengths_at}
@@ -31,8 +30,7 @@ pub encode-requires : goal.encode-requires
 encode-requires c =
     let t : List ℕ = c.args.tables.now in
     let a : List ℕ = c.args.arena.now in
-    let sum : c.sum_of.result ≡ sum_of (lengths_at (drop c.args.at t)) = c.sum_of.ensures ∙ ap sum_of c.lengths-lengths.ensures in
-    (
+    let sum : c.sum_of.result ≡ sum_of (lengths_at (drop c.args.at t)) = c.sum_of.ensures ∙ ap sum_of c.lengths-lengths.ensures in (
       front-ok (t) (a) c.args.at c.args.base c.requires.0 _ c.lengths-lengths.ensures _ (sum),
       omega (arith, c.requires.1, front-size (t) (a) c.args.at c.args.base c.requires.0 _ c.lengths-lengths.ensures _ (sum)),
     )

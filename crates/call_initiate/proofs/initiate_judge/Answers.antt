@@ -1,10 +1,7 @@
 -- `call_initiate::initiate_judge` meets its contract: one law for each check. Assumes nothing.
-use mathlib.Core.Path.{ap}
-use mathlib.Core.Bool.{not}
-use mathlib.Core.Path.{◌≡◌, ◌∙◌}
-use mathlib.Core.Bool.{true, false}
+use mathlib.Core.Path.{ap, ◌≡◌, ◌∙◌}
+use mathlib.Core.Bool.{not, true, false}
 use native.Mathlib.Omega.{arith}
-use borrow.Author.Rules.{rules}
 use Rattle.machine.proofs.Tests.{said-no, said-yes}
 use Rattle.machine.specs.Names.{stamp_ok, new_path_ok}
 use Rattle.machine.specs.Pairs.{pairs_ok, pair_list}

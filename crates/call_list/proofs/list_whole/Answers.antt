@@ -1,5 +1,4 @@
 -- `call_list::list_whole` meets its contract: refused by 7, or written. Assumes nothing.
-use borrow.Author.Rules.{rules}
 use native.Mathlib.Omega.{arith}
 use Rattle.call_list.proofs.Replies.{list-short, list_written}
 use Rattle.call_list.proofs.list_whole.Goals as goal

@@ -1,5 +1,4 @@
 -- `call_part::part` meets its contract: refused by 1, or over whole memory. Assumes nothing.
-use borrow.Author.Rules.{rules}
 use Rattle.mem_scan.proofs.Ends.{found-bad, found-good}
 use Rattle.call_contract.proofs.MadeLaws.{not-whole, over-whole}
 use Rattle.call_part.proofs.part.Goals as goal

@@ -1,12 +1,10 @@
 -- `call_part::part_judge` meets its contract: one law for each check. Assumes nothing.
-use mathlib.Core.Path.{ap}
+use mathlib.Core.Path.{ap, sym, ◌∙◌}
 use mathlib.Core.Bool.{not}
-use mathlib.Core.Path.{sym, ◌∙◌}
 use native.Mathlib.Omega.{arith}
 use borrow.Author.Tests.{not-true, not-false}
 use Rattle.call_contract.specs.Made.{memory}
 use Rattle.call_part.proofs.Parting.{bad-number, not-open, open-found, part-judged}
-use borrow.Author.Rules.{rules}
 use Rattle.call_part.proofs.part_judge.Goals as goal
 
 pub returns-then-not-request_part_ok : goal.returns-then-not-request_part_ok

@@ -4,7 +4,6 @@ use mathlib.Core.Path.{◌≡◌, ap, ◌∙◌}
 use mathlib.Core.List.{List}
 use mathlib.Core.Option.{some}
 use native.Mathlib.Omega.{arith}
-use borrow.Author.Rules.{rules}
 use Rattle.base_number.specs.Number.{AreBytes}
 use Rattle.machine.specs.Map.{by_number, lookup}
 use Rattle.machine.specs.State.{Upload, State, held}

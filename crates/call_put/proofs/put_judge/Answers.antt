@@ -1,12 +1,10 @@
 -- `call_put::put_judge` meets its contract: stamp, path and pairs, then the ceilings. Assumes nothing.
-use mathlib.Core.Bool.{not}
+use mathlib.Core.Bool.{not, true}
 use mathlib.Core.Path.{◌≡◌, sym, ap, ◌∙◌}
-use mathlib.Core.Bool.{true}
 use mathlib.Core.List.{List}
 use Prim.Native.Nat.{ℕ, ◌+◌}
 use native.Mathlib.Omega.{arith}
 use lib.ListN.{length}
-use borrow.Author.Rules.{rules}
 use Rattle.machine.specs.Pairs.{pairs_ok, pair_map, pairs_held, pair_list}
 use Rattle.machine.proofs.PairLaws.{formed-is, held-is, kept-held, taken-kept}
 use Rattle.machine.proofs.Tests.{said-no, said-yes}

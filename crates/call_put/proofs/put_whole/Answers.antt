@@ -1,6 +1,5 @@
 -- `call_put::put_whole` meets its contract: refused, or the digest, then the object. Assumes nothing.
 use mathlib.Core.Path.{refl, sym, ◌∙◌}
-use borrow.Author.Rules.{rules}
 use Rattle.base_number.specs.Number.{AreBytes}
 use Rattle.machine.specs.Calls.{nothing, no_buffers}
 use Rattle.machine.specs.Pairs.{pair_list}

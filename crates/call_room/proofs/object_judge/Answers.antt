@@ -1,5 +1,4 @@
 -- `call_room::object_judge` meets its contract: its lookup is the path's, and its end that of the rows. Assumes nothing.
-use borrow.Author.Rules.{rules}
 use Rattle.call_room.proofs.object_judge.Goals as goal
 
 pub object_room-requires : goal.object_room-requires

@@ -3,7 +3,6 @@ use Prim.Native.Nat.{ℕ}
 use mathlib.Core.Path.{◌≡◌, ap, ◌∙◌}
 use mathlib.Core.List.{List}
 use native.Mathlib.Omega.{arith}
-use borrow.Author.Rules.{rules}
 use Rattle.base_number.specs.Number.{AreBytes}
 use Rattle.machine.specs.State.{held}
 use Rattle.mem_layout.specs.Memory.{state_of}
@@ -58,7 +57,7 @@ returns-then-place c =
     let known : AreBytes t = λ j. (c.shared_slice_known-1.given j).fits in
     let held-is : c.args.end.base ≡ held (state_of t a) = ap (λ (x : RowPlace). x.base) c.requires.1 ∙ length-contents (state_of t a) in
     λ p q.
-        let h = c.read_head-h in (
+    let h = c.read_head-h in (
       judged-old (t) (a) (known) c.requires.0.0 p (place) q c.args.end.base (held-is) c.if-place.true h.result h.ensures c.arena_judge.result c.args.n c.arena_judge.ensures,
       (q, c.requires.1),
     )
@@ -71,7 +70,7 @@ returns-then-objects-ge-OBJECTS_MOST c =
     let known : AreBytes t = λ j. (c.shared_slice_known-1.given j).fits in
     let held-is : c.args.end.base ≡ held (state_of t a) = ap (λ (x : RowPlace). x.base) c.requires.1 ∙ length-contents (state_of t a) in
     λ p q.
-        let o = c.read_counts-counts in (
+    let o = c.read_counts-counts in (
       (λ stamp content m _. judged-full (t) (a) (known) c.requires.0.0 p (place) q c.args.end.base (held-is) c.if-place.false o.result.objects o.ensures.objects c.if-objects-ge-OBJECTS_MOST.true stamp content m),
       (q, c.requires.1),
     )
@@ -96,7 +95,7 @@ returns c =
     let known : AreBytes t = λ j. (c.shared_slice_known-1.given j).fits in
     let held-is : c.args.end.base ≡ held (state_of t a) = ap (λ (x : RowPlace). x.base) c.requires.1 ∙ length-contents (state_of t a) in
     λ p q.
-        let o = c.read_counts-counts in (
+    let o = c.read_counts-counts in (
       judged-new (t) (a) (known) c.requires.0.0 p (place) q c.args.end.base (held-is) c.if-place.false o.result.objects o.ensures.objects c.if-objects-ge-OBJECTS_MOST.false c.arena_judge-2.result c.args.n c.arena_judge-2.ensures,
       (q, c.requires.1),
     )

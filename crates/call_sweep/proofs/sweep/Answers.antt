@@ -1,7 +1,6 @@
 -- `call_sweep::sweep` meets its contract: refused by 1 or 2, or swept. Assumes nothing.
 use mathlib.Core.Path.{ap}
 use mathlib.Core.Bool.{not}
-use borrow.Author.Rules.{rules}
 use Rattle.machine.proofs.Tests.{said-no, said-yes}
 use Rattle.mem_scan.proofs.Ends.{found-bad, found-good}
 use Rattle.call_contract.specs.Made.{memory}

@@ -2,9 +2,8 @@
 -- the first row that is due is here. Assumes nothing.
 use Prim.Native.Nat.{◌-◌}
 use native.Mathlib.Omega.{arith}
-use borrow.Author.Rules.{rules}
 use Rattle.call_contract.specs.Made.{memory}
-use Rattle.call_sweep.proofs.Sweeping.{Going, First, first-place, start, one-due, open-here, place-there, turn, none-due, most-done}
+use Rattle.call_sweep.proofs.Sweeping.{First, first-place, start, one-due, open-here, place-there, turn, none-due, most-done}
 use Rattle.call_sweep.proofs.sweep_whole.Goals as goal
 
 pub find_due-here-requires : goal.find_due-here-requires

@@ -1,10 +1,8 @@
 -- `call_sweep::sweep_whole` meets its contract. The invariant: so many ABORTs are made, a sweep of the rest leaves what the whole sweep leaves, and
 -- the first row that is due is here. Assumes nothing.
 use Prim.Native.Nat.{◌-◌}
-use native.Mathlib.Omega.{arith}
-use borrow.Author.Rules.{rules}
 use Rattle.call_contract.specs.Made.{memory}
-use Rattle.call_sweep.proofs.Sweeping.{Going, First, first-place, start, one-due, open-here, place-there, turn, none-due, most-done}
+use Rattle.call_sweep.proofs.Sweeping.{Going}
 use Rattle.call_sweep.proofs.sweep_whole.Given as goal
 
 abbrev pub invariant-loop-here : goal.invariant-loop-here

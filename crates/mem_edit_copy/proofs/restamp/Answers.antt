@@ -2,7 +2,6 @@
 use mathlib.Core.Path.{ap, ◌∙◌}
 use mathlib.Core.List.{[], append-nil}
 use native.Mathlib.Omega.{arith}
-use borrow.Author.Rules.{rules}
 use Rattle.base_number.specs.Number.{written}
 use Rattle.base_md5.specs.Md5.{bytes_of}
 use Rattle.mem_row.specs.declared.Head.{Head}
@@ -14,7 +13,7 @@ use Rattle.mem_edit_copy.proofs.restamp.Goals as goal
 pub write_row-requires : goal.write_row-requires
 write_row-requires c =
     let h = c.read_head-old in
-            (omega arith, omega (arith, ap (λ (x : Head). x.pairs) h.ensures, pairs-fit c.args.tables.now c.args.at (λ j. (c.slice_known-1.given j).fits) c.requires))
+    (omega arith, omega (arith, ap (λ (x : Head). x.pairs) h.ensures, pairs-fit c.args.tables.now c.args.at (λ j. (c.slice_known-1.given j).fits) c.requires))
 
 pub returns : goal.returns
 returns c =

@@ -2,14 +2,12 @@
 use Prim.Native.Nat.{ℕ}
 use mathlib.Core.Path.{◌≡◌, ap, ◌∙◌}
 use mathlib.Core.List.{List}
-use lib.ListN.{length}
 use Rattle.base_md5.specs.Md5.{md5}
 use Rattle.machine.specs.State.{Part}
 use Rattle.machine.specs.Steps.{digests}
 use Rattle.mem_join_order.specs.Region.{Arrangeable, ordered_tables, ordered_arena}
 use Rattle.mem_join_order.proofs.Listed.{ordered_at, ordered-listed, in_order}
 use native.Mathlib.Omega.{arith}
-use borrow.Author.Rules.{rules}
 use Rattle.mem_join_order.proofs.arrange.Goals as goal
 use Rattle.mem_join_order.proofs.arrange.Goals.{then-not-ascends, else-not-ascends}
 
@@ -20,7 +18,7 @@ joined_digest-requires c =
     let list : List ℕ = c.args.list.now in
     let ordered : (k : Arrangeable t a c.args.at c.args.base list c.args.ascends)
     → (c.if-not-ascends.tables ≡ ordered_tables t a c.args.at c.args.base list k.listed_at) × (c.if-not-ascends.arena ≡ ordered_arena t a c.args.at c.args.base list k.listed_at) = λ k. elim c.if-not-ascends.branch [
-      then-not-ascends w ↦ (let e = w.order_parts.ensures k.listed_at in (w.tables-is ∙ e.0, w.arena-is ∙ e.1))
+      | then-not-ascends w ↦ (let e = w.order_parts.ensures k.listed_at in (w.tables-is ∙ e.0, w.arena-is ∙ e.1))
       | else-not-ascends w ↦ (let e = in_order t a _ _ list k.listed_at (k.in_order w.if-not-ascends.false) in (w.tables-is ∙ e.0, w.arena-is ∙ e.1))
     ] in
     let p = c.requires in
@@ -33,7 +31,7 @@ returns c k =
     let list : List ℕ = c.args.list.now in
     let ordered : (k : Arrangeable t a c.args.at c.args.base list c.args.ascends)
     → (c.if-not-ascends.tables ≡ ordered_tables t a c.args.at c.args.base list k.listed_at) × (c.if-not-ascends.arena ≡ ordered_arena t a c.args.at c.args.base list k.listed_at) = λ k. elim c.if-not-ascends.branch [
-      then-not-ascends w ↦ (let e = w.order_parts.ensures k.listed_at in (w.tables-is ∙ e.0, w.arena-is ∙ e.1))
+      | then-not-ascends w ↦ (let e = w.order_parts.ensures k.listed_at in (w.tables-is ∙ e.0, w.arena-is ∙ e.1))
       | else-not-ascends w ↦ (let e = in_order t a _ _ list k.listed_at (k.in_order w.if-not-ascends.false) in (w.tables-is ∙ e.0, w.arena-is ∙ e.1))
     ] in
     let e = ordered k in

@@ -1,7 +1,6 @@
 -- `mem_join_order::bring` meets its contract: two rotations, of the part's row and of its data. Assumes nothing.
 use Rattle.mem_join_order.proofs.Bringing.{rows_inside, bytes_inside, brought}
 use native.Mathlib.Omega.{arith}
-use borrow.Author.Rules.{rules}
 use Rattle.mem_join_order.proofs.bring.Goals as goal
 
 pub rotate-requires : goal.rotate-requires

@@ -1,9 +1,7 @@
 -- `mem_join_order::find_row` meets its contract. The invariant: the parts passed have other numbers. Assumes nothing.
 use Prim.Native.Nat.{◌+◌, ◌-◌, ◌≤◌}
 use native.Mathlib.Omega.{arith}
-use borrow.Author.Rules.{rules}
 use lib.ListN.{length}
-use Rattle.mem_join_order.specs.Region.{PartAt}
 use Rattle.mem_join_order.proofs.Search.{Passed, passed_none, next-inside, arena-inside, found_here, passed-next}
 use Rattle.mem_row.specs.Row.{head_length}
 use Rattle.mem_join_order.proofs.find_row.Goals as goal

@@ -1,12 +1,9 @@
 -- `mem_join_order::order_parts` meets its contract. The invariant: what is to come of the parts that remain does not change. Assumes nothing.
-use Prim.Native.Nat.{◌+◌, ◌-◌}
-use mathlib.Core.Path.{◌≡◌, refl}
-use native.Mathlib.Omega.{arith}
-use borrow.Author.Rules.{rules}
+use Prim.Native.Nat.{◌-◌}
+use mathlib.Core.Path.{◌≡◌}
 use lib.ListN.{length, drop}
-use Rattle.mem_join_order.specs.Region.{Region, ListedAt}
-use Rattle.mem_join_order.proofs.Ordering.{Turned, turned_none, within, number-inside, turn-part, turn, turned-all}
-use Rattle.mem_row.specs.Row.{head_length}
+use Rattle.mem_join_order.specs.Region.{ListedAt}
+use Rattle.mem_join_order.proofs.Ordering.{Turned}
 use Rattle.mem_join_order.proofs.order_parts.Given as goal
 
 abbrev pub invariant-loop-i : goal.invariant-loop-i

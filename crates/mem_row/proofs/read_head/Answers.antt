@@ -7,7 +7,6 @@ use lib.Dec.{lit<}
 use Rattle.base_number.proofs.Halves.{get-byte}
 use Rattle.mem_row.proofs.FieldLaws.{number_at}
 use Rattle.mem_row.specs.Row.{widths, head_at}
-use borrow.Author.Rules.{rules}
 use Rattle.mem_row.proofs.read_head.Goals as goal
 
 pub returns : goal.returns

@@ -1,7 +1,6 @@
 -- `mem_row::write_numbers` meets its contract: five writes, one after the other. Assumes nothing.
 use native.Mathlib.Omega.{arith}
 use Rattle.mem_row.proofs.RowFields.{number-fields}
-use borrow.Author.Rules.{rules}
 use Rattle.mem_row.proofs.write_numbers.Goals as goal
 
 pub returns : goal.returns

@@ -2,7 +2,6 @@
 use Rattle.mem_row.proofs.RowFields.{row-fields}
 use Rattle.base_md5.specs.Md5Laws.{length-bytes_of}
 use Rattle.base_md5.specs.Md5.{bytes_of}
-use borrow.Author.Rules.{rules}
 use Rattle.mem_row.proofs.write_row.Goals as goal
 
 pub returns : goal.returns

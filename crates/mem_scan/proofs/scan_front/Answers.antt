@@ -2,7 +2,6 @@
 use mathlib.Core.Path.{ap}
 use mathlib.Core.Bool.{not}
 use Rattle.mem_scan.proofs.Ends.{too_short, header-bad, header-good}
-use borrow.Author.Rules.{rules}
 use Rattle.mem_scan.proofs.scan_front.Goals as goal
 
 pub returns-then-tables-lt-HEADER_LENGTH : goal.returns-then-tables-lt-HEADER_LENGTH

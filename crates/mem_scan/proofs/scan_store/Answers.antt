@@ -5,7 +5,6 @@ use native.Mathlib.Omega.{arith}
 use Rattle.mem_layout.specs.Memory.{tables_length, whole}
 use Rattle.machine.specs.Pairs.{pairs_most}
 use Rattle.mem_scan.proofs.Ends.{front-bad, front-inside, uploads-bad, uploads-good}
-use borrow.Author.Rules.{rules}
 use Rattle.mem_scan.proofs.scan_store.Goals as goal
 
 pub returns-in_default : goal.returns-in_default

@@ -4,7 +4,6 @@ use mathlib.Core.Path.{ap, ◌∙◌}
 use Rattle.mem_layout.specs.declared.Header.{Header}
 use Rattle.mem_layout.specs.Rules.{start}
 use Rattle.mem_scan.specs.Scan.{entry_scan}
-use borrow.Author.Rules.{rules}
 use Rattle.mem_scan.proofs.scan_uploads.Goals as goal
 
 pub returns : goal.returns

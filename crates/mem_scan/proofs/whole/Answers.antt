@@ -1,7 +1,6 @@
 -- `mem_scan::whole` meets its contract: a scan is good where memory is whole. Assumes nothing.
 use mathlib.Core.Path.{sym}
 use Rattle.mem_scan.proofs.Ends.{found-bad, found-good}
-use borrow.Author.Rules.{rules}
 use Rattle.mem_scan.proofs.whole.Goals as goal
 
 pub returns-in-Bad : goal.returns-in-Bad

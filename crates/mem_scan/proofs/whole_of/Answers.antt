@@ -1,7 +1,6 @@
 -- `mem_scan::whole_of` meets its contract: memory is whole where both scans are good. Assumes nothing.
 use mathlib.Core.Path.{sym}
 use Rattle.mem_scan.proofs.Ends.{front-bad, front-inside, uploads-bad, uploads-good}
-use borrow.Author.Rules.{rules}
 use Rattle.mem_scan.proofs.whole_of.Goals as goal
 
 pub returns-in_default : goal.returns-in_default

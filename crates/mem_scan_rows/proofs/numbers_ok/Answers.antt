@@ -5,7 +5,6 @@ use lib.Dec.{eqb}
 use Rattle.machine.proofs.Tests.{tests}
 use Rattle.mem_layout.specs.Rules.{all, object_rule, plain_kind, parts_most}
 use borrow.Author.Tests.{lt-leb}
-use borrow.Author.Rules.{rules}
 use native.Mathlib.Omega.{arith}
 use Rattle.mem_scan_rows.proofs.numbers_ok.Goals as goal
 use Rattle.mem_scan_rows.proofs.numbers_ok.Goals.{then-h-ne0+else-most_parts-h, else-h-ne0}

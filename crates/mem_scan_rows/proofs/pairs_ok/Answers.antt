@@ -1,7 +1,6 @@
 -- `mem_scan_rows::pairs_ok` meets its contract: the tests are the definition's. Assumes nothing.
 use Rattle.mem_layout.specs.Rules.{pairs_rule}
 use Rattle.machine.proofs.Tests.{tests}
-use borrow.Author.Rules.{rules}
 use Rattle.mem_scan_rows.proofs.pairs_ok.Goals as goal
 
 pub returns-then-most-h : goal.returns-then-most-h

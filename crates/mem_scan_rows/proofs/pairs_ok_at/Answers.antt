@@ -4,7 +4,6 @@ use native.Mathlib.Nat.{add-sub_cancel_left}
 use lib.ListN.{drop}
 use Rattle.mem_layout.specs.Rules.{pairs_rule}
 use Rattle.mem_scan_rows.proofs.Readings.{no_pairs}
-use borrow.Author.Rules.{rules}
 use Rattle.mem_scan_rows.proofs.pairs_ok_at.Goals as goal
 
 pub returns-then-h-eq0 : goal.returns-then-h-eq0

@@ -9,7 +9,6 @@ use Rattle.mem_row.specs.Row.{head_length}
 use Rattle.mem_scan_rows.specs.declared.Reading.TheVariants.{Short, Full}
 use Rattle.mem_scan_rows.specs.Scan.{reading_of}
 use Rattle.mem_scan_rows.proofs.Readings.{reading-is}
-use borrow.Author.Rules.{rules}
 use Rattle.mem_scan_rows.proofs.read_row.Goals as goal
 
 pub returns-then-left-lt-HEAD_LENGTH : goal.returns-then-left-lt-HEAD_LENGTH

@@ -1,6 +1,5 @@
 -- `names::new_path_ok` meets its contract: the rule of paths. Assumes nothing.
 use Rattle.machine.specs.Names.{new_path_ok}
-use borrow.Author.Rules.{rules}
 use Rattle.names.proofs.new_path_ok.Goals as goal
 
 pub returns : goal.returns

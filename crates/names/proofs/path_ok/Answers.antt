@@ -1,7 +1,6 @@
 -- `names::path_ok` meets its contract: its length, then visible ASCII, then letters. Assumes nothing.
 use mathlib.Core.Path.{sym, ◌∙◌}
 use native.Mathlib.Omega.{arith}
-use borrow.Author.Rules.{rules}
 use Rattle.machine.specs.Names.{path_ok}
 use Rattle.names.proofs.PathLaws.{plain_ok}
 use Rattle.machine.proofs.Tests.{tests}

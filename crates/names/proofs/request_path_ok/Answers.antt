@@ -1,6 +1,5 @@
 -- `names::request_path_ok` meets its contract: the rule of paths. Assumes nothing.
 use Rattle.machine.specs.Names.{request_path_ok}
-use borrow.Author.Rules.{rules}
 use Rattle.names.proofs.request_path_ok.Goals as goal
 
 pub returns : goal.returns

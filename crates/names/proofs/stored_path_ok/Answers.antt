@@ -1,6 +1,5 @@
 -- `names::stored_path_ok` meets its contract: the rule of paths. Assumes nothing.
 use Rattle.machine.specs.Names.{stored_path_ok}
-use borrow.Author.Rules.{rules}
 use Rattle.names.proofs.stored_path_ok.Goals as goal
 
 pub returns : goal.returns

@@ -5,7 +5,6 @@ use native.Mathlib.Omega.{arith}
 use lib.ListN.{length, take, drop}
 use Rattle.machine.specs.Names.{stored_path_ok}
 use Rattle.names.proofs.PathLaws.{plain_ok, length-between, too_short, too_long}
-use borrow.Author.Rules.{rules}
 use Rattle.names.proofs.stored_path_ok_at.Goals as goal
 
 pub returns-then-length-lt1 : goal.returns-then-length-lt1

@@ -2,7 +2,6 @@
 use Prim.Native.Nat.{◌-◌}
 use native.Mathlib.Omega.{arith}
 use lib.ListN.{take, drop, length-take, length-drop}
-use borrow.Author.Rules.{rules}
 use Rattle.names_ascii.proofs.BlockLaws.{block_run, beside-small}
 use Rattle.names_ascii.proofs.block.Goals as goal
 

@@ -1,11 +1,11 @@
 -- `names_ascii::faults` meets its contract. The invariant: the faults counted and those to come are all; `k` is the place. Assumes nothing.
-use Prim.Native.Nat.{ℕ, ◌+◌, ◌-◌, ◌≤◌}
+use Prim.Native.Nat.{ℕ, ◌-◌}
 use mathlib.Core.Path.{◌≡◌, ap, ◌∙◌}
 use mathlib.Core.Bool.{cond}
 use lib.Dec.{ltb}
 use native.Mathlib.Omega.{arith}
-use lib.ListN.{get_or, drop}
-use Rattle.names_ascii.specs.Faults.{fault_of, faults_beside}
+use lib.ListN.{get_or}
+use Rattle.names_ascii.specs.Faults.{fault_of}
 use Rattle.names_ascii.proofs.BlockLaws.{place, turn, turn_small, beside_end}
 use Rattle.names_ascii.proofs.faults.Goals as goal
 

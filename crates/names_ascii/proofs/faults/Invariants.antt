@@ -1,12 +1,9 @@
 -- `names_ascii::faults` meets its contract. The invariant: the faults counted and those to come are all; `k` is the place. Assumes nothing.
-use Prim.Native.Nat.{ℕ, ◌+◌, ◌-◌, ◌≤◌}
-use mathlib.Core.Path.{◌≡◌, ap, ◌∙◌}
-use mathlib.Core.Bool.{cond}
-use lib.Dec.{ltb}
-use native.Mathlib.Omega.{arith}
-use lib.ListN.{get_or, drop}
-use Rattle.names_ascii.specs.Faults.{fault_of, faults_beside}
-use Rattle.names_ascii.proofs.BlockLaws.{place, turn, turn_small, beside_end}
+use Prim.Native.Nat.{◌+◌, ◌-◌, ◌≤◌}
+use mathlib.Core.Path.{◌≡◌}
+use lib.ListN.{drop}
+use Rattle.names_ascii.specs.Faults.{faults_beside}
+use Rattle.names_ascii.proofs.BlockLaws.{place}
 use Rattle.names_ascii.proofs.faults.Given as goal
 
 abbrev pub invariant-loop-i : goal.invariant-loop-i

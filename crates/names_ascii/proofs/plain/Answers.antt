@@ -1,8 +1,8 @@
 -- `names_ascii::plain` meets its contract. The invariant: the faults counted and those to come are all of the path's. Assumes nothing.
-use Prim.Native.Nat.{◌+◌, ◌-◌, ◌≤◌}
+use Prim.Native.Nat.{◌-◌}
 use mathlib.Core.Path.{◌≡◌}
 use native.Mathlib.Omega.{arith}
-use lib.ListN.{length, get_or, drop}
+use lib.ListN.{get_or}
 use Rattle.names_ascii.specs.Faults.{fault_of, faults}
 use Rattle.names_ascii.proofs.FaultLaws.{fault-small, no-faults, fault-here, faults-end}
 use Rattle.names_ascii.proofs.plain.Goals as goal

@@ -1,10 +1,8 @@
 -- `names_ascii::plain` meets its contract. The invariant: the faults counted and those to come are all of the path's. Assumes nothing.
 use Prim.Native.Nat.{◌+◌, ◌-◌, ◌≤◌}
 use mathlib.Core.Path.{◌≡◌}
-use native.Mathlib.Omega.{arith}
-use lib.ListN.{length, get_or, drop}
-use Rattle.names_ascii.specs.Faults.{fault_of, faults}
-use Rattle.names_ascii.proofs.FaultLaws.{fault-small, no-faults, fault-here, faults-end}
+use lib.ListN.{length, drop}
+use Rattle.names_ascii.specs.Faults.{faults}
 use Rattle.names_ascii.proofs.plain.Given as goal
 
 abbrev pub invariant-loop-i : goal.invariant-loop-i

@@ -4,7 +4,6 @@ use mathlib.Core.Path.{◌≡◌, sym, ap, ◌∙◌}
 use native.Mathlib.Omega.{arith}
 use Rattle.names_ascii.specs.Faults.{run}
 use Rattle.names_ascii.proofs.BlockLaws.{path-run, slash-first}
-use borrow.Author.Rules.{rules}
 use Rattle.names_ascii.proofs.short_at.Goals as goal
 
 pub returns-then-t-from-eq47 : goal.returns-then-t-from-eq47

@@ -2,7 +2,6 @@
 use mathlib.Core.Path.{sym, ◌∙◌}
 use mathlib.Core.Bool.{false≢true}
 use native.Mathlib.Omega.{arith}
-use borrow.Author.Rules.{rules}
 use Rattle.names_utf8.proofs.pair.Goals as goal
 
 pub returns-then-b-le194 : goal.returns-then-b-le194

@@ -1,11 +1,9 @@
 -- `names_utf8::pairs` meets its contract. The invariant: from i to k stand such letters. Assumes nothing.
-use mathlib.Core.Path.{ap}
+use mathlib.Core.Path.{ap, ◌≡◌}
 use mathlib.Core.Bool.{not}
 use Prim.Native.Nat.{◌+◌, ◌-◌, ◌<◌}
-use mathlib.Core.Path.{◌≡◌}
-use lib.ListN.{length, get_or}
+use lib.ListN.{get_or}
 use borrow.Author.Tests.{not-false}
-use Rattle.names_utf8.specs.Letters.{Run}
 use Rattle.names_utf8.proofs.LetterLaws.{run_none, run_more}
 use native.Mathlib.Omega.{arith}
 use Rattle.names_utf8.proofs.pairs.Goals as goal

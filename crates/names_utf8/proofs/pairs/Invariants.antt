@@ -1,11 +1,7 @@
 -- `names_utf8::pairs` meets its contract. The invariant: from i to k stand such letters. Assumes nothing.
-use Prim.Native.Nat.{◌+◌, ◌-◌, ◌<◌}
-use mathlib.Core.Path.{◌≡◌}
-use lib.ListN.{length, get_or}
-use borrow.Author.Tests.{not-false}
+use Prim.Native.Nat.{◌-◌}
+use lib.ListN.{length}
 use Rattle.names_utf8.specs.Letters.{Run}
-use Rattle.names_utf8.proofs.LetterLaws.{run_none, run_more}
-use native.Mathlib.Omega.{arith}
 use Rattle.names_utf8.proofs.pairs.Given as goal
 
 abbrev pub invariant-loop-k : goal.invariant-loop-k

@@ -1,12 +1,8 @@
 -- `names_utf8::path` meets its contract. The invariant: what is left, after `before`, is well formed and parted just where all is.
 -- Assumes nothing.
-use Prim.Native.Nat.{◌-◌, ◌≤◌}
-use mathlib.Core.Path.{◌≡◌, refl, sym, ◌∙◌}
-use mathlib.Core.Bool.{◌&&◌}
-use mathlib.Core.List.{[]}
+use Prim.Native.Nat.{◌-◌}
+use mathlib.Core.Path.{refl, sym, ◌∙◌}
 use native.Mathlib.Omega.{arith}
-use lib.ListN.{length, drop}
-use Rattle.machine.specs.Names.{characters, apart}
 use Rattle.names_utf8.proofs.PathLaws.{by_parts, letter-none, letter-doubled, letter-passed, letters-end}
 use Rattle.names_utf8.proofs.path.Goals as goal
 

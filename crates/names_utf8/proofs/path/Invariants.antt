@@ -1,13 +1,11 @@
 -- `names_utf8::path` meets its contract. The invariant: what is left, after `before`, is well formed and parted just where all is.
 -- Assumes nothing.
 use Prim.Native.Nat.{◌-◌, ◌≤◌}
-use mathlib.Core.Path.{◌≡◌, refl, sym, ◌∙◌}
+use mathlib.Core.Path.{◌≡◌}
 use mathlib.Core.Bool.{◌&&◌}
 use mathlib.Core.List.{[]}
-use native.Mathlib.Omega.{arith}
 use lib.ListN.{length, drop}
 use Rattle.machine.specs.Names.{characters, apart}
-use Rattle.names_utf8.proofs.PathLaws.{by_parts, letter-none, letter-doubled, letter-passed, letters-end}
 use Rattle.names_utf8.proofs.path.Given as goal
 
 abbrev pub invariant-loop-i : goal.invariant-loop-i

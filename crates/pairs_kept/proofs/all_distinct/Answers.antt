@@ -3,10 +3,9 @@ use Prim.Native.Nat.{ℕ, ◌-◌}
 use mathlib.Core.Path.{sym, ◌∙◌}
 use mathlib.Core.List.{List}
 use native.Mathlib.Omega.{arith}
-use lib.ListN.{length}
 use Rattle.machine.specs.Pairs.{kept, distinct_keys}
 use Rattle.pairs_kept.proofs.Keeping.{again-yes, again-no}
-use Rattle.pairs.proofs.Passing.{from-there, from-formed, here-fits, Undecided, undecided-none, decided, undecided-next, undecided-all}
+use Rattle.pairs.proofs.Passing.{from-there, from-formed, here-fits, undecided-none, decided, undecided-next, undecided-all}
 use Rattle.pairs_kept.proofs.all_distinct.Goals as goal
 
 pub loop-at-init : goal.loop-at-init

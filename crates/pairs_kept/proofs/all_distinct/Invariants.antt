@@ -1,12 +1,8 @@
 -- `pairs_kept::all_distinct` meets its contract. The invariant: the pairs not yet passed decide. Assumes nothing.
-use Prim.Native.Nat.{ℕ, ◌-◌}
-use mathlib.Core.Path.{sym, ◌∙◌}
-use mathlib.Core.List.{List}
-use native.Mathlib.Omega.{arith}
+use Prim.Native.Nat.{◌-◌}
 use lib.ListN.{length}
 use Rattle.machine.specs.Pairs.{kept, distinct_keys}
-use Rattle.pairs_kept.proofs.Keeping.{again-yes, again-no}
-use Rattle.pairs.proofs.Passing.{from-there, from-formed, here-fits, Undecided, undecided-none, decided, undecided-next, undecided-all}
+use Rattle.pairs.proofs.Passing.{Undecided}
 use Rattle.pairs_kept.proofs.all_distinct.Given as goal
 
 abbrev pub invariant-loop-at : goal.invariant-loop-at

@@ -1,5 +1,4 @@
 -- `pairs_kept::comes_again` meets its contract. Assumes nothing.
-use borrow.Author.Rules.{rules}
 use lib.ListN.{drop}
 use Rattle.machine.specs.Pairs.{pair_list, front_size}
 use Rattle.pairs_kept.proofs.Keeping.{again-system, again-own}

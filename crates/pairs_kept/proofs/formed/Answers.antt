@@ -1,11 +1,10 @@
 -- `pairs_kept::formed` meets its contract. The invariant: the pairs not yet passed decide. Assumes nothing.
 use mathlib.Core.Bool.{not}
-use Prim.Native.Nat.{ℕ, ◌-◌, ◌≤◌}
-use mathlib.Core.Path.{◌≡◌, refl, sym, ap, ◌∙◌}
+use Prim.Native.Nat.{ℕ, ◌-◌}
+use mathlib.Core.Path.{refl, sym, ap, ◌∙◌}
 use mathlib.Core.List.{List}
 use native.Mathlib.Omega.{arith}
-use lib.ListN.{length, drop}
-use Rattle.machine.specs.Pairs.{every, pair_ok, pair_list}
+use Rattle.machine.specs.Pairs.{every, pair_ok}
 use Rattle.machine.proofs.Tests.{said-no, said-yes}
 use Rattle.pairs.proofs.Passing.{none_left, formed-no, ok-fits, formed-next}
 use Rattle.pairs_kept.proofs.formed.Goals as goal

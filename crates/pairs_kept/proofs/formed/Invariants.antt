@@ -1,12 +1,8 @@
 -- `pairs_kept::formed` meets its contract. The invariant: the pairs not yet passed decide. Assumes nothing.
-use Prim.Native.Nat.{ℕ, ◌-◌, ◌≤◌}
-use mathlib.Core.Path.{◌≡◌, refl, sym, ap, ◌∙◌}
-use mathlib.Core.List.{List}
-use native.Mathlib.Omega.{arith}
+use Prim.Native.Nat.{◌-◌, ◌≤◌}
+use mathlib.Core.Path.{◌≡◌}
 use lib.ListN.{length, drop}
 use Rattle.machine.specs.Pairs.{every, pair_ok, pair_list}
-use Rattle.machine.proofs.Tests.{said-no, said-yes}
-use Rattle.pairs.proofs.Passing.{none_left, formed-no, ok-fits, formed-next}
 use Rattle.pairs_kept.proofs.formed.Given as goal
 
 abbrev pub invariant-loop-at : goal.invariant-loop-at

@@ -2,10 +2,9 @@
 use Prim.Native.Nat.{ℕ, ◌-◌}
 use mathlib.Core.List.{List}
 use native.Mathlib.Omega.{arith}
-use lib.ListN.{length}
 use Rattle.machine.specs.Pairs.{has_key}
 use Rattle.pairs_kept.proofs.Keeping.{has-yes, has_no}
-use Rattle.pairs.proofs.Passing.{from-fits, here-fits, Undecided, undecided-none, decided, undecided-next, undecided-all}
+use Rattle.pairs.proofs.Passing.{from-fits, here-fits, undecided-none, decided, undecided-next, undecided-all}
 use Rattle.pairs_kept.proofs.has_key.Goals as goal
 
 pub loop-at-init : goal.loop-at-init

@@ -1,11 +1,8 @@
 -- `pairs_kept::has_key` meets its contract. The invariant: the pairs not yet passed decide. Assumes nothing.
-use Prim.Native.Nat.{ℕ, ◌-◌}
-use mathlib.Core.List.{List}
-use native.Mathlib.Omega.{arith}
+use Prim.Native.Nat.{◌-◌}
 use lib.ListN.{length}
 use Rattle.machine.specs.Pairs.{has_key}
-use Rattle.pairs_kept.proofs.Keeping.{has-yes, has_no}
-use Rattle.pairs.proofs.Passing.{from-fits, here-fits, Undecided, undecided-none, decided, undecided-next, undecided-all}
+use Rattle.pairs.proofs.Passing.{Undecided}
 use Rattle.pairs_kept.proofs.has_key.Given as goal
 
 abbrev pub invariant-loop-at : goal.invariant-loop-at

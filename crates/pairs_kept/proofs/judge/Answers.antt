@@ -2,7 +2,6 @@
 use mathlib.Core.Path.{ap}
 use mathlib.Core.Bool.{not}
 use native.Mathlib.Omega.{arith}
-use borrow.Author.Rules.{rules}
 use Rattle.pairs_kept.proofs.Keeping.{judge-form, judge-many, judge-keys}
 use Rattle.machine.proofs.Tests.{said-no, said-yes}
 use Rattle.machine.specs.Pairs.{pair_list}

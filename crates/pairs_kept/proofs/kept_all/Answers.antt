@@ -6,7 +6,7 @@ use native.Mathlib.Omega.{arith}
 use lib.ListN.{length}
 use Rattle.machine.specs.Pairs.{kept, pairs_held}
 use Rattle.pairs_kept.proofs.Keeping.{count-cons, held_cons}
-use Rattle.pairs.proofs.Passing.{from-fits, here-fits, Summed, summed-none, summed-next, summed-all, from-inside, from-size}
+use Rattle.pairs.proofs.Passing.{from-fits, here-fits, summed-none, summed-next, summed-all, from-inside, from-size}
 use Rattle.pairs_kept.proofs.kept_all.Goals as goal
 
 pub loop-at-init : goal.loop-at-init

@@ -1,12 +1,8 @@
 -- `pairs_kept::kept_all` meets its contract. The invariant: what is summed and what is to come are all. Assumes nothing.
-use Prim.Native.Nat.{ℕ, ◌-◌}
-use mathlib.Core.Path.{refl}
-use mathlib.Core.List.{List}
-use native.Mathlib.Omega.{arith}
+use Prim.Native.Nat.{◌-◌}
 use lib.ListN.{length}
 use Rattle.machine.specs.Pairs.{kept, pairs_held}
-use Rattle.pairs_kept.proofs.Keeping.{count-cons, held_cons}
-use Rattle.pairs.proofs.Passing.{from-fits, here-fits, Summed, summed-none, summed-next, summed-all, from-inside, from-size}
+use Rattle.pairs.proofs.Passing.{Summed}
 use Rattle.pairs_kept.proofs.kept_all.Given as goal
 
 abbrev pub invariant-loop-at : goal.invariant-loop-at

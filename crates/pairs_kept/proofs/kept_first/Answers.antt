@@ -1,7 +1,6 @@
 -- `pairs_kept::kept_first` meets its contract. Assumes nothing.
 use mathlib.Core.Path.{sym, ap}
 use native.Mathlib.Omega.{arith}
-use borrow.Author.Rules.{rules}
 use lib.ListN.{length}
 use Rattle.machine.specs.Pairs.{pairs_held}
 use Rattle.machine.proofs.PairBytes.{front-size}

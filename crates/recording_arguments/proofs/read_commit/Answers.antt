@@ -1,5 +1,4 @@
 -- `recording_arguments::read_commit` meets its contract. Assumes nothing.
-use borrow.Author.Rules.{rules}
 use Rattle.recording_arguments.proofs.Fields.{no-head, no-tail, two-read}
 use Rattle.recording_read.specs.Meant.{number_meant, string_meant, string_length}
 use Rattle.recording_lists.specs.Packed.{packed}
@@ -21,7 +20,7 @@ returns-in_default-numbers_field c =
     let a = c.args in
     let s = a.s.now in
     let n = c.number_field in
-        let e = ap (number_meant s) (sym c.in-Got.is) ∙ n.ensures in
+    let e = ap (number_meant s) (sym c.in-Got.is) ∙ n.ensures in
     let w = c.numbers_field in
     (no-tail number numbers packed (drop a.at s) c.in-Got.upload (drop c.in-Got.a s) e (ap (string_meant s w.new.out) (sym c.in_default-numbers_field.is) ∙ w.ensures.0), omega arith)
 
@@ -30,9 +29,8 @@ returns c =
     let a = c.args in
     let s = a.s.now in
     let n = c.number_field in
-        let e = ap (number_meant s) (sym c.in-Got.is) ∙ n.ensures in
-    let w = c.numbers_field in
-    (
+    let e = ap (number_meant s) (sym c.in-Got.is) ∙ n.ensures in
+    let w = c.numbers_field in (
       two-read number numbers packed (drop a.at s) c.in-Got.upload (drop c.in-Got.a s) e (take c.in-Got-numbers_field.len w.new.out) (drop c.in-Got-numbers_field.next s) (ap (string_meant s w.new.out) (sym c.in-Got-numbers_field.is) ∙ w.ensures.0),
       omega (arith, ap string_length (sym c.in-Got-numbers_field.is), w.ensures.1),
     )

@@ -1,5 +1,4 @@
 -- `recording_arguments::read_copy` meets its contract. Assumes nothing.
-use borrow.Author.Rules.{rules}
 use mathlib.Core.Path.{sym, ap, ◌∙◌}
 use native.Mathlib.Omega.{arith}
 use lib.ListN.{take, drop}
@@ -19,7 +18,7 @@ pub returns-in_default-string_field : goal.returns-in_default-string_field
 returns-in_default-string_field c =
     let a = c.args in
     let s = a.s.now in
-        let e = ap (number_meant s) (sym c.in-Got.is) ∙ c.number_field.ensures in
+    let e = ap (number_meant s) (sym c.in-Got.is) ∙ c.number_field.ensures in
     let w = c.string_field in (
       no_second number (both string string) (drop a.at s) c.in-Got.stamp (drop c.in-Got.a s) e
           (no-first string string (drop c.in-Got.a s) (ap (string_meant s w.new.out) (sym c.in_default-string_field.is) ∙ w.ensures.0)),
@@ -30,9 +29,9 @@ pub returns-in_default-string_field-2 : goal.returns-in_default-string_field-2
 returns-in_default-string_field-2 c =
     let a = c.args in
     let s = a.s.now in
-        let e = ap (number_meant s) (sym c.in-Got.is) ∙ c.number_field.ensures in
+    let e = ap (number_meant s) (sym c.in-Got.is) ∙ c.number_field.ensures in
     let w = c.string_field in
-        let f = ap (string_meant s w.new.out) (sym c.in-Got-string_field.is) ∙ w.ensures.0 in
+    let f = ap (string_meant s w.new.out) (sym c.in-Got-string_field.is) ∙ w.ensures.0 in
     let v = c.string_field-2 in (
       no_second number (both string string) (drop a.at s) c.in-Got.stamp (drop c.in-Got.a s) e
           (no_second string string (drop c.in-Got.a s) (take c.in-Got-string_field.n w.new.out) (drop c.in-Got-string_field.b s) f (ap (string_meant s v.new.out) (sym c.in_default-string_field-2.is) ∙ v.ensures.0)),
@@ -43,11 +42,11 @@ pub returns : goal.returns
 returns c =
     let a = c.args in
     let s = a.s.now in
-        let e = ap (number_meant s) (sym c.in-Got.is) ∙ c.number_field.ensures in
+    let e = ap (number_meant s) (sym c.in-Got.is) ∙ c.number_field.ensures in
     let w = c.string_field in
-        let f = ap (string_meant s w.new.out) (sym c.in-Got-string_field.is) ∙ w.ensures.0 in
+    let f = ap (string_meant s w.new.out) (sym c.in-Got-string_field.is) ∙ w.ensures.0 in
     let v = c.string_field-2 in
-        let q = ap (string_meant s v.new.out) (sym c.in-Got-string_field-2.is) ∙ v.ensures.0 in (
+    let q = ap (string_meant s v.new.out) (sym c.in-Got-string_field-2.is) ∙ v.ensures.0 in (
       both_read number (both string string) (drop a.at s) c.in-Got.stamp (drop c.in-Got.a s) e ((take c.in-Got-string_field.n w.new.out), take c.in-Got-string_field-2.m v.new.out) (drop c.in-Got-string_field-2.c s)
           (both_read string string (drop c.in-Got.a s) (take c.in-Got-string_field.n w.new.out) (drop c.in-Got-string_field.b s) f (take c.in-Got-string_field-2.m v.new.out) (drop c.in-Got-string_field-2.c s) q),
       (omega (arith, ap string_length (sym c.in-Got-string_field.is), w.ensures.1), omega (arith, ap string_length (sym c.in-Got-string_field-2.is), v.ensures.1)),

@@ -1,5 +1,4 @@
 -- `recording_arguments::read_list` meets its contract. Assumes nothing.
-use borrow.Author.Rules.{rules}
 use Rattle.recording_read.proofs.Places.{no-first, no_second, both_read}
 use Rattle.recording_read.specs.Meant.{string_meant, string_length}
 use Rattle.recording.specs.Parse.{string}
@@ -20,7 +19,7 @@ returns-in_default-string_field c =
     let a = c.args in
     let s = a.s.now in
     let w = c.string_field in
-        let e = ap (string_meant s w.new.out) (sym c.in-Got.is) ∙ w.ensures.0 in
+    let e = ap (string_meant s w.new.out) (sym c.in-Got.is) ∙ w.ensures.0 in
     let x = take c.in-Got.n w.new.out in
     let v = c.string_field-2 in
     (no_second string string (drop a.at s) x (drop c.in-Got.a s) e (ap (string_meant s v.new.out) (sym c.in_default-string_field.is) ∙ v.ensures.0), tt)
@@ -30,10 +29,9 @@ returns c =
     let a = c.args in
     let s = a.s.now in
     let w = c.string_field in
-        let e = ap (string_meant s w.new.out) (sym c.in-Got.is) ∙ w.ensures.0 in
+    let e = ap (string_meant s w.new.out) (sym c.in-Got.is) ∙ w.ensures.0 in
     let x = take c.in-Got.n w.new.out in
-    let v = c.string_field-2 in
-    (
+    let v = c.string_field-2 in (
       both_read string string (drop a.at s) x (drop c.in-Got.a s) e (take c.in-Got-string_field.m v.new.out) (drop c.in-Got-string_field.b s) (ap (string_meant s v.new.out) (sym c.in-Got-string_field.is) ∙ v.ensures.0),
       (omega (arith, ap string_length (sym c.in-Got.is), w.ensures.1), omega (arith, ap string_length (sym c.in-Got-string_field.is), v.ensures.1)),
     )

@@ -1,5 +1,4 @@
 -- `recording_line::refusal` meets its contract. Assumes nothing.
-use borrow.Author.Rules.{rules}
 use Rattle.mem_scan.proofs.Ends.{found-bad, found-good}
 use Rattle.call_contract.specs.Made.{memory}
 use Rattle.recording_line.proofs.Lines.{no_store, a-store}

@@ -11,7 +11,6 @@ use Rattle.machine.specs.Calls.{buffers}
 use lib.Seq.{length-take-le}
 use lib.ListN.{take, drop}
 use mathlib.Core.Path.{sym, ap, ◌∙◌}
-use borrow.Author.Rules.{rules}
 use Rattle.recording_looks.proofs.get_line.Goals as goal
 
 pub returns-in_default : goal.returns-in_default
@@ -32,7 +31,7 @@ returns-then-not-ends_line c =
     let b = buffers a.answer.now a.pairs.now in
     let w = c.string_field in
     let o = w.new.out in
-        let e = ap (string_meant l o) (sym c.in-Got.is) ∙ w.ensures.0 in
+    let e = ap (string_meant l o) (sym c.in-Got.is) ∙ w.ensures.0 in
     let p = take c.in-Got.len o in
     let rest = drop c.in-Got.next l in
     no_line a.answer.now a.pairs.now b c.refusal-then-not-ends_line.result (whole_open entry.get string (drop a.at l) p rest (sym e) (said-no c.ends_line.ensures (ap not c.if-not-ends_line.true))) c.refusal-then-not-ends_line.ensures
@@ -43,7 +42,7 @@ slice_bounds-path-end c = omega (arith, ap string_length (sym c.in-Got.is), c.st
 pub slice_bounds-get-end : goal.slice_bounds-get-end
 slice_bounds-get-end c =
     let w = c.string_field in
-        sym (length-take-le c.in-Got.len w.new.out (omega (arith, ap string_length (sym c.in-Got.is), w.ensures.1)))
+    sym (length-take-le c.in-Got.len w.new.out (omega (arith, ap string_length (sym c.in-Got.is), w.ensures.1)))
 
 pub returns : goal.returns
 unfolding path_rest
@@ -53,7 +52,7 @@ returns c =
     let b = buffers a.answer.now a.pairs.now in
     let w = c.string_field in
     let o = w.new.out in
-        let e = ap (string_meant l o) (sym c.in-Got.is) ∙ w.ensures.0 in
+    let e = ap (string_meant l o) (sym c.in-Got.is) ∙ w.ensures.0 in
     let p = take c.in-Got.len o in
     let rest = drop c.in-Got.next l in
     a-line a.answer.now a.pairs.now b (entry.get p) (whole-form entry.get string (drop a.at l) p rest (sym e) (said-yes c.ends_line.ensures (ap not c.if-not-ends_line.false))) c.get.ensures

@@ -12,7 +12,6 @@ use lib.Seq.{length-take-le}
 use lib.ListN.{take, drop}
 use mathlib.Core.Path.{sym, ap, ◌∙◌}
 use mathlib.Core.List.{[]}
-use borrow.Author.Rules.{rules}
 use Rattle.recording_looks.proofs.head_line.Goals as goal
 
 pub returns-in_default : goal.returns-in_default
@@ -33,7 +32,7 @@ returns-then-not-ends_line c =
     let o₂ = buffers [] a.pairs.now in
     let w = c.string_field in
     let o = w.new.out in
-        let e = ap (string_meant l o) (sym c.in-Got.is) ∙ w.ensures.0 in
+    let e = ap (string_meant l o) (sym c.in-Got.is) ∙ w.ensures.0 in
     let p = take c.in-Got.len o in
     let rest = drop c.in-Got.next l in
     λ b. no_line b a.pairs.now o₂ c.refusal-then-not-ends_line.result (whole_open entry.head string (drop a.at l) p rest (sym e) (said-no c.ends_line.ensures (ap not c.if-not-ends_line.true))) c.refusal-then-not-ends_line.ensures
@@ -44,7 +43,7 @@ slice_bounds-path-end c = omega (arith, ap string_length (sym c.in-Got.is), c.st
 pub slice_bounds-head-end : goal.slice_bounds-head-end
 slice_bounds-head-end c =
     let w = c.string_field in
-        sym (length-take-le c.in-Got.len w.new.out (omega (arith, ap string_length (sym c.in-Got.is), w.ensures.1)))
+    sym (length-take-le c.in-Got.len w.new.out (omega (arith, ap string_length (sym c.in-Got.is), w.ensures.1)))
 
 pub returns : goal.returns
 unfolding path_rest
@@ -54,7 +53,7 @@ returns c =
     let o₂ = buffers [] a.pairs.now in
     let w = c.string_field in
     let o = w.new.out in
-        let e = ap (string_meant l o) (sym c.in-Got.is) ∙ w.ensures.0 in
+    let e = ap (string_meant l o) (sym c.in-Got.is) ∙ w.ensures.0 in
     let p = take c.in-Got.len o in
     let rest = drop c.in-Got.next l in
     λ b. a-line b a.pairs.now o₂ (entry.head p) (whole-form entry.head string (drop a.at l) p rest (sym e) (said-yes c.ends_line.ensures (ap not c.if-not-ends_line.false))) c.head.ensures

@@ -16,7 +16,6 @@ use lib.Seq.{length-take-le}
 use lib.ListN.{take, drop}
 use mathlib.Core.List.{[]}
 use mathlib.Core.Path.{sym, ap, subst, ◌∙◌}
-use borrow.Author.Rules.{rules}
 use Rattle.recording_looks.proofs.list_line.Goals as goal
 
 pub returns-in_default : goal.returns-in_default
@@ -41,7 +40,7 @@ returns-then-not-ends_line c =
     let x = w.new.prefix in
     let y = w.new.suffix in
     let m : Bytes × Bytes → Entry = λ a. entry.list a.0 a.1 in
-        let e = ap (list_meant l x y) (sym c.in-Got.is) ∙ w.ensures.0 in
+    let e = ap (list_meant l x y) (sym c.in-Got.is) ∙ w.ensures.0 in
     let v : Bytes × Bytes = (take c.in-Got.prefix x, take c.in-Got.suffix y) in
     let rest = drop c.in-Got.next l in
     λ q. no_line a.answer.now q o₂ c.refusal-then-not-ends_line.result (whole_open m (both string string) (drop a.at l) v rest (sym e) (said-no c.ends_line.ensures (ap not c.if-not-ends_line.true))) c.refusal-then-not-ends_line.ensures
@@ -49,25 +48,25 @@ returns-then-not-ends_line c =
 pub slice_bounds-p-end : goal.slice_bounds-p-end
 slice_bounds-p-end c =
     let w = c.read_list in
-        let f = subst (λ (r : ListRead). ListFits r 2048 2048) c.in-Got.is w.ensures.1 in
+    let f = subst (λ (r : ListRead). ListFits r 2048 2048) c.in-Got.is w.ensures.1 in
     omega (arith, f.0)
 
 pub slice_bounds-list-end : goal.slice_bounds-list-end
 slice_bounds-list-end c =
     let w = c.read_list in
-        let f = subst (λ (r : ListRead). ListFits r 2048 2048) c.in-Got.is w.ensures.1 in
+    let f = subst (λ (r : ListRead). ListFits r 2048 2048) c.in-Got.is w.ensures.1 in
     sym (length-take-le c.in-Got.prefix w.new.prefix (omega (arith, f.0)))
 
 pub slice_bounds-d-end : goal.slice_bounds-d-end
 slice_bounds-d-end c =
     let w = c.read_list in
-        let f = subst (λ (r : ListRead). ListFits r 2048 2048) c.in-Got.is w.ensures.1 in
+    let f = subst (λ (r : ListRead). ListFits r 2048 2048) c.in-Got.is w.ensures.1 in
     omega (arith, f.1)
 
 pub slice_bounds-list-end-2 : goal.slice_bounds-list-end-2
 slice_bounds-list-end-2 c =
     let w = c.read_list in
-        let f = subst (λ (r : ListRead). ListFits r 2048 2048) c.in-Got.is w.ensures.1 in
+    let f = subst (λ (r : ListRead). ListFits r 2048 2048) c.in-Got.is w.ensures.1 in
     sym (length-take-le c.in-Got.suffix w.new.suffix (omega (arith, f.1)))
 
 pub returns : goal.returns
@@ -80,7 +79,7 @@ returns c =
     let x = w.new.prefix in
     let y = w.new.suffix in
     let m : Bytes × Bytes → Entry = λ a. entry.list a.0 a.1 in
-        let e = ap (list_meant l x y) (sym c.in-Got.is) ∙ w.ensures.0 in
+    let e = ap (list_meant l x y) (sym c.in-Got.is) ∙ w.ensures.0 in
     let v : Bytes × Bytes = (take c.in-Got.prefix x, take c.in-Got.suffix y) in
     let rest = drop c.in-Got.next l in
     λ q. a-line a.answer.now q o₂ (m v) (whole-form m (both string string) (drop a.at l) v rest (sym e) (said-yes c.ends_line.ensures (ap not c.if-not-ends_line.false))) c.list.ensures

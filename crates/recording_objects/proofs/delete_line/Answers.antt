@@ -1,7 +1,6 @@
 -- `recording_objects::delete_line` meets its contract. Assumes nothing.
 use mathlib.Core.Bool.{not}
 use native.Mathlib.Omega.{arith}
-use borrow.Author.Rules.{rules}
 use mathlib.Core.Path.{sym, ap, ◌∙◌}
 use lib.ListN.{take, drop}
 use lib.Seq.{length-take-le}
@@ -27,7 +26,7 @@ unfolding path_rest
 returns-then-not-ends_line c =
     let a = c.args in
     let w = c.string_field in
-        let e = ap (string_meant a.line.now w.new.out) (sym c.in-Got.is) ∙ w.ensures.0 in
+    let e = ap (string_meant a.line.now w.new.out) (sym c.in-Got.is) ∙ w.ensures.0 in
     λ x y. no_line x y no_buffers c.refusal-then-not-ends_line.result
     (whole_open entry.delete string (drop a.at a.line.now) (take c.in-Got.len w.new.out) (drop c.in-Got.next a.line.now) (sym e)
     (said-no c.ends_line.ensures (ap not c.if-not-ends_line.true)))
@@ -39,14 +38,14 @@ slice_bounds-path-end c = omega (arith, ap string_length (sym c.in-Got.is), c.st
 pub slice_bounds-delete-end : goal.slice_bounds-delete-end
 slice_bounds-delete-end c =
     let w = c.string_field in
-        sym (length-take-le c.in-Got.len w.new.out (omega (arith, ap string_length (sym c.in-Got.is), w.ensures.1)))
+    sym (length-take-le c.in-Got.len w.new.out (omega (arith, ap string_length (sym c.in-Got.is), w.ensures.1)))
 
 pub returns : goal.returns
 unfolding path_rest
 returns c =
     let a = c.args in
     let w = c.string_field in
-        let e = ap (string_meant a.line.now w.new.out) (sym c.in-Got.is) ∙ w.ensures.0 in
+    let e = ap (string_meant a.line.now w.new.out) (sym c.in-Got.is) ∙ w.ensures.0 in
     λ x y. a-line x y no_buffers (entry.delete (take c.in-Got.len w.new.out))
     (whole-form entry.delete string (drop a.at a.line.now) (take c.in-Got.len w.new.out) (drop c.in-Got.next a.line.now) (sym e)
     (said-yes c.ends_line.ensures (ap not c.if-not-ends_line.false)))

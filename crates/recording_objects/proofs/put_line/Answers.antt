@@ -10,7 +10,6 @@ use Rattle.machine.specs.Calls.{no_buffers}
 use lib.Seq.{length-take-le}
 use lib.ListN.{take, drop}
 use mathlib.Core.Path.{sym, ap, subst, ◌∙◌}
-use borrow.Author.Rules.{rules}
 use Rattle.recording_objects.proofs.put_line.Goals as goal
 
 pub returns-in_default : goal.returns-in_default
@@ -31,7 +30,7 @@ returns-then-not-ends_line c =
     let x = w.new.path in
     let y = w.new.content in
     let z = w.new.pairs in
-        let e = ap (put_meant l x y z) (sym c.in-Got.is) ∙ w.ensures.0 in
+    let e = ap (put_meant l x y z) (sym c.in-Got.is) ∙ w.ensures.0 in
     let p = take c.in-Got.path x in
     let d = take c.in-Got.content y in
     let m = take c.in-Got.pairs z in
@@ -41,37 +40,37 @@ returns-then-not-ends_line c =
 pub slice_bounds-p-end : goal.slice_bounds-p-end
 slice_bounds-p-end c =
     let w = c.read_put in
-        let f = subst (λ (r : PutRead). PutFits r 2048 2048 2048) c.in-Got.is w.ensures.1 in
+    let f = subst (λ (r : PutRead). PutFits r 2048 2048 2048) c.in-Got.is w.ensures.1 in
     omega (arith, f.0)
 
 pub slice_bounds-put-end : goal.slice_bounds-put-end
 slice_bounds-put-end c =
     let w = c.read_put in
-        let f = subst (λ (r : PutRead). PutFits r 2048 2048 2048) c.in-Got.is w.ensures.1 in
+    let f = subst (λ (r : PutRead). PutFits r 2048 2048 2048) c.in-Got.is w.ensures.1 in
     sym (length-take-le c.in-Got.path w.new.path (omega (arith, f.0)))
 
 pub slice_bounds-d-end : goal.slice_bounds-d-end
 slice_bounds-d-end c =
     let w = c.read_put in
-        let f = subst (λ (r : PutRead). PutFits r 2048 2048 2048) c.in-Got.is w.ensures.1 in
+    let f = subst (λ (r : PutRead). PutFits r 2048 2048 2048) c.in-Got.is w.ensures.1 in
     omega (arith, f.1)
 
 pub slice_bounds-put-end-2 : goal.slice_bounds-put-end-2
 slice_bounds-put-end-2 c =
     let w = c.read_put in
-        let f = subst (λ (r : PutRead). PutFits r 2048 2048 2048) c.in-Got.is w.ensures.1 in
+    let f = subst (λ (r : PutRead). PutFits r 2048 2048 2048) c.in-Got.is w.ensures.1 in
     sym (length-take-le c.in-Got.content w.new.content (omega (arith, f.1)))
 
 pub slice_bounds-m-end : goal.slice_bounds-m-end
 slice_bounds-m-end c =
     let w = c.read_put in
-        let f = subst (λ (r : PutRead). PutFits r 2048 2048 2048) c.in-Got.is w.ensures.1 in
+    let f = subst (λ (r : PutRead). PutFits r 2048 2048 2048) c.in-Got.is w.ensures.1 in
     omega (arith, f.2)
 
 pub slice_bounds-put-end-3 : goal.slice_bounds-put-end-3
 slice_bounds-put-end-3 c =
     let w = c.read_put in
-        let f = subst (λ (r : PutRead). PutFits r 2048 2048 2048) c.in-Got.is w.ensures.1 in
+    let f = subst (λ (r : PutRead). PutFits r 2048 2048 2048) c.in-Got.is w.ensures.1 in
     sym (length-take-le c.in-Got.pairs w.new.pairs (omega (arith, f.2)))
 
 pub returns : goal.returns
@@ -82,7 +81,7 @@ returns c =
     let x = w.new.path in
     let y = w.new.content in
     let z = w.new.pairs in
-        let e = ap (put_meant l x y z) (sym c.in-Got.is) ∙ w.ensures.0 in
+    let e = ap (put_meant l x y z) (sym c.in-Got.is) ∙ w.ensures.0 in
     let p = take c.in-Got.path x in
     let d = take c.in-Got.content y in
     let m = take c.in-Got.pairs z in

@@ -1,7 +1,6 @@
 -- `recording_read::byte_at` meets its contract. Assumes nothing.
 use mathlib.Core.Path.{sym}
 use native.Mathlib.Omega.{arith}
-use borrow.Author.Rules.{rules}
 use lib.ListN.{get_or-eq_default}
 use Rattle.recording_read.proofs.byte_at.Goals as goal
 

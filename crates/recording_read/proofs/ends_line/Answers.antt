@@ -1,6 +1,5 @@
 -- `recording_read::ends_line` meets its contract. Assumes nothing.
 use mathlib.Core.Path.{sym}
-use borrow.Author.Rules.{rules}
 use Rattle.recording_read.proofs.Places.{none_left, more_left, one_left}
 use Rattle.recording_read.proofs.ends_line.Goals as goal
 

@@ -1,5 +1,4 @@
 -- `recording_replay::change_line` meets its contract. Assumes nothing.
-use borrow.Author.Rules.{rules}
 use Rattle.recording_replay.proofs.ByVerb.{last-change, by-verb}
 use mathlib.Core.Path.{sym, ◌∙◌}
 use Rattle.recording_replay.proofs.change_line.Goals as goal

@@ -1,7 +1,6 @@
 -- `recording_replay::changes` meets its contract. Assumes nothing.
 use borrow.Author.Tests.{eq-eqb, ne_eqb}
 use Rattle.recording_replay.specs.Replayed.{changing}
-use Rattle.recording_replay.proofs.changes.Reads as reads
 use Rattle.recording_replay.proofs.changes.Goals as goal
 
 -- src/lib.rt:20:9

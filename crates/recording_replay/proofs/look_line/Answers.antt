@@ -3,14 +3,6 @@ use Rattle.recording_replay.proofs.Tells.{get-tell, head-tell, list-tell, upload
 use Rattle.recording_replay.proofs.ByVerb.{last-look, line-by-verb, line-got, line-head, line-listed}
 use lib.ListN.{drop}
 use mathlib.Core.Path.{sym, ◌∙◌}
-use borrow.Author.Rules.{rules}
-use Rattle.recording_replay.proofs.look_line.Reads as reads
-use Rattle.recording_looks.proofs.get_line.Reads as get-line-reads
-use Rattle.recording_looks.proofs.head_line.Reads as head-line-reads
-use Rattle.recording_looks.proofs.list_line.Reads as list-line-reads
-use Rattle.recording_looks.proofs.uploads_line.Reads as uploads-line-reads
-use Rattle.c_reply.proofs.found.Reads as found-reads
-use Rattle.c_reply.proofs.written.Reads as written-reads
 use Rattle.recording_replay.proofs.look_line.Goals as goal
 
 -- src/lib.rt:125:9

@@ -1,7 +1,6 @@
 -- `recording_replay::looks` meets its contract. Assumes nothing.
 use borrow.Author.Tests.{eq-eqb, ne_eqb}
 use Rattle.recording_replay.specs.Replayed.{looking}
-use Rattle.recording_replay.proofs.looks.Reads as reads
 use Rattle.recording_replay.proofs.looks.Goals as goal
 
 -- src/lib.rt:49:9

@@ -2,10 +2,6 @@
 use native.Mathlib.Omega.{arith}
 use Rattle.recording_replay.proofs.ByVerb.{another-length, too_long, line-entry}
 use Rattle.machine.specs.Calls.{buffers}
-use borrow.Author.Rules.{rules}
-use Rattle.recording_replay.proofs.replay_line.Reads as reads
-use Rattle.recording_line.proofs.refusal.Reads as refusal-reads
-use Rattle.recording_replay.proofs.verb_line.Reads as verb-line-reads
 use Rattle.recording_replay.proofs.replay_line.Goals as goal
 
 -- src/lib.rt:191:9

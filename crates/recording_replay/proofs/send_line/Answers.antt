@@ -3,12 +3,6 @@ use Rattle.recording_replay.proofs.Tells.{initiate-tell, part-tell}
 use Rattle.recording_replay.proofs.ByVerb.{last-send, line-by-verb, line-opened, line-stored}
 use lib.ListN.{drop}
 use mathlib.Core.Path.{sym, ◌∙◌}
-use borrow.Author.Rules.{rules}
-use Rattle.recording_replay.proofs.send_line.Reads as reads
-use Rattle.recording_uploads.proofs.initiate_line.Reads as initiate-line-reads
-use Rattle.recording_uploads.proofs.part_line.Reads as part-line-reads
-use Rattle.c_reply.proofs.opened.Reads as opened-reads
-use Rattle.c_reply.proofs.stored.Reads as stored-reads
 use Rattle.recording_replay.proofs.send_line.Goals as goal
 
 -- src/lib.rt:97:9

@@ -1,7 +1,6 @@
 -- `recording_replay::sends` meets its contract. Assumes nothing.
 use borrow.Author.Tests.{eq-eqb, ne_eqb}
 use Rattle.recording_replay.specs.Replayed.{sending}
-use Rattle.recording_replay.proofs.sends.Reads as reads
 use Rattle.recording_replay.proofs.sends.Goals as goal
 
 -- src/lib.rt:39:9

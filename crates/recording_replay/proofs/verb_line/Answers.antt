@@ -2,17 +2,6 @@
 use Rattle.recording_replay.proofs.ByVerb.{no-verb, line-none, line-done}
 use Rattle.machine.specs.Calls.{buffers}
 use mathlib.Core.Path.{sym, ◌∙◌}
-use borrow.Author.Rules.{rules}
-use Rattle.recording_replay.proofs.verb_line.Reads as reads
-use Rattle.recording_line.proofs.refusal.Reads as refusal-reads
-use Rattle.recording_read.proofs.verb.Reads as verb-reads
-use Rattle.recording_replay.proofs.change_line.Reads as change-line-reads
-use Rattle.recording_replay.proofs.changes.Reads as changes-reads
-use Rattle.recording_replay.proofs.look_line.Reads as look-line-reads
-use Rattle.recording_replay.proofs.looks.Reads as looks-reads
-use Rattle.recording_replay.proofs.send_line.Reads as send-line-reads
-use Rattle.recording_replay.proofs.sends.Reads as sends-reads
-use Rattle.c_reply.proofs.done_alone.Reads as done-alone-reads
 use Rattle.recording_replay.proofs.verb_line.Goals as goal
 
 -- src/lib.rt:160:9

@@ -4,10 +4,6 @@ use mathlib.Core.Path.{refl, sym}
 use lib.Seq.{length-take-le}
 use Rattle.call_contract.specs.Made.{memory}
 use Rattle.recording_run.proofs.Running.{small-refusal, small-replayed, held-run, long-run}
-use borrow.Author.Rules.{rules}
-use Rattle.recording_run.proofs.held_line.Reads as reads
-use Rattle.recording_line.proofs.refusal.Reads as refusal-reads
-use Rattle.recording_replay.proofs.replay_line.Reads as replay-line-reads
 use Rattle.recording_run.proofs.held_line.Goals as goal
 
 -- src/lib.rt:30:9

@@ -3,8 +3,6 @@ use native.Mathlib.Omega.{arith}
 use Prim.Native.Nat.{◌+◌}
 use lib.ListN.{length-set}
 use Rattle.recording_run.proofs.Feeding.{two-stored}
-use borrow.Author.Rules.{rules}
-use Rattle.recording_run.proofs.print_result.Reads as reads
 use Rattle.recording_run.proofs.print_result.Goals as goal
 
 -- src/lib.rt:42:5

@@ -4,11 +4,6 @@ use mathlib.Core.Path.{◌∙◌}
 use Rattle.call_contract.specs.Made.{memory}
 use Rattle.recording_split.proofs.Holding.{nothing-held}
 use Rattle.recording_run.proofs.Inputs.{all_finished, one_last}
-use borrow.Author.Rules.{rules}
-use Rattle.recording_run.proofs.replay_input.Reads as reads
-use Rattle.recording_run.proofs.held_line.Reads as held-line-reads
-use Rattle.recording_run.proofs.print_result.Reads as print-result-reads
-use Rattle.recording_run.proofs.replay_piece.Reads as replay-piece-reads
 use Rattle.recording_run.proofs.replay_input.Goals as goal
 
 -- src/lib.rt:116:9

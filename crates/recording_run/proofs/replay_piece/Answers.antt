@@ -1,20 +1,12 @@
 -- `recording_run::replay_piece` meets its contract. Assumes nothing.
 use native.Mathlib.Omega.{arith}
-use borrow.Author.Rules.{rules}
-use Prim.Native.Nat.{ℕ, ◌-◌, ◌*◌, ◌≤◌}
-use mathlib.Core.Path.{◌≡◌, refl, subst, ◌∙◌}
+use Prim.Native.Nat.{◌-◌}
+use mathlib.Core.Path.{refl, subst, ◌∙◌}
 use lib.ListN.{length}
-use Rattle.machine.specs.Names.{Bytes}
-use Rattle.machine.specs.State.{State}
 use Rattle.call_contract.specs.Made.{memory}
 use Rattle.recording_split.specs.declared.LineStep.{LineStep}
-use Rattle.recording_split.specs.Held.{Holds, Stepped, Within}
-use Rattle.recording_run.specs.Run.{Store}
-use Rattle.recording_run.proofs.Feeding.{SoFar, start, one_line, amid, at-end}
-use Rattle.recording_run.proofs.replay_piece.Reads as reads
-use Rattle.recording_run.proofs.held_line.Reads as held-line-reads
-use Rattle.recording_run.proofs.print_result.Reads as print-result-reads
-use Rattle.recording_split.proofs.next_line.Reads as next-line-reads
+use Rattle.recording_split.specs.Held.{Stepped, Within}
+use Rattle.recording_run.proofs.Feeding.{start, one_line, amid, at-end}
 use Rattle.recording_run.proofs.replay_piece.Goals as goal
 
 -- src/lib.rt:72:5
@@ -54,7 +46,7 @@ loop-at-smaller c =
     let p = a.piece.now in
     let nl = c.next_line in
     let b = nl.new.line in
-        let w = subst (λ (r : LineStep). Within (length p) d.at (length d.line) r) c.in-Line.is nl.ensures.1 in
+    let w = subst (λ (r : LineStep). Within (length p) d.at (length d.line) r) c.in-Line.is nl.ensures.1 in
     omega (arith, w.1, w.2, c.loop-at-test.true)
 
 -- src/lib.rt:72:5
@@ -66,7 +58,7 @@ loop-at-preserved c =
     let p = a.piece.now in
     let nl = c.next_line in
     let b = nl.new.line in
-        let w = subst (λ (r : LineStep). Within (length p) d.at (length d.line) r) c.in-Line.is nl.ensures.1 in
+    let w = subst (λ (r : LineStep). Within (length p) d.at (length d.line) r) c.in-Line.is nl.ensures.1 in
     let hl = c.held_line-result in
     let pr = c.print_result in (
       nl.auto.line ∙ i.0,
@@ -130,7 +122,7 @@ returns-in-More c =
     let p = a.piece.now in
     let nl = c.next_line in
     let b = nl.new.line in
-        let w = subst (λ (r : LineStep). Within (length p) d.at (length d.line) r) c.in-More.is nl.ensures.1 in (
+    let w = subst (λ (r : LineStep). Within (length p) d.at (length d.line) r) c.in-More.is nl.ensures.1 in (
       (λ x A size s h y z st.
           let so = i.9 x A size s h y z st in
           let u = subst (λ (r : LineStep). Stepped p d.at so.now b r) c.in-More.is (nl.ensures.0 so.now so.held) in

@@ -1,20 +1,13 @@
 -- `recording_run::replay_piece` meets its contract. Assumes nothing.
-use native.Mathlib.Omega.{arith}
-use borrow.Author.Rules.{rules}
 use Prim.Native.Nat.{ℕ, ◌-◌, ◌*◌, ◌≤◌}
-use mathlib.Core.Path.{◌≡◌, refl, subst, ◌∙◌}
+use mathlib.Core.Path.{◌≡◌}
 use lib.ListN.{length}
 use Rattle.machine.specs.Names.{Bytes}
 use Rattle.machine.specs.State.{State}
 use Rattle.call_contract.specs.Made.{memory}
-use Rattle.recording_split.specs.declared.LineStep.{LineStep}
-use Rattle.recording_split.specs.Held.{Holds, Stepped, Within}
+use Rattle.recording_split.specs.Held.{Holds}
 use Rattle.recording_run.specs.Run.{Store}
-use Rattle.recording_run.proofs.Feeding.{SoFar, start, one_line, amid, at-end}
-use Rattle.recording_run.proofs.replay_piece.Reads as reads
-use Rattle.recording_run.proofs.held_line.Reads as held-line-reads
-use Rattle.recording_run.proofs.print_result.Reads as print-result-reads
-use Rattle.recording_split.proofs.next_line.Reads as next-line-reads
+use Rattle.recording_run.proofs.Feeding.{SoFar}
 use Rattle.recording_run.proofs.replay_piece.Given as goal
 
 abbrev pub invariant-loop-at : goal.invariant-loop-at

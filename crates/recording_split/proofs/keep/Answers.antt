@@ -1,5 +1,4 @@
 -- `recording_split::keep` meets its contract. Assumes nothing.
-use borrow.Author.Rules.{rules}
 use Rattle.recording_split.proofs.Holding.{still-over, now-over, stored}
 use native.Mathlib.Omega.{arith}
 use Rattle.recording_split.proofs.keep.Goals as goal

@@ -1,11 +1,8 @@
 -- `recording_split::next_line` meets its contract. Assumes nothing.
 use native.Mathlib.Omega.{arith}
-use Rattle.recording_split.proofs.Holding.{SoFar, start, no_more, a-line, one_more}
-use Rattle.recording_split.specs.Held.{Holds}
-use Rattle.machine.specs.Names.{Bytes}
-use lib.ListN.{length}
-use Prim.Native.Nat.{◌+◌, ◌-◌, ◌≤◌}
-use mathlib.Core.Path.{◌≡◌, refl, ◌∙◌}
+use Rattle.recording_split.proofs.Holding.{start, no_more, a-line, one_more}
+use Prim.Native.Nat.{◌-◌}
+use mathlib.Core.Path.{refl, ◌∙◌}
 use Rattle.recording_split.proofs.next_line.Goals as goal
 
 pub loop-i-init : goal.loop-i-init

@@ -1,11 +1,10 @@
 -- `recording_split::next_line` meets its contract. Assumes nothing.
-use native.Mathlib.Omega.{arith}
-use Rattle.recording_split.proofs.Holding.{SoFar, start, no_more, a-line, one_more}
+use Rattle.recording_split.proofs.Holding.{SoFar}
 use Rattle.recording_split.specs.Held.{Holds}
 use Rattle.machine.specs.Names.{Bytes}
 use lib.ListN.{length}
 use Prim.Native.Nat.{◌+◌, ◌-◌, ◌≤◌}
-use mathlib.Core.Path.{◌≡◌, refl, ◌∙◌}
+use mathlib.Core.Path.{◌≡◌}
 use Rattle.recording_split.proofs.next_line.Given as goal
 
 abbrev pub invariant-loop-i : goal.invariant-loop-i

@@ -1,6 +1,5 @@
 -- `recording_uploads::abort_line` meets its contract. Assumes nothing.
 use mathlib.Core.Bool.{not}
-use borrow.Author.Rules.{rules}
 use mathlib.Core.Path.{sym, ap, ◌∙◌}
 use lib.ListN.{drop}
 use Rattle.machine.specs.Calls.{no_buffers}
@@ -26,7 +25,7 @@ unfolding abort_rest
 returns-then-not-ends_line c =
     let a = c.args in
     let l = drop a.at a.line.now in
-        let e = ap (number_meant a.line.now) (sym c.in-Got.is) ∙ c.number_field.ensures in
+    let e = ap (number_meant a.line.now) (sym c.in-Got.is) ∙ c.number_field.ensures in
     let rest = drop c.in-Got.next a.line.now in
     λ x y. no_line x y no_buffers c.refusal-then-not-ends_line.result (whole_open entry.abort number l c.in-Got.value rest (sym e) (said-no c.ends_line.ensures (ap not c.if-not-ends_line.true))) c.refusal-then-not-ends_line.ensures
 
@@ -35,7 +34,7 @@ unfolding abort_rest
 returns-then-value-gt4294967295 c =
     let a = c.args in
     let l = drop a.at a.line.now in
-        let e = ap (number_meant a.line.now) (sym c.in-Got.is) ∙ c.number_field.ensures in
+    let e = ap (number_meant a.line.now) (sym c.in-Got.is) ∙ c.number_field.ensures in
     let rest = drop c.in-Got.next a.line.now in
     let m = wide-abort a.tables.now a.arena.now (λ i. (c.slice_known-1.given i).fits) c.in-Got.value c.if-value-gt4294967295.true in
     λ x y. a-line x y no_buffers (entry.abort c.in-Got.value) (whole-form entry.abort number l c.in-Got.value rest (sym e) (said-yes c.ends_line.ensures (ap not c.if-not-ends_line.false)))
@@ -46,7 +45,7 @@ unfolding abort_rest
 returns c =
     let a = c.args in
     let l = drop a.at a.line.now in
-        let e = ap (number_meant a.line.now) (sym c.in-Got.is) ∙ c.number_field.ensures in
+    let e = ap (number_meant a.line.now) (sym c.in-Got.is) ∙ c.number_field.ensures in
     let rest = drop c.in-Got.next a.line.now in
     λ x y. a-line x y no_buffers (entry.abort c.in-Got.value) (whole-form entry.abort number l c.in-Got.value rest (sym e) (said-yes c.ends_line.ensures (ap not c.if-not-ends_line.false)))
     c.abort.ensures.0

@@ -9,7 +9,6 @@ use Rattle.machine.specs.Calls.{no_buffers}
 use lib.Seq.{length-take-le}
 use lib.ListN.{take, drop}
 use mathlib.Core.Path.{sym, ap, ◌∙◌}
-use borrow.Author.Rules.{rules}
 use Rattle.recording_uploads.proofs.commit_line.Goals as goal
 
 pub returns-in_default : goal.returns-in_default
@@ -26,7 +25,7 @@ returns-then-not-ends_line c =
     let l = a.line.now in
     let w = c.read_commit in
     let o = w.new.list in
-        let e = ap (commit_meant l o) (sym c.in-Got.is) ∙ w.ensures.0 in
+    let e = ap (commit_meant l o) (sym c.in-Got.is) ∙ w.ensures.0 in
     let x = take c.in-Got.list o in
     let rest = drop c.in-Got.next l in
     λ b q. no_line b q no_buffers c.refusal-then-not-ends_line.result (open-commit (drop a.at l) c.in-Got.upload x rest e (said-no c.ends_line.ensures (ap not c.if-not-ends_line.true))) c.refusal-then-not-ends_line.ensures
@@ -37,7 +36,7 @@ returns-then-upload-gt4294967295 c =
     let l = a.line.now in
     let w = c.read_commit in
     let o = w.new.list in
-        let e = ap (commit_meant l o) (sym c.in-Got.is) ∙ w.ensures.0 in
+    let e = ap (commit_meant l o) (sym c.in-Got.is) ∙ w.ensures.0 in
     let x = take c.in-Got.list o in
     let rest = drop c.in-Got.next l in
     let q = said-yes c.ends_line.ensures (ap not c.if-not-ends_line.false) in
@@ -46,12 +45,12 @@ returns-then-upload-gt4294967295 c =
 pub slice_bounds-parts-end : goal.slice_bounds-parts-end
 slice_bounds-parts-end c =
     let w = c.read_commit in
-        omega (arith, ap commit_length (sym c.in-Got.is), w.ensures.1)
+    omega (arith, ap commit_length (sym c.in-Got.is), w.ensures.1)
 
 pub slice_bounds-commit-end : goal.slice_bounds-commit-end
 slice_bounds-commit-end c =
     let w = c.read_commit in
-        sym (length-take-le c.in-Got.list w.new.list (omega (arith, ap commit_length (sym c.in-Got.is), w.ensures.1)))
+    sym (length-take-le c.in-Got.list w.new.list (omega (arith, ap commit_length (sym c.in-Got.is), w.ensures.1)))
 
 pub returns : goal.returns
 returns c =
@@ -59,7 +58,7 @@ returns c =
     let l = a.line.now in
     let w = c.read_commit in
     let o = w.new.list in
-        let e = ap (commit_meant l o) (sym c.in-Got.is) ∙ w.ensures.0 in
+    let e = ap (commit_meant l o) (sym c.in-Got.is) ∙ w.ensures.0 in
     let x = take c.in-Got.list o in
     let rest = drop c.in-Got.next l in
     let q = said-yes c.ends_line.ensures (ap not c.if-not-ends_line.false) in

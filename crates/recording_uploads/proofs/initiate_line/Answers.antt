@@ -10,12 +10,6 @@ use Rattle.machine.specs.Calls.{no_buffers}
 use lib.Seq.{length-take-le}
 use lib.ListN.{take, drop}
 use mathlib.Core.Path.{sym, ap, subst, ◌∙◌}
-use borrow.Author.Rules.{rules}
-use Rattle.recording_uploads.proofs.initiate_line.Reads as reads
-use Rattle.call_initiate.proofs.initiate.Reads as initiate-reads
-use Rattle.recording_arguments.proofs.read_initiate.Reads as read-initiate-reads
-use Rattle.recording_line.proofs.refusal.Reads as refusal-reads
-use Rattle.recording_read.proofs.ends_line.Reads as ends-line-reads
 use Rattle.recording_uploads.proofs.initiate_line.Goals as goal
 
 -- src/multipart.rt:36:9
@@ -36,7 +30,7 @@ returns-then-not-ends_line c =
     let w = c.read_initiate in
     let x = w.new.path in
     let y = w.new.pairs in
-        let e = ap (initiate_meant l x y) (sym c.in-Got.is) ∙ w.ensures.0 in
+    let e = ap (initiate_meant l x y) (sym c.in-Got.is) ∙ w.ensures.0 in
     let p = take c.in-Got.path x in
     let m = take c.in-Got.pairs y in
     let rest = drop c.in-Got.next l in
@@ -52,7 +46,7 @@ slice_bounds-p-end c =
 pub slice_bounds-initiate-end : goal.slice_bounds-initiate-end
 slice_bounds-initiate-end c =
     let w = c.read_initiate in
-        let f = subst (λ (r : InitiateRead). InitiateFits r 2048 2048) c.in-Got.is w.ensures.1 in
+    let f = subst (λ (r : InitiateRead). InitiateFits r 2048 2048) c.in-Got.is w.ensures.1 in
     sym (length-take-le c.in-Got.path w.new.path (omega (arith, f.0)))
 
 -- src/multipart.rt:49:66
@@ -65,7 +59,7 @@ slice_bounds-m-end c =
 pub slice_bounds-initiate-end-2 : goal.slice_bounds-initiate-end-2
 slice_bounds-initiate-end-2 c =
     let w = c.read_initiate in
-        let f = subst (λ (r : InitiateRead). InitiateFits r 2048 2048) c.in-Got.is w.ensures.1 in
+    let f = subst (λ (r : InitiateRead). InitiateFits r 2048 2048) c.in-Got.is w.ensures.1 in
     sym (length-take-le c.in-Got.pairs w.new.pairs (omega (arith, f.1)))
 
 -- src/multipart.rt:20:1
@@ -76,7 +70,7 @@ returns c =
     let w = c.read_initiate in
     let x = w.new.path in
     let y = w.new.pairs in
-        let e = ap (initiate_meant l x y) (sym c.in-Got.is) ∙ w.ensures.0 in
+    let e = ap (initiate_meant l x y) (sym c.in-Got.is) ∙ w.ensures.0 in
     let p = take c.in-Got.path x in
     let m = take c.in-Got.pairs y in
     let rest = drop c.in-Got.next l in

@@ -16,12 +16,6 @@ use Prim.Native.Nat.{ℕ}
 use lib.Seq.{length-take-le}
 use lib.ListN.{take, drop}
 use mathlib.Core.Path.{sym, ap, ◌∙◌}
-use borrow.Author.Rules.{rules}
-use Rattle.recording_uploads.proofs.part_line.Reads as reads
-use Rattle.call_part.proofs.part.Reads as part-reads
-use Rattle.recording_arguments.proofs.read_part.Reads as read-part-reads
-use Rattle.recording_line.proofs.refusal.Reads as refusal-reads
-use Rattle.recording_read.proofs.ends_line.Reads as ends-line-reads
 use Rattle.recording_uploads.proofs.part_line.Goals as goal
 
 -- src/multipart.rt:68:9
@@ -44,7 +38,7 @@ returns-then-not-ends_line c =
     let w = c.read_part in
     let x = w.new.content in
     let m : ℕ × (ℕ × Bytes) → Entry = λ a. entry.part a.0 a.1.0 a.1.1 in
-        let e = ap (part_meant l x) (sym c.in-Got.is) ∙ w.ensures.0 in
+    let e = ap (part_meant l x) (sym c.in-Got.is) ∙ w.ensures.0 in
     let v : ℕ × (ℕ × Bytes) = (c.in-Got.upload, (c.in-Got.number, take c.in-Got.content x)) in
     let rest = drop c.in-Got.next l in
     λ b q. no_line b q no_buffers c.refusal-then-not-ends_line.result (whole_open m (both number (both number string)) (drop a.at l) v rest (sym e) (said-no c.ends_line.ensures (ap not c.if-not-ends_line.true))) c.refusal-then-not-ends_line.ensures
@@ -58,7 +52,7 @@ returns-then-upload-gt4294967295 c =
     let w = c.read_part in
     let x = w.new.content in
     let m : ℕ × (ℕ × Bytes) → Entry = λ a. entry.part a.0 a.1.0 a.1.1 in
-        let e = ap (part_meant l x) (sym c.in-Got.is) ∙ w.ensures.0 in
+    let e = ap (part_meant l x) (sym c.in-Got.is) ∙ w.ensures.0 in
     let v : ℕ × (ℕ × Bytes) = (c.in-Got.upload, (c.in-Got.number, take c.in-Got.content x)) in
     let rest = drop c.in-Got.next l in
     λ b q. a-line b q no_buffers (m v) (whole-form m (both number (both number string)) (drop a.at l) v rest (sym e) (said-yes c.ends_line.ensures (ap not c.if-not-ends_line.false)))
@@ -73,7 +67,7 @@ returns-then-number-gt65535 c =
     let w = c.read_part in
     let x = w.new.content in
     let m : ℕ × (ℕ × Bytes) → Entry = λ a. entry.part a.0 a.1.0 a.1.1 in
-        let e = ap (part_meant l x) (sym c.in-Got.is) ∙ w.ensures.0 in
+    let e = ap (part_meant l x) (sym c.in-Got.is) ∙ w.ensures.0 in
     let v : ℕ × (ℕ × Bytes) = (c.in-Got.upload, (c.in-Got.number, take c.in-Got.content x)) in
     let rest = drop c.in-Got.next l in
     λ b q. a-line b q no_buffers (m v) (whole-form m (both number (both number string)) (drop a.at l) v rest (sym e) (said-yes c.ends_line.ensures (ap not c.if-not-ends_line.false)))
@@ -87,7 +81,7 @@ slice_bounds-d-end c = omega (arith, ap part_length (sym c.in-Got.is), c.read_pa
 pub slice_bounds-part-end : goal.slice_bounds-part-end
 slice_bounds-part-end c =
     let w = c.read_part in
-        sym (length-take-le c.in-Got.content w.new.content (omega (arith, ap part_length (sym c.in-Got.is), w.ensures.1)))
+    sym (length-take-le c.in-Got.content w.new.content (omega (arith, ap part_length (sym c.in-Got.is), w.ensures.1)))
 
 -- src/multipart.rt:53:1
 pub returns : goal.returns
@@ -98,7 +92,7 @@ returns c =
     let w = c.read_part in
     let x = w.new.content in
     let m : ℕ × (ℕ × Bytes) → Entry = λ a. entry.part a.0 a.1.0 a.1.1 in
-        let e = ap (part_meant l x) (sym c.in-Got.is) ∙ w.ensures.0 in
+    let e = ap (part_meant l x) (sym c.in-Got.is) ∙ w.ensures.0 in
     let v : ℕ × (ℕ × Bytes) = (c.in-Got.upload, (c.in-Got.number, take c.in-Got.content x)) in
     let rest = drop c.in-Got.next l in
     λ b q. a-line b q no_buffers (m v) (whole-form m (both number (both number string)) (drop a.at l) v rest (sym e) (said-yes c.ends_line.ensures (ap not c.if-not-ends_line.false))) c.part.ensures

@@ -5,7 +5,6 @@ use lib.ListN.{take, replicate, length-take}
 use Rattle.base_buffer.proofs.Moving.{held}
 use Rattle.base_buffer.proofs.Rotating.{small-right}
 use native.Mathlib.Omega.{arith}
-use borrow.Author.Rules.{rules}
 use Rattle.base_buffer.proofs.blocks.rotate_small_right.Goals as goal
 
 pub slice_bounds-copy_at-end-3 : goal.slice_bounds-copy_at-end-3

@@ -1,8 +1,8 @@
 -- `base_buffer::blocks::swap` meets its contract. The invariant: `b` is what it was with the first k bytes of each block swapped. Assumes nothing.
-use mathlib.Core.Path.{◌≡◌, refl}
-use Prim.Native.Nat.{◌-◌, ◌≤◌}
-use lib.ListN.{length, length-set}
-use Rattle.base_buffer.proofs.Swapping.{swapped, swap-none, swap_step, swap-all}
+use mathlib.Core.Path.{refl}
+use Prim.Native.Nat.{◌-◌}
+use lib.ListN.{length-set}
+use Rattle.base_buffer.proofs.Swapping.{swap-none, swap_step, swap-all}
 use native.Mathlib.Omega.{arith}
 use Rattle.base_buffer.proofs.blocks.swap.Goals as goal
 

@@ -1,9 +1,8 @@
 -- `base_buffer::blocks::swap` meets its contract. The invariant: `b` is what it was with the first k bytes of each block swapped. Assumes nothing.
-use mathlib.Core.Path.{◌≡◌, refl}
+use mathlib.Core.Path.{◌≡◌}
 use Prim.Native.Nat.{◌-◌, ◌≤◌}
-use lib.ListN.{length, length-set}
-use Rattle.base_buffer.proofs.Swapping.{swapped, swap-none, swap_step, swap-all}
-use native.Mathlib.Omega.{arith}
+use lib.ListN.{length}
+use Rattle.base_buffer.proofs.Swapping.{swapped}
 use Rattle.base_buffer.proofs.blocks.swap.Given as goal
 
 abbrev pub invariant-loop-k : goal.invariant-loop-k

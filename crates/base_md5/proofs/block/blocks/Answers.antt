@@ -1,5 +1,5 @@
 -- `base_md5::block::blocks` meets its contract. The loop's invariant: v is the chain over the first i blocks. The measure is the blocks left. Assumes nothing.
-use Rattle.std.proofs.Common.{◌≡◌, ◌-◌, ◌*◌, ◌≤◌, length, refl, ap, ◌∙◌, arith, length-drop, length-take}
+use Rattle.std.proofs.Common.{◌≡◌, ◌-◌, refl, ap, ◌∙◌, arith, length-drop, length-take}
 use Rattle.base_md5.specs.Md5.{chain}
 use Rattle.base_md5.proofs.Chain.{chain_more}
 use Rattle.base_md5.proofs.block.blocks.Goals as goal

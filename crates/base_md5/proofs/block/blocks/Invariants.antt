@@ -1,7 +1,6 @@
 -- `base_md5::block::blocks` meets its contract. The loop's invariant: v is the chain over the first i blocks. The measure is the blocks left. Assumes nothing.
-use Rattle.std.proofs.Common.{◌≡◌, ◌-◌, ◌*◌, ◌≤◌, length, refl, ap, ◌∙◌, arith, length-drop, length-take}
+use Rattle.std.proofs.Common.{◌≡◌, ◌-◌, ◌*◌, ◌≤◌, length}
 use Rattle.base_md5.specs.Md5.{chain}
-use Rattle.base_md5.proofs.Chain.{chain_more}
 use Rattle.base_md5.proofs.block.blocks.Given as goal
 
 abbrev pub invariant-loop-i : goal.invariant-loop-i

@@ -1,5 +1,5 @@
 -- `base_md5::block::operation` meets its contract: the sums and the rotation are those of the definition (`Steps.stepped`). Assumes nothing.
-use Rattle.std.proofs.Common.{get_or, rules}
+use Rattle.std.proofs.Common.{get_or}
 use Rattle.base_md5.proofs.Steps.{stepped}
 use Rattle.base_md5.proofs.block.operation.Goals as goal
 

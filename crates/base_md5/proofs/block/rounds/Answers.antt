@@ -1,5 +1,5 @@
 -- `base_md5::block::rounds` meets its contract: its rows are those of the tables (`Rows`). Assumes nothing.
-use Rattle.std.proofs.Common.{ap, ◌∙◌, rules}
+use Rattle.std.proofs.Common.{ap, ◌∙◌}
 use Rattle.base_md5.specs.Md5.{table, round}
 use Rattle.base_md5.specs.declared.block.Round.TheVariants.{First, Second, Third, Fourth}
 use Rattle.base_md5.proofs.Rows.{sixteen}

@@ -1,6 +1,5 @@
 -- `base_md5::block::row` meets its contract: its four operations, one after the other (`Rows.four`). Assumes nothing.
 use Rattle.base_md5.proofs.Rows.{four}
-use Rattle.std.proofs.Common.{rules}
 use Rattle.base_md5.proofs.block.row.Goals as goal
 
 pub returns : goal.returns

@@ -1,5 +1,5 @@
 -- `bench_md5_bytes::block::blocks` meets its contract. The loop's invariant: the first i blocks are in m. The measure is the blocks left. Assumes nothing.
-use Rattle.std.proofs.Common.{◌-◌, ◌*◌, ◌≤◌, length, arith, length-drop, length-take, rules}
+use Rattle.std.proofs.Common.{◌-◌, ◌*◌, ◌≤◌, length}
 use Rattle.bench_md5_bytes.proofs.block.blocks.Given as goal
 
 abbrev pub invariant-loop-i : goal.invariant-loop-i

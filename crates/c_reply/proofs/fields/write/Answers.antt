@@ -1,6 +1,5 @@
 -- `c_reply::fields::write` meets its contract, for each kind of etag. Assumes nothing.
 use Rattle.c_reply.proofs.Places.{zero-digest}
-use borrow.Author.Rules.{rules}
 use Rattle.c_reply.proofs.fields.write.Goals as goal
 
 pub returns-in-Absent : goal.returns-in-Absent

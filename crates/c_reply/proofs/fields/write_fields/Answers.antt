@@ -3,7 +3,6 @@ use mathlib.Core.Path.{◌∙◌}
 use Rattle.base_md5.specs.Md5.{bytes_of}
 use Rattle.base_md5.specs.Md5Laws.{length-bytes_of}
 use Rattle.c_reply.proofs.Places.{written}
-use borrow.Author.Rules.{rules}
 use Rattle.c_reply.proofs.fields.write_fields.Goals as goal
 
 pub shape_of-reply : goal.shape_of-reply

@@ -8,7 +8,6 @@ use lib.Seq.{length-take-le}
 use Rattle.base_number.specs.Number.{le}
 use Rattle.base_number.proofs.NumberLaws.{length-le}
 use Rattle.base_number.proofs.Fields.{front-next}
-use borrow.Author.Rules.{rules}
 use Rattle.c_reply.proofs.fields.write_pairs.Goals as goal
 
 pub returns : goal.returns

@@ -1,5 +1,4 @@
 -- `c_reply::fields::write_swept` meets its contract: the fields of a sweep, and no etag. Assumes nothing.
-use borrow.Author.Rules.{rules}
 use Rattle.c_reply.proofs.Places.{zero-digest}
 use Rattle.c_reply.proofs.fields.write_swept.Goals as goal
 

@@ -1,8 +1,6 @@
 -- `call_delete_objects::judge::refusal` meets its contract: whole, then the checks of the list. Assumes nothing.
-use mathlib.Core.Path.{ap}
+use mathlib.Core.Path.{ap, ◌≡◌}
 use mathlib.Core.Bool.{not}
-use mathlib.Core.Path.{◌≡◌}
-use borrow.Author.Rules.{rules}
 use borrow.Author.Tests.{eq-eqb, ne_eqb, le-leb, lt-leb}
 use Rattle.machine.proofs.Tests.{said-no, said-yes}
 use Rattle.call_contract.specs.Made.{memory}

@@ -3,7 +3,6 @@ use Prim.Native.Nat.{ℕ, ◌+◌, ◌*◌, ◌-◌, ◌<◌, ◌≤◌, ◌/◌
 use mathlib.Core.Path.{subst}
 use native.Mathlib.Omega.{arith}
 use mathlib.Core.List.{List}
-use borrow.Author.Rules.{rules}
 use lib.ListN.{length}
 use Rattle.call_contract.specs.Answers.{places_in, left_over}
 use Rattle.call_contract.specs.Made.{memory}
@@ -11,7 +10,7 @@ use Rattle.call_delete_objects.specs.Judged.{Judged, turns_of}
 use Rattle.call_delete_objects.specs.PlaceDone.{place_of}
 use Rattle.call_delete_objects.proofs.PlacesInBytes.{packed-length, packed-at, packed-fits}
 use Rattle.call_delete_objects.proofs.Judging.{turn-taken}
-use Rattle.call_delete_objects.proofs.Walking.{Walked, start, ready, turn, finish}
+use Rattle.call_delete_objects.proofs.Walking.{start, ready, turn, finish}
 use Rattle.call_delete_objects.proofs.packed.delete_packed.Goals as goal
 
 pub loop-i-init : goal.loop-i-init

@@ -1,6 +1,5 @@
 -- `call_delete_objects::place::delete_place` meets its contract: outside the names, or the DELETE of the path there. Assumes nothing.
 use mathlib.Core.Path.{refl}
-use borrow.Author.Rules.{rules}
 use Rattle.call_contract.specs.Made.{memory}
 use Rattle.call_delete_objects.specs.PlaceDone.{place_of}
 use Rattle.call_delete_objects.proofs.OnePlace.{outside, inside}

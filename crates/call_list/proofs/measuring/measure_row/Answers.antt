@@ -1,7 +1,6 @@
 -- `call_list::measuring::measure_row` meets its contract: nothing, or the length of the record. Assumes nothing.
 use mathlib.Core.Bool.{not}
 use native.Mathlib.Omega.{arith}
-use borrow.Author.Rules.{rules}
 use mathlib.Core.Path.{ap, ◌∙◌}
 use lib.ListN.{length, drop}
 use Rattle.machine.proofs.Tests.{said-no, said-yes}

@@ -3,16 +3,14 @@ use Prim.Native.Nat.{ℕ, ◌+◌, ◌-◌, ◌*◌, ◌≤◌, ◌<◌}
 use mathlib.Core.Path.{◌≡◌, refl, ap, ◌∙◌}
 use mathlib.Core.List.{List}
 use native.Mathlib.Omega.{arith}
-use borrow.Author.Rules.{rules}
 use lib.ListN.{length, drop}
 use Rattle.machine.specs.State.{State}
 use Rattle.mem_row.specs.declared.Head.{Head}
 use Rattle.mem_row.specs.Row.{head_at, span}
 use Rattle.mem_layout.specs.Memory.{state_of, Stands}
 use Rattle.mem_layout.proofs.WholeLaws.{whole-stands}
-use Rattle.call_list.specs.Rows.{AllListed}
 use Rattle.call_list.proofs.Places.{no_place, placed-next}
-use Rattle.call_list.proofs.ObjectRows.{Walked, row_inside, walked_none, walked_next, walked_all}
+use Rattle.call_list.proofs.ObjectRows.{row_inside, walked_none, walked_next, walked_all}
 use Rattle.call_list.proofs.measuring.measure_rows.Goals as goal
 
 pub loop-i-init : goal.loop-i-init

@@ -1,6 +1,5 @@
 -- `call_list::measuring::note_row` meets its contract: nothing, or two bytes. Assumes nothing.
 use borrow.Author.Tests.{eq-eqb, ne_eqb}
-use borrow.Author.Rules.{rules}
 use Rattle.call_list.proofs.measuring.note_row.Goals as goal
 
 pub returns-then-records-eq0 : goal.returns-then-records-eq0

@@ -1,5 +1,4 @@
 -- `call_list::measuring::text_length` meets its contract: 32 digits, and "-" with the count. Assumes nothing.
-use borrow.Author.Rules.{rules}
 use native.Mathlib.Omega.{arith}
 use Rattle.call_list.proofs.RowLengths.{text-plain, text-joined}
 use Rattle.call_list.proofs.measuring.text_length.Goals as goal

@@ -2,7 +2,6 @@
 use mathlib.Core.Path.{ap}
 use mathlib.Core.Bool.{not}
 use native.Mathlib.Omega.{arith}
-use borrow.Author.Rules.{rules}
 use Rattle.machine.proofs.Tests.{said-no, said-yes}
 use Rattle.call_list.proofs.RowLengths.{long-enough, has-not, has_rest}
 use Rattle.call_list.proofs.paths.has_path.Goals as goal

@@ -1,7 +1,6 @@
 -- `call_list::paths::has_row` meets its contract: the path of the row is tested. Assumes nothing.
 use mathlib.Core.Path.{ap, ◌∙◌}
 use native.Mathlib.Omega.{arith}
-use borrow.Author.Rules.{rules}
 use Rattle.mem_row.specs.declared.Head.{Head}
 use Rattle.machine.specs.Steps.{is_listed}
 use Rattle.call_list.proofs.RowLengths.{path-read}

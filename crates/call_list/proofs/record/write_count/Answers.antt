@@ -4,7 +4,6 @@ use lib.ListN.{length, length-set}
 use Rattle.base_text.specs.Text.{decimal}
 use Rattle.call_list.proofs.RecordBytes.{byte_next}
 use native.Mathlib.Omega.{arith}
-use borrow.Author.Rules.{rules}
 use Rattle.call_list.proofs.record.write_count.Goals as goal
 
 pub put_decimal-requires : goal.put_decimal-requires

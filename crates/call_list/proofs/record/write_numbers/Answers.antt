@@ -3,7 +3,6 @@ use Prim.Native.Nat.{◌+◌}
 use mathlib.Core.Path.{◌∙◌}
 use lib.ListN.{length-set}
 use Rattle.call_list.proofs.RecordBytes.{numbers-written}
-use borrow.Author.Rules.{rules}
 use Rattle.call_list.proofs.record.write_numbers.Goals as goal
 
 pub shape_of-answer : goal.shape_of-answer

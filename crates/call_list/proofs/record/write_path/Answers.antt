@@ -2,7 +2,6 @@
 use mathlib.Core.Path.{◌∙◌}
 use lib.ListN.{length-set}
 use Rattle.call_list.proofs.RecordBytes.{path-fits, path-written}
-use borrow.Author.Rules.{rules}
 use Rattle.call_list.proofs.record.write_path.Goals as goal
 
 pub copy_at-requires : goal.copy_at-requires

@@ -11,7 +11,6 @@ use Rattle.mem_layout.specs.Memory.{row_etag}
 use Rattle.call_list.proofs.RowLengths.{digest-length}
 use Rattle.call_list.proofs.RecordBytes.{path_inside, path_room, numbers-room, etag-room, record-long, record-written}
 use native.Mathlib.Omega.{arith}
-use borrow.Author.Rules.{rules}
 use Rattle.call_list.proofs.record.write_record.Goals as goal
 
 pub data_length-size-requires : goal.data_length-size-requires
@@ -61,8 +60,7 @@ returns c =
     let b : List ℕ = c.args.answer.now in
     let h : Head = c.read_head-h.result in
     let measured : c.text_length-k.result ≡ length (text (row_etag h.kind (digest_at (drop c.args.at t)) h.count)) = c.text_length-k.ensures.1 (digest_at (drop c.args.at t)) (digest-length t c.args.at c.requires.0) in
-    let sized : c.data_length-size.result ≡ (head_at (drop c.args.at t)).size - sum_of (lengths_at (drop c.args.at t)) = c.data_length-size.ensures ∙ ap (λ (x : Head). x.size - sum_of (lengths_at (drop c.args.at t))) c.read_head-h.ensures in
-    (
+    let sized : c.data_length-size.result ≡ (head_at (drop c.args.at t)).size - sum_of (lengths_at (drop c.args.at t)) = c.data_length-size.ensures ∙ ap (λ (x : Head). x.size - sum_of (lengths_at (drop c.args.at t))) c.read_head-h.ensures in (
       record-long (t) (b) c.args.at c.args.to (h) _ _ c.requires.0 c.read_head-h.ensures (measured) (sized),
       record-written (t) (b) c.args.at c.args.to (h) _ _ c.requires.0 c.read_head-h.ensures (measured) (sized) _ _ _ c.requires.1 c.write_path.ensures c.write_numbers.ensures c.write_text.ensures,
     )

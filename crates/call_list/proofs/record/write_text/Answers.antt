@@ -1,6 +1,5 @@
 -- `call_list::record::write_text` meets its contract: the digits, and a joined etag's count after them. Assumes nothing.
 use Rattle.call_list.proofs.RecordBytes.{text-room, count_room, plain-written, joined-written}
-use borrow.Author.Rules.{rules}
 use Rattle.call_list.proofs.record.write_text.Goals as goal
 
 pub put_hex-requires : goal.put_hex-requires

@@ -3,12 +3,11 @@ use Prim.Native.Nat.{ℕ, ◌-◌}
 use mathlib.Core.Path.{◌∙◌}
 use mathlib.Core.List.{List}
 use native.Mathlib.Omega.{arith}
-use borrow.Author.Rules.{rules}
 use Rattle.machine.specs.State.{State}
 use Rattle.mem_layout.specs.Memory.{state_of, Stands}
 use Rattle.mem_layout.proofs.WholeLaws.{whole-stands}
 use Rattle.call_list.specs.Rows.{ListedAt}
-use Rattle.call_list.proofs.Places.{Put, put-none, put-room, put_next, put_all, place_inside, place-pairs}
+use Rattle.call_list.proofs.Places.{put-none, put-room, put_next, put_all, place_inside, place-pairs}
 use Rattle.call_list.proofs.writing.write_rows.Goals as goal
 
 pub loop-i-init : goal.loop-i-init

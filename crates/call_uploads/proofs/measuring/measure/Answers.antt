@@ -8,9 +8,8 @@ use lib.ListN.{length}
 use Rattle.machine.specs.State.{State}
 use Rattle.mem_layout.specs.Memory.{state_of, Stands}
 use Rattle.mem_layout.proofs.WholeLaws.{whole-stands}
-use Rattle.call_uploads.specs.Notes.{AllNoted}
 use Rattle.call_uploads.proofs.UploadRows.{first-place, Entry, row_open, row-place, row_low, entry}
-use Rattle.call_uploads.proofs.Measured.{Measured, measured-none, measured-next, measured-all}
+use Rattle.call_uploads.proofs.Measured.{measured-none, measured-next, measured-all}
 use Rattle.call_uploads.proofs.Noted.{no_note, noted-next}
 use Rattle.call_uploads.proofs.measuring.measure.Goals as goal
 
@@ -29,8 +28,7 @@ read_upload-u-requires c =
     let s : State = state_of t a in
     let stands : Stands t a s = whole-stands t a (λ j. (c.shared_slice_known-1.given j).fits) c.requires.0 in
     let counted : c.read_counts-counts.result.uploads ≡ length s.U = c.read_counts-counts.ensures.uploads in
-    let more : c.loop-i.i < length (s).U = let n = c.loop-i-test.true in omega (arith, counted) in
-    (
+    let more : c.loop-i.i < length (s).U = let n = c.loop-i-test.true in omega (arith, counted) in (
       c.requires.0,
       row_open (t) (a) (s) (stands) c.loop-i.i c.loop-i.here c.loop-i.invariant.0.rows (more),
       row-place (t) (a) (s) (stands) c.loop-i.i c.loop-i.here c.loop-i.invariant.0.rows (more),

@@ -2,7 +2,6 @@
 use mathlib.Core.Path.{ap}
 use mathlib.Core.Bool.{not}
 use native.Mathlib.Omega.{arith}
-use borrow.Author.Rules.{rules}
 use Rattle.machine.proofs.Tests.{said-no, said-yes}
 use Rattle.call_uploads.proofs.measuring.measure_one.Goals as goal
 

@@ -2,7 +2,6 @@
 use Prim.Native.Nat.{◌+◌, ◌*◌}
 use mathlib.Core.Path.{refl}
 use native.Mathlib.Omega.{arith}
-use borrow.Author.Rules.{rules}
 use Rattle.base_number.specs.Number.{le}
 use Rattle.base_number.proofs.NumberLaws.{length-le}
 use Rattle.call_uploads.proofs.RecordBytes.{next_field}

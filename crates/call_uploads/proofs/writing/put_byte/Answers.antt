@@ -1,6 +1,5 @@
 -- `call_uploads::writing::put_byte` meets its contract. Assumes nothing.
 use native.Mathlib.Omega.{arith}
-use borrow.Author.Rules.{rules}
 use Rattle.base_number.proofs.Halves.{put_byte}
 use Rattle.call_uploads.proofs.writing.put_byte.Goals as goal
 

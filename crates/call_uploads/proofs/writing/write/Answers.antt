@@ -1,7 +1,7 @@
 -- `call_uploads::writing::write` meets its contract. The invariant: the records of the first i notes stand at the front. Assumes nothing.
-use Prim.Native.Nat.{ℕ, ◌-◌, ◌≤◌}
+use Prim.Native.Nat.{ℕ, ◌-◌}
 use mathlib.Core.List.{List}
-use Rattle.call_uploads.proofs.Written.{Written, written_none, row-stands, written-fits, written_next, written_all}
+use Rattle.call_uploads.proofs.Written.{written_none, row-stands, written-fits, written_next, written_all}
 use native.Mathlib.Omega.{arith}
 use Rattle.call_uploads.proofs.writing.write.Goals as goal
 
@@ -25,7 +25,7 @@ loop-i-preserved c =
     let notes : List ℕ = c.args.notes.now in
     let b₀ : List ℕ = c.args.answer.now in
     let w = c.write_row-to in
-                let g = c.loop-i in (
+    let g = c.loop-i in (
       written_next (t) (notes) (b₀) g.answer g.i g.to g.invariant.0 c.get_u16-at.result c.get_u16-parts.result c.get_u16-at.ensures c.get_u16-parts.ensures _ _ w.ensures w.auto.answer,
       omega arith,
     )

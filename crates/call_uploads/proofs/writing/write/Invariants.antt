@@ -1,8 +1,6 @@
 -- `call_uploads::writing::write` meets its contract. The invariant: the records of the first i notes stand at the front. Assumes nothing.
-use Prim.Native.Nat.{ℕ, ◌-◌, ◌≤◌}
-use mathlib.Core.List.{List}
-use Rattle.call_uploads.proofs.Written.{Written, written_none, row-stands, written-fits, written_next, written_all}
-use native.Mathlib.Omega.{arith}
+use Prim.Native.Nat.{◌-◌, ◌≤◌}
+use Rattle.call_uploads.proofs.Written.{Written}
 use Rattle.call_uploads.proofs.writing.write.Given as goal
 
 abbrev pub invariant-loop-i : goal.invariant-loop-i

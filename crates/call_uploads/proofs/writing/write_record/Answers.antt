@@ -1,5 +1,4 @@
 -- `call_uploads::writing::write_record` meets its contract: five writes, one after the other. Assumes nothing.
-use borrow.Author.Rules.{rules}
 use Rattle.call_uploads.proofs.RecordBytes.{record-written}
 use Rattle.call_uploads.proofs.writing.write_record.Goals as goal
 

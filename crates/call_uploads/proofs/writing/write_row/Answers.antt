@@ -1,7 +1,6 @@
 -- `call_uploads::writing::write_row` meets its contract: the path is a part of the tables. Assumes nothing.
 use mathlib.Core.Path.{ap, ◌∙◌}
 use native.Mathlib.Omega.{arith}
-use borrow.Author.Rules.{rules}
 use lib.ListN.{length}
 use Rattle.mem_row.specs.declared.Head.{Head}
 use Rattle.call_uploads.proofs.RecordBytes.{row-path, length-path, length-row, row_written}

@@ -4,7 +4,6 @@ use mathlib.Core.Path.{◌≡◌, sym, ap, ◌∙◌}
 use mathlib.Core.List.{List}
 use native.Mathlib.Omega.{arith}
 use lib.ListN.{length, take, drop}
-use borrow.Author.Rules.{rules}
 use Rattle.base_number.specs.Number.{replaced_at}
 use Rattle.machine.specs.Pairs.{pairs_held, pair_list}
 use Rattle.machine.proofs.PairLaws.{formed-is, held-is}
@@ -59,7 +58,7 @@ returns c =
     let held-there : c.held.result ≡ pairs_held (kept_of pairs) = c.held.ensures ∙ sym (held-is (pair_list pairs) c.requires.taken) in
     let w = c.write_block in
     let m = c.copy_within in
-        let k = c.args in
+    let k = c.args in
     let n = held-there in
     block-replaced (a) k.at k.old k.held (pairs) (content) k.lengths.now c.requires m.new.b w.new.arena _ w.result
     (m.ensures ∙ ap (λ (i : ℕ). replaced_at (a) (k.at + (i + length (content))) (take (k.held - (k.at + k.old)) (drop (k.at + k.old) (a))) (k.held - (k.at + k.old))) n)

@@ -2,7 +2,6 @@
 use Prim.Native.Nat.{ℕ}
 use mathlib.Core.List.{List}
 use native.Mathlib.Omega.{arith}
-use borrow.Author.Rules.{rules}
 use Rattle.mem_edit.proofs.BlockLaws as laws
 use Rattle.mem_edit.proofs.blocks.write_block.Goals as goal
 

@@ -4,7 +4,6 @@ use mathlib.Core.Path.{◌≡◌, ◌∙◌}
 use mathlib.Core.List.{List}
 use native.Mathlib.Omega.{arith}
 use lib.ListN.{length}
-use borrow.Author.Rules.{rules}
 use Rattle.base_number.specs.Number.{AreBytes}
 use Rattle.mem_layout.specs.Memory.{state_of}
 use Rattle.mem_edit.specs.Objects.{Movable}
@@ -129,5 +128,5 @@ returns c =
     let row = c.put_row in
     let cut = c.remove in
     let turned = c.rotate in
-        let k : length cut.new.b ≡ length (a) = omega (arith, cut.auto, turned.auto) in
+    let k : length cut.new.b ≡ length (a) = omega (arith, cut.auto, turned.auto) in
     (puts).moved (lengths) (size) (block).lengths-are (block).size_is row.new.tables turned.new.b cut.new.b row.ensures (block).block-is turned.ensures cut.ensures row.auto.tables k

@@ -5,7 +5,6 @@ use mathlib.Core.List.{List}
 use native.Mathlib.Omega.{arith}
 use lib.ListN.{take}
 use lib.Seq.{length-take-le}
-use borrow.Author.Rules.{rules}
 use Rattle.base_number.specs.Number.{AreBytes}
 use Rattle.mem_layout.specs.Memory.{state_of}
 use Rattle.mem_edit.specs.Blocks.{kept_of}
@@ -64,5 +63,5 @@ returns c =
     (omega arith) (omega arith) c.requires.2.1 c.old_row-old.result old-is in
     let lengths : List ℕ = take c.replace_block-block.result.lengths c.replace_block-block.new.lengths in
     let row = c.put_row in
-        let b = c.replace_block-block in
+    let b = c.replace_block-block in
     (puts).stands (lengths) b.result.bytes b.ensures.lengths b.ensures.bytes row.new.tables b.new.arena row.ensures b.ensures.block row.auto.tables b.auto.arena

@@ -1,7 +1,6 @@
 -- `mem_edit::objects::put_row` meets its contract: the row is written, and the header. Assumes nothing.
 use mathlib.Core.Path.{ap, ◌∙◌}
 use native.Mathlib.Omega.{arith}
-use borrow.Author.Rules.{rules}
 use Prim.Native.Nat.{◌+◌, ◌-◌}
 use Rattle.base_buffer.specs.Buffer.{spliced}
 use Rattle.base_md5.specs.Md5.{bytes_of}

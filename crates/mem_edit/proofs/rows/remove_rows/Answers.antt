@@ -3,7 +3,6 @@ use Prim.Native.Nat.{ℕ}
 use mathlib.Core.Path.{ap, ◌∙◌}
 use mathlib.Core.List.{List}
 use Rattle.mem_layout.specs.Header.{headed}
-use borrow.Author.Rules.{rules}
 use Rattle.mem_edit.proofs.rows.remove_rows.Goals as goal
 
 pub returns : goal.returns

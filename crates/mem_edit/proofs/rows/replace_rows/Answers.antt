@@ -10,7 +10,6 @@ use Rattle.mem_layout.specs.Header.{headed}
 use Rattle.mem_row.specs.Row.{row_bytes, head_length}
 use Rattle.mem_row.proofs.RowFields.{row-front, length-row_bytes}
 use native.Mathlib.Omega.{arith}
-use borrow.Author.Rules.{rules}
 use Rattle.mem_edit.proofs.rows.replace_rows.Goals as goal
 
 pub slice_bounds-splice-end : goal.slice_bounds-splice-end

@@ -1,6 +1,5 @@
 -- `mem_edit_uploads::parts::put_part` meets its contract: row and data stand in the place of the old ones. Assumes nothing.
 use native.Mathlib.Omega.{arith}
-use borrow.Author.Rules.{rules}
 use Rattle.mem_edit.proofs.ObjectEdits.{header-inside}
 use Rattle.mem_edit_uploads.proofs.PartEdits.{old-inside, Putting, putting}
 use Rattle.mem_edit_uploads.proofs.parts.put_part.Goals as goal

@@ -2,7 +2,6 @@
 use mathlib.Core.Path.{ap, ◌∙◌, sym}
 use Prim.Native.Nat.{◌+◌}
 use native.Mathlib.Omega.{arith}
-use borrow.Author.Rules.{rules}
 use Rattle.mem_layout.specs.declared.Header.{Header}
 use Rattle.mem_layout.specs.Memory.{Stands, state_of}
 use Rattle.mem_layout.proofs.RowCounts.{length-rows}

@@ -2,7 +2,6 @@
 use Prim.Native.Nat.{Ordering}
 use mathlib.Core.Path.{◌≡◌, sym, ap, ◌∙◌}
 use mathlib.Core.Logic.{inl}
-use borrow.Author.Rules.{rules}
 use Rattle.base_order.specs.Order.{by_bytes}
 use Rattle.base_order.proofs.Answers.{answer-less, answer-equal, answer-greater}
 use Rattle.base_order.proofs.OrderLaws.{bytes}

@@ -1,7 +1,6 @@
 -- `mem_find::pairs::pairs_size` meets its contract. Assumes nothing.
 use mathlib.Core.Path.{ap, ◌∙◌}
 use native.Mathlib.Omega.{arith}
-use borrow.Author.Rules.{rules}
 use lib.ListN.{length, length-drop}
 use Rattle.mem_row.specs.Row.{span_at}
 use Rattle.pairs_stored.specs.Stored.{sum_of}

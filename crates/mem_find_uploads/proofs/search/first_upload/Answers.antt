@@ -3,7 +3,6 @@ use mathlib.Core.Path.{ap}
 use Rattle.mem_scan.specs.declared.Offsets.{Offsets}
 use Rattle.mem_layout.proofs.WholeLaws.{whole-stands}
 use Rattle.mem_find_uploads.proofs.UploadsFrom.{first-upload-row}
-use borrow.Author.Rules.{rules}
 use Rattle.mem_find_uploads.proofs.search.first_upload.Goals as goal
 
 pub returns : goal.returns

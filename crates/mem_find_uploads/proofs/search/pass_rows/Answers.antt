@@ -3,7 +3,6 @@ use Prim.Native.Nat.{ℕ, ◌+◌, ◌-◌, ◌≤◌, ◌<◌}
 use mathlib.Core.Path.{◌≡◌, refl, sym, ap, ◌∙◌}
 use mathlib.Core.List.{List}
 use native.Mathlib.Omega.{arith}
-use borrow.Author.Rules.{rules}
 use lib.ListN.{length}
 use Rattle.machine.specs.State.{State}
 use Rattle.mem_row.specs.Row.{head_length, span, head_of}
@@ -11,7 +10,7 @@ use Rattle.mem_layout.specs.Memory.{state_of, rows_of, Stands}
 use Rattle.mem_layout.proofs.WholeLaws.{whole-stands}
 use Rattle.mem_find.specs.RowPlaces.{IsRowPlace}
 use Rattle.mem_find_uploads.specs.Search.{sought, stops_at}
-use Rattle.mem_find_uploads.proofs.Walk.{row_place, Reached, Turn, reached-place, place-reached, rows_few, row_inside, row-turn, sought-on}
+use Rattle.mem_find_uploads.proofs.Walk.{row_place, Turn, reached-place, place-reached, rows_few, row_inside, row-turn, sought-on}
 use Rattle.mem_find_uploads.proofs.search.pass_rows.Goals as goal
 
 pub loop-row-init : goal.loop-row-init

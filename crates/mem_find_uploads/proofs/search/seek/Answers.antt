@@ -3,14 +3,13 @@ use Prim.Native.Nat.{ℕ, ◌+◌, ◌-◌, ◌<◌}
 use mathlib.Core.Path.{◌≡◌, refl, sym, ap, ◌∙◌}
 use mathlib.Core.List.{List}
 use native.Mathlib.Omega.{arith}
-use borrow.Author.Rules.{rules}
 use lib.ListN.{length}
 use Rattle.machine.specs.State.{State}
 use Rattle.mem_row.specs.Row.{head_of}
 use Rattle.mem_layout.specs.Memory.{state_of, rows_of, Stands}
 use Rattle.mem_layout.proofs.WholeLaws.{whole-stands}
 use Rattle.mem_find.specs.declared.RowPlace.{RowPlace}
-use Rattle.mem_find.specs.RowPlaces.{IsRowPlace, row_place_at}
+use Rattle.mem_find.specs.RowPlaces.{row_place_at}
 use Rattle.mem_find_uploads.specs.Search.{sought, stops_at}
 use Rattle.mem_find_uploads.proofs.Walk.{Reached, Turn, place-reached, row_inside, row-turn, sought-end, sought-here, sought-on}
 use Rattle.mem_find_uploads.proofs.search.seek.Goals as goal
@@ -92,8 +91,7 @@ loop-here-preserved c =
     let more : (here).row < length (rows_of (s)) = let n = c.loop-here-test.true in omega (arith, counted) in
     let turn : Turn (t) (a) (s) (here).row (here).at (here).base c.read_head-h.result = row-turn (t) (a) (s) (stands) (here).row (here).at (here).base (reached) (more) c.read_head-h.result c.read_head-h.ensures in
     let told : c.stops.result ≡ stops_at c.args.goal (head_of (turn).row) = c.stops.ensures ∙ ap (stops_at c.args.goal) (turn).same in
-    let next-number : c.next_row-next.result.row ≡ (here).row + 1 = ap (λ (p : RowPlace). p.row) c.next_row-next.ensures in
-    (
+    let next-number : c.next_row-next.result.row ≡ (here).row + 1 = ap (λ (p : RowPlace). p.row) c.next_row-next.ensures in (
       c.pass_rows-here-in-loop-here.ensures.1,
       c.loop-here.invariant.1
           ∙ sought-on _ _ _ (turn).row (turn).here (sym (told) ∙ c.if-stops.false)

@@ -4,7 +4,6 @@ use Prim.Native.Nat.{ℕ}
 use Rattle.mem_layout.specs.Memory.{state_of, rows_of}
 use Rattle.mem_find_uploads.specs.Search.{sought}
 use Rattle.mem_find_uploads.proofs.Answers.{is-row-place, place-row, uploads-within}
-use borrow.Author.Rules.{rules}
 use Rattle.mem_find_uploads.proofs.search.seek_uploads.Goals as goal
 
 pub seek-requires : goal.seek-requires

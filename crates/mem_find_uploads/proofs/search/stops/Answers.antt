@@ -1,5 +1,4 @@
 -- `mem_find_uploads::search::stops` meets its contract. Assumes nothing.
-use borrow.Author.Rules.{rules}
 use borrow.Author.Tests.{eq-eqb, ne_eqb}
 use Rattle.mem_find_uploads.specs.Search.{stops_at}
 use Rattle.mem_find_uploads.proofs.search.stops.Goals as goal

@@ -2,7 +2,6 @@
 use Prim.Native.Nat.{◌+◌}
 use mathlib.Core.Path.{sym, subst, ◌∙◌}
 use native.Mathlib.Omega.{arith}
-use borrow.Author.Rules.{rules}
 use Rattle.mem_layout.specs.Memory.{state_of, rows_of}
 use Rattle.mem_find.specs.Known.{rows_in}
 use Rattle.mem_find.specs.RowPlaces.{IsRow}

@@ -1,6 +1,5 @@
 -- `mem_find_uploads::uploads::find_part_from` meets its contract: the search among the parts of an open upload. Assumes nothing.
 use mathlib.Core.Path.{◌∙◌}
-use borrow.Author.Rules.{rules}
 use Rattle.machine.specs.State.{State}
 use Rattle.mem_layout.specs.Memory.{state_of, rows_of}
 use Rattle.mem_find_uploads.proofs.Answers.{sought-row-place, found_part}

@@ -1,6 +1,5 @@
 -- `mem_find_uploads::uploads::find_upload` meets its contract: what stands there tells whether it is the upload. Assumes nothing.
 use mathlib.Core.Path.{◌∙◌}
-use borrow.Author.Rules.{rules}
 use Rattle.mem_layout.specs.Memory.{state_of, rows_of}
 use Rattle.mem_find_uploads.proofs.Answers.{sought-row-place, uploads-within, upload-answer, found-upload}
 use Rattle.mem_find_uploads.proofs.uploads.find_upload.Goals as goal
@@ -13,6 +12,6 @@ stands-found-requires c =
 pub returns : goal.returns
 returns c =
     let d = c.stands-found in
-            let s = state_of c.args.tables.now c.args.arena.now in
+    let s = state_of c.args.tables.now c.args.arena.now in
     let here = c.seek_uploads-here.result in
     c.lookup_at.ensures ∙ found-upload s c.args.upload here d.result (upload-answer s c.args.upload here c.seek_uploads-here.ensures) d.ensures

@@ -1,7 +1,6 @@
 -- `mem_find_uploads::uploads::pass_parts` meets its contract: the parts begin at the row after the upload's. Assumes nothing.
 use Prim.Native.Nat.{◌+◌}
 use native.Mathlib.Omega.{arith}
-use borrow.Author.Rules.{rules}
 use Rattle.machine.specs.State.{State}
 use Rattle.mem_layout.specs.Memory.{state_of, rows_of}
 use Rattle.mem_find_uploads.proofs.Answers.{is-row-place, first-part-row}

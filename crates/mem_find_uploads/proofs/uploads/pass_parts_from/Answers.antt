@@ -1,6 +1,5 @@
 -- `mem_find_uploads::uploads::pass_parts_from` meets its contract: the search passes the parts that are left. Assumes nothing.
 use native.Mathlib.Omega.{arith}
-use borrow.Author.Rules.{rules}
 use Rattle.mem_layout.specs.Memory.{state_of}
 use Rattle.mem_find_uploads.proofs.Answers.{sought-after, all-parts}
 use Rattle.mem_find_uploads.proofs.uploads.pass_parts_from.Goals as goal

@@ -3,7 +3,6 @@ use mathlib.Core.Path.{sym, subst}
 use Rattle.mem_find.specs.Known.{rows_in}
 use Rattle.mem_find.specs.RowPlaces.{IsRowPlace}
 use Rattle.mem_find_uploads.proofs.Answers.{end-answer}
-use borrow.Author.Rules.{rules}
 use Rattle.mem_find_uploads.proofs.uploads.rows_end_from.Goals as goal
 
 pub seek-requires : goal.seek-requires

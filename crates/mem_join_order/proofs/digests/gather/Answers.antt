@@ -3,8 +3,7 @@ use Prim.Native.Nat.{◌+◌, ◌-◌, ◌*◌, ◌≤◌}
 use mathlib.Core.Path.{◌≡◌, refl, ◌∙◌}
 use native.Mathlib.Nat.{add-sub_cancel_left}
 use lib.ListN.{length, take, drop}
-use Rattle.mem_join_order.specs.Digests.{OrderedAt}
-use Rattle.mem_join_order.proofs.Gathering.{Gathered, gathered_none, gathered-all, row_inside, gathered_next}
+use Rattle.mem_join_order.proofs.Gathering.{gathered_none, gathered-all, row_inside, gathered_next}
 use native.Mathlib.Omega.{arith}
 use Rattle.mem_row.specs.Row.{numbers_length, head_length}
 use Rattle.mem_join_order.proofs.digests.gather.Goals as goal

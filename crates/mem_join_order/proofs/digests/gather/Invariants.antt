@@ -1,12 +1,9 @@
 -- `mem_join_order::digests::gather` meets its contract. The invariant: the digests of the rows passed stand at the front. Assumes nothing.
-use Prim.Native.Nat.{◌+◌, ◌-◌, ◌*◌, ◌≤◌}
-use mathlib.Core.Path.{◌≡◌, refl, ◌∙◌}
-use native.Mathlib.Nat.{add-sub_cancel_left}
-use lib.ListN.{length, take, drop}
+use Prim.Native.Nat.{◌-◌}
+use mathlib.Core.Path.{◌≡◌}
+use lib.ListN.{length}
 use Rattle.mem_join_order.specs.Digests.{OrderedAt}
-use Rattle.mem_join_order.proofs.Gathering.{Gathered, gathered_none, gathered-all, row_inside, gathered_next}
-use native.Mathlib.Omega.{arith}
-use Rattle.mem_row.specs.Row.{numbers_length, head_length}
+use Rattle.mem_join_order.proofs.Gathering.{Gathered}
 use Rattle.mem_join_order.proofs.digests.gather.Given as goal
 
 abbrev pub invariant-loop-i : goal.invariant-loop-i

@@ -2,7 +2,6 @@
 use Rattle.mem_layout.specs.Rules.{all}
 use Rattle.mem_layout.specs.Memory.{header_ok}
 use Rattle.machine.proofs.Tests.{tests}
-use borrow.Author.Rules.{rules}
 use Rattle.mem_layout.proofs.headers.header_ok.Goals as goal
 
 pub returns-then-tables-length : goal.returns-then-tables-length

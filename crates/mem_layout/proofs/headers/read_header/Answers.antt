@@ -3,7 +3,6 @@ use mathlib.Core.Path.{refl, ◌∙◌}
 use lib.Dec.{lit<}
 use Rattle.mem_row.proofs.FieldLaws.{number_at}
 use Rattle.mem_layout.specs.Header.{header_widths, header_at}
-use borrow.Author.Rules.{rules}
 use Rattle.mem_layout.proofs.headers.read_header.Goals as goal
 
 pub returns : goal.returns

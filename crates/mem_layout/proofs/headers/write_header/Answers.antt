@@ -1,6 +1,5 @@
 -- `mem_layout::headers::write_header` meets its contract: five fields, one after the other. Assumes nothing.
 use Rattle.mem_layout.proofs.HeaderFields.{header-fields}
-use borrow.Author.Rules.{rules}
 use Rattle.mem_layout.proofs.headers.write_header.Goals as goal
 
 pub returns : goal.returns

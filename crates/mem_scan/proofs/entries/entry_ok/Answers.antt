@@ -1,6 +1,5 @@
 -- `mem_scan::entries::entry_ok` meets its contract: the test is the definition's. Assumes nothing.
 use Rattle.machine.proofs.Tests.{tests}
-use borrow.Author.Rules.{rules}
 use Rattle.mem_layout.specs.Rules.{entry_rule}
 use Rattle.mem_scan.proofs.entries.entry_ok.Goals as goal
 

@@ -2,7 +2,6 @@
 use mathlib.Core.Path.{refl, sym}
 use native.Mathlib.Omega.{arith}
 use Rattle.mem_scan.proofs.Readings.{not-zero, zero_rest}
-use borrow.Author.Rules.{rules}
 use Rattle.mem_scan.proofs.entries.is_zero.Goals as goal
 
 pub returns-then-get_u64-ne0 : goal.returns-then-get_u64-ne0

@@ -1,7 +1,6 @@
 -- `mem_scan::entries::part_ok` meets its contract: the tests are the definition's. Assumes nothing.
 use Rattle.mem_layout.specs.Rules.{all, part_rule}
 use Rattle.machine.proofs.Tests.{tests}
-use borrow.Author.Rules.{rules}
 use Rattle.mem_scan.proofs.entries.part_ok.Goals as goal
 
 pub returns-then-h-ne-PART_KIND : goal.returns-then-h-ne-PART_KIND

@@ -11,10 +11,8 @@ use Rattle.mem_layout.specs.Rules.{part_rule}
 use Rattle.mem_scan_rows.specs.declared.Offset.{Offset}
 use Rattle.mem_scan_rows.specs.declared.Reading.TheVariants.{Full}
 use Rattle.mem_scan_rows.specs.Scan.{reading_of}
-use Rattle.mem_scan.specs.Scan.{entry_scan}
 use Rattle.mem_scan_rows.proofs.Turns.{row_in, data-in}
 use Rattle.mem_scan.proofs.EntryTurns.{part-next}
-use borrow.Author.Rules.{rules}
 use Rattle.mem_scan.proofs.entries.pass_parts.Goals as goal
 
 pub loop-i-init : goal.loop-i-init

@@ -1,20 +1,8 @@
 -- `mem_scan::entries::pass_parts` meets its contract. The invariant: the scan of all rows is the scan of those not yet passed. Assumes nothing.
-use Prim.Native.Nat.{ℕ, ◌+◌, ◌-◌, ◌≤◌}
-use mathlib.Core.Path.{◌≡◌, refl, ◌∙◌}
-use mathlib.Core.Bool.{true}
-use mathlib.Core.List.{List}
-use native.Mathlib.Omega.{arith}
-use lib.ListN.{length, drop}
-use Rattle.mem_row.specs.declared.Head.{Head}
-use Rattle.mem_row.specs.Row.{head_length}
-use Rattle.mem_layout.specs.Rules.{part_rule}
-use Rattle.mem_scan_rows.specs.declared.Offset.{Offset}
-use Rattle.mem_scan_rows.specs.declared.Reading.TheVariants.{Full}
-use Rattle.mem_scan_rows.specs.Scan.{reading_of}
+use Prim.Native.Nat.{ℕ, ◌-◌, ◌≤◌}
+use mathlib.Core.Path.{◌≡◌}
+use lib.ListN.{length}
 use Rattle.mem_scan.specs.Scan.{entry_scan}
-use Rattle.mem_scan_rows.proofs.Turns.{row_in, data-in}
-use Rattle.mem_scan.proofs.EntryTurns.{part-next}
-use borrow.Author.Rules.{rules}
 use Rattle.mem_scan.proofs.entries.pass_parts.Given as goal
 
 abbrev pub invariant-loop-i : goal.invariant-loop-i

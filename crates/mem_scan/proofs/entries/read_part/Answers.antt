@@ -4,7 +4,6 @@ use mathlib.Core.Bool.{not}
 use native.Mathlib.Omega.{arith}
 use Rattle.machine.proofs.Tests.{said-yes}
 use Rattle.mem_scan.proofs.Readings.{part-fits}
-use borrow.Author.Rules.{rules}
 use Rattle.mem_scan.proofs.entries.read_part.Goals as goal
 
 pub returns-then-t-at-lt-HEAD_LENGTH : goal.returns-then-t-at-lt-HEAD_LENGTH

@@ -1,19 +1,8 @@
 -- `mem_scan::entries::scan_entries` meets its contract. The invariant: the scan of all rows is the scan of those not yet passed. Assumes nothing.
-use Prim.Native.Nat.{ℕ, ◌+◌, ◌-◌, ◌≤◌, ◌<◌}
-use mathlib.Core.Path.{◌≡◌, sym, ◌∙◌}
-use mathlib.Core.List.{List}
-use native.Mathlib.Nat.{sub-zero}
-use borrow.Author.Rules.{rules}
-use lib.ListN.{length, drop}
-use Rattle.mem_row.specs.declared.Head.{Head}
-use Rattle.mem_row.specs.Row.{span}
-use Rattle.mem_scan_rows.specs.declared.Offset.{Offset}
-use Rattle.mem_scan_rows.specs.declared.Reading.TheVariants.{Full}
-use Rattle.mem_scan_rows.specs.Scan.{reading_of}
+use Prim.Native.Nat.{◌-◌, ◌≤◌}
+use mathlib.Core.Path.{◌≡◌}
+use lib.ListN.{length}
 use Rattle.mem_scan.specs.Scan.{entry_scan}
-use Rattle.mem_scan_rows.proofs.Turns.{row_in, data-in, digest-length}
-use Rattle.mem_scan.proofs.EntryTurns.{opens_small, entries-counted, entries-miscounted, entries-short, entries-wrong, entries_next}
-use native.Mathlib.Omega.{arith}
 use Rattle.mem_scan.proofs.entries.scan_entries.Given as goal
 
 abbrev pub invariant-loop-i : goal.invariant-loop-i

@@ -1,8 +1,6 @@
 -- `mem_scan::entries::upload_ok` meets its contract: the tests are the definition's. Assumes nothing.
-use mathlib.Core.Path.{ap}
-use mathlib.Core.Bool.{not}
-use mathlib.Core.Path.{◌≡◌, sym, ◌∙◌}
-use mathlib.Core.Bool.{◌&&◌}
+use mathlib.Core.Path.{ap, ◌≡◌, sym, ◌∙◌}
+use mathlib.Core.Bool.{not, ◌&&◌}
 use native.Mathlib.Omega.{arith}
 use lib.Dec.{eqb}
 use Rattle.base_order.specs.Order.{same}
@@ -10,7 +8,6 @@ use Rattle.machine.proofs.Tests.{tests, said-no, said-yes}
 use Rattle.pairs_stored.specs.Stored.{sum_of}
 use Rattle.mem_layout.specs.Rules.{all, no_digest, pairs_rule, upload_rule}
 use Rattle.mem_scan.proofs.Readings.{lengths-few}
-use borrow.Author.Rules.{rules}
 use Rattle.mem_scan.proofs.entries.upload_ok.Goals as goal
 
 pub returns-then-h-ne0 : goal.returns-then-h-ne0

@@ -1,16 +1,13 @@
 -- `mem_scan_objects::objects::object_ok` meets its contract: the tests are the definition's, in another order. Assumes nothing.
-use mathlib.Core.Path.{ap}
-use mathlib.Core.Bool.{not}
+use mathlib.Core.Path.{ap, ◌≡◌, sym, ◌∙◌}
+use mathlib.Core.Bool.{not, ◌&&◌, and-false}
 use Prim.Native.Nat.{◌-◌, ◌*◌}
-use mathlib.Core.Path.{◌≡◌, sym, ◌∙◌}
-use mathlib.Core.Bool.{◌&&◌, and-false}
 use lib.ListN.{take, drop}
 use Rattle.base_order.specs.Order.{is_below}
 use Rattle.machine.specs.Names.{stored_path_ok}
 use Rattle.machine.proofs.Tests.{said-no, said-yes}
 use Rattle.mem_layout.specs.Rules.{pairs_rule, object_rule}
 use borrow.Author.Tests.{not-true, not-false}
-use borrow.Author.Rules.{rules}
 use Rattle.mem_scan_objects.proofs.objects.object_ok.Goals as goal
 
 pub returns-then-not-numbers_ok : goal.returns-then-not-numbers_ok

@@ -1,18 +1,15 @@
 -- `mem_scan_objects::objects::scan_from` meets its contract. The invariant: the scan of all rows is the scan of those not yet passed. Assumes nothing.
-use mathlib.Core.Path.{ap}
+use mathlib.Core.Path.{ap, ◌≡◌, sym, ◌∙◌}
 use mathlib.Core.Bool.{not}
 use Prim.Native.Nat.{ℕ, ◌+◌, ◌-◌, ◌≤◌}
-use mathlib.Core.Path.{◌≡◌, sym, ◌∙◌}
 use mathlib.Core.List.{List}
 use native.Mathlib.Nat.{sub-zero}
-use borrow.Author.Rules.{rules}
-use lib.ListN.{length, take, drop}
+use lib.ListN.{length, drop}
 use Rattle.mem_row.specs.declared.Head.{Head}
 use Rattle.mem_row.specs.Row.{span}
 use Rattle.mem_scan_rows.specs.declared.Offset.{Offset}
 use Rattle.mem_scan_rows.specs.declared.Reading.TheVariants.{Full}
 use Rattle.mem_scan_rows.specs.Scan.{reading_of}
-use Rattle.mem_scan_objects.specs.Scan.{object_scan}
 use Rattle.mem_scan_rows.proofs.Turns.{row_in, data-in}
 use Rattle.mem_scan_objects.proofs.ObjectTurns.{objects-end, objects-short, objects-wrong, objects-next}
 use native.Mathlib.Omega.{arith}

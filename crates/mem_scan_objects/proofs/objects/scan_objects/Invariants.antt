@@ -1,20 +1,9 @@
 -- `mem_scan_objects::objects::scan_objects` meets its contract. The invariant: the scan of all rows is the scan of those not yet passed. Assumes nothing.
-use Prim.Native.Nat.{ℕ, ◌+◌, ◌-◌, ◌≤◌}
-use mathlib.Core.Path.{◌≡◌, sym, ◌∙◌}
-use mathlib.Core.List.{List, []}
-use native.Mathlib.Nat.{sub-zero, sub_self}
-use native.Mathlib.Omega.{arith}
+use Prim.Native.Nat.{◌-◌, ◌≤◌}
+use mathlib.Core.Path.{◌≡◌}
+use mathlib.Core.List.{[]}
 use lib.ListN.{length, take, drop}
-use Rattle.mem_row.specs.declared.Head.{Head}
-use Rattle.mem_row.specs.Row.{head_length}
-use Rattle.mem_scan_rows.specs.declared.Offset.{Offset}
-use Rattle.mem_scan_rows.specs.declared.Reading.TheVariants.{Full}
-use Rattle.mem_scan_rows.specs.Scan.{reading_of}
 use Rattle.mem_scan_objects.specs.Scan.{object_scan}
-use Rattle.mem_scan_rows.proofs.Turns.{row_in, data-in}
-use Rattle.mem_scan_objects.proofs.ObjectTurns.{objects-end, objects-usual}
-use borrow.Author.Tests.{not-false}
-use borrow.Author.Rules.{rules}
 use Rattle.mem_scan_objects.proofs.objects.scan_objects.Given as goal
 
 abbrev pub invariant-loop-i : goal.invariant-loop-i

@@ -2,7 +2,6 @@
 use mathlib.Core.Path.{◌∙◌}
 use native.Mathlib.Omega.{arith}
 use Rattle.mem_scan_rows.proofs.Readings.{row_fits}
-use borrow.Author.Rules.{rules}
 use Rattle.mem_scan_objects.proofs.usual.read_usual.Goals as goal
 
 pub returns-then-t-path : goal.returns-then-t-path

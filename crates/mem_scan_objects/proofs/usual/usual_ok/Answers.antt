@@ -1,14 +1,12 @@
 -- `mem_scan_objects::usual::usual_ok` meets its contract: the tests are those of the rule, and a row without pairs may stand. Assumes nothing.
-use mathlib.Core.Path.{ap}
+use mathlib.Core.Path.{ap, ◌∙◌}
 use mathlib.Core.Bool.{not}
 use Prim.Native.Nat.{◌-◌, ◌*◌}
-use mathlib.Core.Path.{◌∙◌}
 use lib.ListN.{take, drop}
 use Rattle.machine.proofs.Tests.{said-yes}
 use Rattle.mem_layout.specs.Rules.{pairs_rule}
 use Rattle.mem_scan_rows.proofs.Readings.{no_pairs}
 use borrow.Author.Tests.{not-false}
-use borrow.Author.Rules.{rules}
 use Rattle.mem_scan_objects.proofs.usual.usual_ok.Goals as goal
 
 pub returns-then-not-numbers_ok : goal.returns-then-not-numbers_ok

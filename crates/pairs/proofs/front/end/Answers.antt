@@ -1,7 +1,6 @@
 -- `pairs::front::end` meets its contract. Assumes nothing.
 use mathlib.Core.Path.{ap, ◌∙◌}
 use native.Mathlib.Omega.{arith}
-use borrow.Author.Rules.{rules}
 use Rattle.machine.specs.Pairs.{front_fits, front_size}
 use Rattle.pairs.proofs.Passing.{from_is, end-inside, end-further}
 use Rattle.pairs.proofs.front.end.Goals as goal

@@ -1,6 +1,5 @@
 -- `pairs::front::fits` meets its contract. Assumes nothing.
 use native.Mathlib.Omega.{arith}
-use borrow.Author.Rules.{rules}
 use Rattle.pairs.proofs.FrontLaws.{fits-none, fits-short, fits-value}
 use Rattle.pairs.proofs.front.fits.Goals as goal
 

@@ -1,6 +1,5 @@
 -- `pairs::front::key` meets its contract. Assumes nothing.
 use native.Mathlib.Omega.{arith}
-use borrow.Author.Rules.{rules}
 use Rattle.machine.proofs.PairBytes.{middle-inside}
 use Rattle.pairs.proofs.FrontLaws.{there, key-is}
 use Rattle.pairs.proofs.front.key.Goals as goal

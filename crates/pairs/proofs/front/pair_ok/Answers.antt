@@ -1,7 +1,6 @@
 -- `pairs::front::pair_ok` meets its contract. Assumes nothing.
 use mathlib.Core.Bool.{not}
 use mathlib.Core.Path.{ap, ◌∙◌}
-use borrow.Author.Rules.{rules}
 use Rattle.machine.proofs.Tests.{said-no, said-yes}
 use Rattle.pairs.proofs.FrontLaws.{ok-cut, ok-key, ok-value}
 use Rattle.machine.specs.Pairs.{key_ok, value_ok}

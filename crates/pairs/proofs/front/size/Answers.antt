@@ -1,6 +1,5 @@
 -- `pairs::front::size` meets its contract. Assumes nothing.
 use native.Mathlib.Omega.{arith}
-use borrow.Author.Rules.{rules}
 use Rattle.machine.proofs.PairBytes.{middle-inside, front-inside}
 use Rattle.pairs.proofs.FrontLaws.{there, size_is}
 use Rattle.pairs.proofs.front.size.Goals as goal

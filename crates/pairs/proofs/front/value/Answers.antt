@@ -1,6 +1,5 @@
 -- `pairs::front::value` meets its contract. Assumes nothing.
 use native.Mathlib.Omega.{arith}
-use borrow.Author.Rules.{rules}
 use Rattle.pairs.proofs.FrontLaws.{there, value-is, from-within}
 use Rattle.pairs.proofs.front.value.Goals as goal
 

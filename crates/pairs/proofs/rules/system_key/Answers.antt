@@ -1,6 +1,5 @@
 -- `pairs::rules::system_key` meets its contract: the tests are the definition's. Assumes nothing.
 use mathlib.Core.Path.{sym, ◌∙◌}
-use borrow.Author.Rules.{rules}
 use Rattle.machine.specs.Pairs.{system_key}
 use Rattle.pairs.proofs.rules.system_key.Goals as goal
 

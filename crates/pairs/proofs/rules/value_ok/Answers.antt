@@ -1,14 +1,12 @@
 -- `pairs::rules::value_ok` meets its contract. The invariant: the bytes not yet passed decide. Assumes nothing.
-use mathlib.Core.Path.{ap}
+use mathlib.Core.Path.{ap, refl}
 use mathlib.Core.Bool.{not}
-use Prim.Native.Nat.{◌-◌, ◌≤◌}
-use mathlib.Core.Path.{◌≡◌, refl}
+use Prim.Native.Nat.{◌-◌}
 use native.Mathlib.Omega.{arith}
 use borrow.Author.Tests.{le-leb}
-use lib.ListN.{drop}
 use Rattle.machine.proofs.Tests.{tests, said-no, said-yes}
 use Rattle.pairs.proofs.RuleLaws.{every-no, every-next, every-all}
-use Rattle.machine.specs.Pairs.{every, value_byte, value_ok}
+use Rattle.machine.specs.Pairs.{value_byte, value_ok}
 use Rattle.pairs.proofs.rules.value_ok.Goals as goal
 
 pub returns-then-n-gt64 : goal.returns-then-n-gt64

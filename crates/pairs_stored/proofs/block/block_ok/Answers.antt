@@ -2,7 +2,6 @@
 use mathlib.Core.Path.{sym}
 use native.Mathlib.Omega.{arith}
 use lib.ListN.{length-take}
-use borrow.Author.Rules.{rules}
 use Rattle.pairs_stored.proofs.Blocks.{block_none, block-many, block-short, block-by}
 use Rattle.pairs_stored.proofs.block.block_ok.Goals as goal
 

@@ -6,7 +6,7 @@ use mathlib.Core.List.{List}
 use native.Mathlib.Omega.{arith}
 use lib.ListN.{length}
 use Rattle.machine.proofs.Tests.{said-no, said-yes}
-use Rattle.pairs_stored.proofs.Storing.{Kept, kept-none, kept-odd, kept-all, kept-no, kept_next, pair_inside}
+use Rattle.pairs_stored.proofs.Storing.{kept-none, kept-odd, kept-all, kept-no, kept_next, pair_inside}
 use Rattle.pairs_stored.proofs.stored.all_kept.Goals as goal
 
 pub loop-i-init : goal.loop-i-init

@@ -1,10 +1,7 @@
 -- `pairs_stored::stored::all_kept` meets its contract. The invariant: the pairs not yet passed decide, after the last key. Assumes nothing.
-use Prim.Native.Nat.{ℕ, ◌-◌, ◌≤◌}
-use mathlib.Core.List.{List}
-use native.Mathlib.Omega.{arith}
+use Prim.Native.Nat.{◌-◌}
 use lib.ListN.{length}
-use Rattle.machine.proofs.Tests.{said-no, said-yes}
-use Rattle.pairs_stored.proofs.Storing.{Kept, kept-none, kept-odd, kept-all, kept-no, kept_next, pair_inside}
+use Rattle.pairs_stored.proofs.Storing.{Kept}
 use Rattle.pairs_stored.proofs.stored.all_kept.Given as goal
 
 abbrev pub invariant-loop-i : goal.invariant-loop-i

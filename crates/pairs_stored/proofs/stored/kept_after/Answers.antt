@@ -1,8 +1,6 @@
 -- `pairs_stored::stored::kept_after` meets its contract. Assumes nothing.
-use mathlib.Core.Path.{ap}
+use mathlib.Core.Path.{ap, sym, ◌∙◌}
 use mathlib.Core.Bool.{not}
-use mathlib.Core.Path.{sym, ◌∙◌}
-use borrow.Author.Rules.{rules}
 use Rattle.pairs_stored.proofs.Storing.{after-key, after-value, after-system, after-below}
 use Rattle.machine.proofs.Tests.{said-no, said-yes}
 use Rattle.pairs_stored.proofs.stored.kept_after.Goals as goal

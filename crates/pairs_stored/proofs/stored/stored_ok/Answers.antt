@@ -1,7 +1,6 @@
 -- `pairs_stored::stored::stored_ok` meets its contract. Assumes nothing.
 use mathlib.Core.Path.{sym, ◌∙◌}
 use native.Mathlib.Omega.{arith}
-use borrow.Author.Rules.{rules}
 use Rattle.pairs_stored.proofs.Storing.{test-many, test_sum, test-all}
 use Rattle.pairs_stored.proofs.stored.stored_ok.Goals as goal
 

@@ -1,9 +1,6 @@
 -- `pairs_stored::stored::sum_of` meets its contract. The invariant: what is summed and what is to come are all. Assumes nothing.
-use Prim.Native.Nat.{◌+◌, ◌-◌, ◌*◌, ◌≤◌}
-use mathlib.Core.Path.{◌≡◌}
+use Prim.Native.Nat.{◌-◌}
 use native.Mathlib.Omega.{arith}
-use lib.ListN.{length, drop}
-use Rattle.pairs_stored.specs.Stored.{sum_of}
 use Rattle.pairs_stored.proofs.Storing.{sum-here, sum-all}
 use Rattle.pairs_stored.proofs.stored.sum_of.Goals as goal
 

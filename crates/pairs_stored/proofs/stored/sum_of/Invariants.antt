@@ -1,10 +1,8 @@
 -- `pairs_stored::stored::sum_of` meets its contract. The invariant: what is summed and what is to come are all. Assumes nothing.
 use Prim.Native.Nat.{◌+◌, ◌-◌, ◌*◌, ◌≤◌}
 use mathlib.Core.Path.{◌≡◌}
-use native.Mathlib.Omega.{arith}
 use lib.ListN.{length, drop}
 use Rattle.pairs_stored.specs.Stored.{sum_of}
-use Rattle.pairs_stored.proofs.Storing.{sum-here, sum-all}
 use Rattle.pairs_stored.proofs.stored.sum_of.Given as goal
 
 abbrev pub invariant-loop-i : goal.invariant-loop-i

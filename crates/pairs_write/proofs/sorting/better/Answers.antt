@@ -1,7 +1,6 @@
 -- `pairs_write::sorting::better` meets its contract. Assumes nothing.
 use mathlib.Core.Path.{ap, ◌∙◌}
 use native.Mathlib.Omega.{arith}
-use borrow.Author.Rules.{rules}
 use Rattle.machine.specs.Pairs.{front_fits}
 use Rattle.pairs.proofs.Passing.{from_is}
 use Rattle.pairs_write.proofs.Picking.{better-yes, better-no}

@@ -2,7 +2,6 @@
 use mathlib.Core.Path.{ap}
 use mathlib.Core.Bool.{not}
 use borrow.Author.Tests.{not-true, not-false}
-use borrow.Author.Rules.{rules}
 use Rattle.machine.proofs.Tests.{said-no, said-yes}
 use Rattle.pairs_write.proofs.Picking.{better-system, better-low, better-first, better-key}
 use Rattle.pairs_write.proofs.sorting.is_better.Goals as goal

@@ -3,9 +3,8 @@
 use Prim.Native.Nat.{ℕ, ◌-◌}
 use mathlib.Core.List.{List}
 use native.Mathlib.Omega.{arith}
-use lib.ListN.{length}
 use Rattle.pairs.proofs.Passing.{here-fits}
-use Rattle.pairs_write.proofs.Picking.{Picking, picking-none, picking-all, picking-next}
+use Rattle.pairs_write.proofs.Picking.{picking-none, picking-all, picking-next}
 use Rattle.pairs_write.proofs.sorting.next_above.Goals as goal
 
 pub loop-at-init : goal.loop-at-init

@@ -1,11 +1,8 @@
 -- `pairs_write::sorting::next_above` meets its contract. The invariant: the pairs not yet passed decide, with the one that is picked.
 -- Assumes nothing.
-use Prim.Native.Nat.{ℕ, ◌-◌}
-use mathlib.Core.List.{List}
-use native.Mathlib.Omega.{arith}
+use Prim.Native.Nat.{◌-◌}
 use lib.ListN.{length}
-use Rattle.pairs.proofs.Passing.{here-fits}
-use Rattle.pairs_write.proofs.Picking.{Picking, picking-none, picking-all, picking-next}
+use Rattle.pairs_write.proofs.Picking.{Picking}
 use Rattle.pairs_write.proofs.sorting.next_above.Given as goal
 
 abbrev pub invariant-loop-at : goal.invariant-loop-at

@@ -1,15 +1,10 @@
 -- `pairs_write::sorting::write_kept` meets its contract. The invariant: the first pairs of the map are written, and the next is picked.
 -- Assumes nothing.
-use Prim.Native.Nat.{ℕ, ◌+◌, ◌-◌}
-use mathlib.Core.Path.{ap, ◌∙◌}
-use mathlib.Core.List.{List}
-use native.Mathlib.Omega.{arith}
-use borrow.Author.Rules.{rules}
+use Prim.Native.Nat.{◌+◌, ◌-◌}
 use lib.ListN.{length}
-use Rattle.machine.specs.Pairs.{front_fits, pair_map, pair_list}
-use Rattle.pairs.proofs.Passing.{from_is}
+use Rattle.machine.specs.Pairs.{pair_map, pair_list}
 use Rattle.pairs_stored.specs.Stored.{pair_lengths}
-use Rattle.pairs_write.proofs.Arranging.{Arranged, Here, arranged-none, arranged-here, arranged-next, arranged-all}
+use Rattle.pairs_write.proofs.Arranging.{Arranged}
 use Rattle.pairs_write.proofs.sorting.write_kept.Given as goal
 
 abbrev pub invariant-loop-pick : goal.invariant-loop-pick

@@ -4,7 +4,7 @@ use mathlib.Core.List.{List}
 use native.Mathlib.Omega.{arith}
 use borrow.Author.Rules.{rules}
 use lib.ListN.{length}
-use Rattle.pairs_write.proofs.Encoding.{Encoded, Here, encoded-none, encoded-more, encoded-here, encoded-next, encoded-all}
+use Rattle.pairs_write.proofs.Encoding.{Here, encoded-none, encoded-more, encoded-here, encoded-next, encoded-all}
 use Rattle.pairs_write.proofs.writing.encode.Goals as goal
 
 pub loop-i-init : goal.loop-i-init

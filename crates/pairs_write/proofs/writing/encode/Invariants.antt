@@ -1,10 +1,7 @@
 -- `pairs_write::writing::encode` meets its contract. The invariant: the pairs passed stand at the front. Assumes nothing.
-use Prim.Native.Nat.{ℕ, ◌+◌, ◌-◌, ◌≤◌}
-use mathlib.Core.List.{List}
-use native.Mathlib.Omega.{arith}
-use borrow.Author.Rules.{rules}
+use Prim.Native.Nat.{◌-◌}
 use lib.ListN.{length}
-use Rattle.pairs_write.proofs.Encoding.{Encoded, Here, encoded-none, encoded-more, encoded-here, encoded-next, encoded-all}
+use Rattle.pairs_write.proofs.Encoding.{Encoded}
 use Rattle.pairs_write.proofs.writing.encode.Given as goal
 
 abbrev pub invariant-loop-i : goal.invariant-loop-i

@@ -1,6 +1,5 @@
 -- `pairs_write::writing::put_byte` meets its contract. Assumes nothing.
 use native.Mathlib.Omega.{arith}
-use borrow.Author.Rules.{rules}
 use Rattle.base_number.proofs.Halves.{write_byte}
 use Rattle.pairs_write.proofs.writing.put_byte.Goals as goal
 

@@ -1,5 +1,4 @@
 -- `pairs_write::writing::write_bytes` meets its contract. Assumes nothing.
-use borrow.Author.Rules.{rules}
 use Rattle.pairs_write.proofs.Encoding.{bytes-written}
 use Rattle.pairs_write.proofs.writing.write_bytes.Goals as goal
 

@@ -1,5 +1,4 @@
 -- `pairs_write::writing::write_lengths` meets its contract. Assumes nothing.
-use borrow.Author.Rules.{rules}
 use Rattle.pairs_write.proofs.Encoding.{lengths-written}
 use Rattle.pairs_write.proofs.writing.write_lengths.Goals as goal
 

@@ -1,5 +1,4 @@
 -- `pairs_write::writing::write_pair` meets its contract: four writes, one after the other. Assumes nothing.
-use borrow.Author.Rules.{rules}
 use Rattle.pairs_write.proofs.Encoding.{pair-written}
 use Rattle.pairs_write.proofs.writing.write_pair.Goals as goal
 

@@ -1,5 +1,4 @@
 -- `rathnodi::carry::rathnodi_carry_over` meets its contract. Assumes nothing.
-use borrow.Author.Rules.{rules}
 use Rattle.rathnodi.proofs.carry.rathnodi_carry_over.Goals as goal
 
 pub returns : goal.returns

@@ -1,6 +1,5 @@
 -- `rathnodi::objects::rathnodi_copy` meets its contract. Assumes nothing.
 use Rattle.rathnodi.proofs.Exporting.{numbered-made}
-use borrow.Author.Rules.{rules}
 use Rattle.rathnodi.proofs.objects.rathnodi_copy.Goals as goal
 
 pub returns : goal.returns

@@ -1,6 +1,5 @@
 -- `rathnodi::objects::rathnodi_delete` meets its contract. Assumes nothing.
 use Rattle.rathnodi.proofs.Exporting.{numbered-made}
-use borrow.Author.Rules.{rules}
 use Rattle.rathnodi.proofs.objects.rathnodi_delete.Goals as goal
 
 pub returns : goal.returns

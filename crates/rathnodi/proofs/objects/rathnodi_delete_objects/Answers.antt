@@ -1,6 +1,5 @@
 -- `rathnodi::objects::rathnodi_delete_objects` meets its contract. Assumes nothing.
 use Rattle.rathnodi.proofs.Exporting.{results-made}
-use borrow.Author.Rules.{rules}
 use Rattle.rathnodi.proofs.objects.rathnodi_delete_objects.Goals as goal
 
 pub returns : goal.returns

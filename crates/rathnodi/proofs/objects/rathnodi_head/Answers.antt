@@ -1,7 +1,6 @@
 -- `rathnodi::objects::rathnodi_head` meets its contract. Assumes nothing.
 use Rattle.c_reply.proofs.Telling.{head-tells}
 use Rattle.rathnodi.proofs.Exporting.{another-length, got}
-use borrow.Author.Rules.{rules}
 use Rattle.rathnodi.proofs.objects.rathnodi_head.Goals as goal
 
 pub returns-then-reply-ne-REPLY_LEN : goal.returns-then-reply-ne-REPLY_LEN
@@ -10,4 +9,4 @@ returns-then-reply-ne-REPLY_LEN c = another-length _ _ _ c.if-reply-ne-REPLY_LEN
 pub returns : goal.returns
 returns c =
     let r = c.found in
-        got _ (head-tells _ _) _ _ _ _ _ c.if-reply-ne-REPLY_LEN.false c.head-head.result _ c.head-head.ensures r.ensures.0 r.ensures.1
+    got _ (head-tells _ _) _ _ _ _ _ c.if-reply-ne-REPLY_LEN.false c.head-head.result _ c.head-head.ensures r.ensures.0 r.ensures.1

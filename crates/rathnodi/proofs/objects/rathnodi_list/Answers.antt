@@ -1,7 +1,6 @@
 -- `rathnodi::objects::rathnodi_list` meets its contract. Assumes nothing.
 use Rattle.c_reply.proofs.Telling.{list_tells}
 use Rattle.rathnodi.proofs.Exporting.{another-length, listed}
-use borrow.Author.Rules.{rules}
 use Rattle.rathnodi.proofs.objects.rathnodi_list.Goals as goal
 
 pub returns-then-reply-ne-REPLY_LEN : goal.returns-then-reply-ne-REPLY_LEN

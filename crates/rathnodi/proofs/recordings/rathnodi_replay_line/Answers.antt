@@ -1,5 +1,4 @@
 -- `rathnodi::recordings::rathnodi_replay_line` meets its contract. Assumes nothing.
-use borrow.Author.Rules.{rules}
 use Rattle.rathnodi.proofs.Lines.{line-exported}
 use Rattle.rathnodi.proofs.recordings.rathnodi_replay_line.Goals as goal
 

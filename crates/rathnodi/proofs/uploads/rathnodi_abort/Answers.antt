@@ -1,6 +1,5 @@
 -- `rathnodi::uploads::rathnodi_abort` meets its contract. Assumes nothing.
 use Rattle.rathnodi.proofs.Exporting.{numbered-made}
-use borrow.Author.Rules.{rules}
 use Rattle.rathnodi.proofs.uploads.rathnodi_abort.Goals as goal
 
 pub returns : goal.returns

@@ -1,6 +1,5 @@
 -- `rathnodi::uploads::rathnodi_commit` meets its contract. Assumes nothing.
 use Rattle.rathnodi.proofs.Exporting.{numbered-made}
-use borrow.Author.Rules.{rules}
 use Rattle.rathnodi.proofs.uploads.rathnodi_commit.Goals as goal
 
 pub returns : goal.returns

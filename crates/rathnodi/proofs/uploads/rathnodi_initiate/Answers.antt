@@ -1,7 +1,6 @@
 -- `rathnodi::uploads::rathnodi_initiate` meets its contract. Assumes nothing.
 use Rattle.c_reply.proofs.Telling.{initiate-tells}
 use Rattle.rathnodi.proofs.Exporting.{another-length, initiated}
-use borrow.Author.Rules.{rules}
 use Rattle.rathnodi.proofs.uploads.rathnodi_initiate.Goals as goal
 
 pub returns-then-reply-ne-REPLY_LEN : goal.returns-then-reply-ne-REPLY_LEN
@@ -10,4 +9,4 @@ returns-then-reply-ne-REPLY_LEN c = another-length _ _ _ c.if-reply-ne-REPLY_LEN
 pub returns : goal.returns
 returns c =
     let r = c.opened in
-        initiated _ (initiate-tells _ _ _) _ _ _ _ _ c.if-reply-ne-REPLY_LEN.false c.initiate-opened.result c.initiate-opened.ensures r.ensures.0 r.ensures.1
+    initiated _ (initiate-tells _ _ _) _ _ _ _ _ c.if-reply-ne-REPLY_LEN.false c.initiate-opened.result c.initiate-opened.ensures r.ensures.0 r.ensures.1

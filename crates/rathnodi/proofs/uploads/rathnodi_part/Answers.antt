@@ -1,7 +1,6 @@
 -- `rathnodi::uploads::rathnodi_part` meets its contract. Assumes nothing.
 use Rattle.c_reply.proofs.Telling.{part-tells}
 use Rattle.rathnodi.proofs.Exporting.{another-length, part-stored}
-use borrow.Author.Rules.{rules}
 use Rattle.rathnodi.proofs.uploads.rathnodi_part.Goals as goal
 
 pub returns-then-reply-ne-REPLY_LEN : goal.returns-then-reply-ne-REPLY_LEN

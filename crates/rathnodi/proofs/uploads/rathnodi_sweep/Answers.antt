@@ -1,7 +1,6 @@
 -- `rathnodi::uploads::rathnodi_sweep` meets its contract. Assumes nothing.
 use Rattle.c_reply.proofs.Telling.{sweep-tells}
 use Rattle.rathnodi.proofs.Exporting.{another-length, swept-out}
-use borrow.Author.Rules.{rules}
 use Rattle.rathnodi.proofs.uploads.rathnodi_sweep.Goals as goal
 
 pub returns-then-reply-ne-REPLY_LEN : goal.returns-then-reply-ne-REPLY_LEN

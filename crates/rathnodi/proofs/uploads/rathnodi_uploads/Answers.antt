@@ -1,7 +1,6 @@
 -- `rathnodi::uploads::rathnodi_uploads` meets its contract. Assumes nothing.
 use Rattle.c_reply.proofs.Telling.{uploads-tells}
 use Rattle.rathnodi.proofs.Exporting.{another-length, listed}
-use borrow.Author.Rules.{rules}
 use Rattle.rathnodi.proofs.uploads.rathnodi_uploads.Goals as goal
 
 pub returns-then-reply-ne-REPLY_LEN : goal.returns-then-reply-ne-REPLY_LEN

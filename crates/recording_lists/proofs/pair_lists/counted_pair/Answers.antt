@@ -3,7 +3,6 @@ use native.Mathlib.Omega.{arith}
 use Rattle.recording_lists.proofs.OnePair.{no-bracket, no_key, no-space, no_value, no_end, a_pair}
 use Rattle.recording_read.specs.Meant.{string_meant, string_length, room_after}
 use mathlib.Core.Path.{sym, ap, ◌∙◌}
-use borrow.Author.Rules.{rules}
 use Rattle.recording_lists.proofs.pair_lists.counted_pair.Goals as goal
 
 pub returns-then-byte_at-ne40 : goal.returns-then-byte_at-ne40
@@ -37,7 +36,7 @@ returns-then-byte_at-ne32 c =
     let h = b.ensures.1 (omega arith) in
     let p = sym b.ensures.0 ∙ c.if-byte_at-ne40.false in
     let w = c.counted_string in
-        let e = ap (string_meant s w.new.out) (sym c.in-Got.is) ∙ w.ensures.0 in
+    let e = ap (string_meant s w.new.out) (sym c.in-Got.is) ∙ w.ensures.0 in
     (no-space s o a.n a.at h p w.new.out c.in-Got.m c.in-Got.b e (λ x. c.if-byte_at-ne32.true (c.byte_at-2.ensures.0 ∙ x)), omega arith, omega arith)
 
 pub overflow_add-b : goal.overflow_add-b
@@ -52,7 +51,7 @@ counted_string-requires-2 c =
     let h = b.ensures.1 (omega arith) in
     let p = sym b.ensures.0 ∙ c.if-byte_at-ne40.false in
     let w = c.counted_string in
-        let e = ap (string_meant s w.new.out) (sym c.in-Got.is) ∙ w.ensures.0 in
+    let e = ap (string_meant s w.new.out) (sym c.in-Got.is) ∙ w.ensures.0 in
     let b₂ = c.byte_at-2 in
     let h₂ = b₂.ensures.1 (omega arith) in
     let p₂ = sym b₂.ensures.0 ∙ c.if-byte_at-ne32.false in
@@ -67,7 +66,7 @@ returns-in_default-counted_string c =
     let h = b.ensures.1 (omega arith) in
     let p = sym b.ensures.0 ∙ c.if-byte_at-ne40.false in
     let w = c.counted_string in
-        let e = ap (string_meant s w.new.out) (sym c.in-Got.is) ∙ w.ensures.0 in
+    let e = ap (string_meant s w.new.out) (sym c.in-Got.is) ∙ w.ensures.0 in
     let b₂ = c.byte_at-2 in
     let h₂ = b₂.ensures.1 (omega arith) in
     let p₂ = sym b₂.ensures.0 ∙ c.if-byte_at-ne32.false in
@@ -83,12 +82,12 @@ returns-then-byte_at-ne41 c =
     let h = b.ensures.1 (omega arith) in
     let p = sym b.ensures.0 ∙ c.if-byte_at-ne40.false in
     let w = c.counted_string in
-        let e = ap (string_meant s w.new.out) (sym c.in-Got.is) ∙ w.ensures.0 in
+    let e = ap (string_meant s w.new.out) (sym c.in-Got.is) ∙ w.ensures.0 in
     let b₂ = c.byte_at-2 in
     let h₂ = b₂.ensures.1 (omega arith) in
     let p₂ = sym b₂.ensures.0 ∙ c.if-byte_at-ne32.false in
     let w₂ = c.counted_string-2 in
-        let e₂ = ap (string_meant s w₂.new.out) (sym c.in-Got-counted_string.is) ∙ w₂.ensures.0 in
+    let e₂ = ap (string_meant s w₂.new.out) (sym c.in-Got-counted_string.is) ∙ w₂.ensures.0 in
     let b₃ = c.byte_at-3 in
     (no_end s o a.n a.at h p w.new.out c.in-Got.m c.in-Got.b e h₂ p₂ w₂.new.out c.in-Got-counted_string.len c.in-Got-counted_string.next e₂ (λ x. c.if-byte_at-ne41.true (b₃.ensures.0 ∙ x)), omega arith, omega arith)
 
@@ -104,12 +103,12 @@ returns c =
     let h = b.ensures.1 (omega arith) in
     let p = sym b.ensures.0 ∙ c.if-byte_at-ne40.false in
     let w = c.counted_string in
-        let e = ap (string_meant s w.new.out) (sym c.in-Got.is) ∙ w.ensures.0 in
+    let e = ap (string_meant s w.new.out) (sym c.in-Got.is) ∙ w.ensures.0 in
     let b₂ = c.byte_at-2 in
     let h₂ = b₂.ensures.1 (omega arith) in
     let p₂ = sym b₂.ensures.0 ∙ c.if-byte_at-ne32.false in
     let w₂ = c.counted_string-2 in
-        let e₂ = ap (string_meant s w₂.new.out) (sym c.in-Got-counted_string.is) ∙ w₂.ensures.0 in
+    let e₂ = ap (string_meant s w₂.new.out) (sym c.in-Got-counted_string.is) ∙ w₂.ensures.0 in
     let b₃ = c.byte_at-3 in
     let h₃ = b₃.ensures.1 (omega arith) in (
       a_pair s o a.n a.at h p w.new.out c.in-Got.m c.in-Got.b e h₂ p₂ w₂.new.out c.in-Got-counted_string.len c.in-Got-counted_string.next e₂ h₃ (sym b₃.ensures.0 ∙ c.if-byte_at-ne41.false),

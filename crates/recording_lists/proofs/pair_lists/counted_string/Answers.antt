@@ -6,7 +6,6 @@ use Rattle.recording_read.specs.Meant.{string_meant, string_length, room_after}
 use Prim.Native.Nat.{◌+◌, ◌-◌, ◌*◌, ◌≤◌}
 use lib.ListN.{length}
 use mathlib.Core.Path.{sym, ap, subst, ◌∙◌}
-use borrow.Author.Rules.{rules}
 use Rattle.recording_lists.proofs.pair_lists.counted_string.Goals as goal
 
 pub returns-then-byte_at-ne34 : goal.returns-then-byte_at-ne34
@@ -33,7 +32,7 @@ overflow_sub-len c =
     let a = c.args in
     let b = c.byte_at in
     let d = c.decode in
-        let h = b.ensures.1 (omega arith) in
+    let h = b.ensures.1 (omega arith) in
     omega (
       arith,
       read_length a.s.now a.out.now a.at a.n h (sym b.ensures.0 ∙ c.if-byte_at-ne34.false) d.new.out c.in-Got.len c.in-Got.next
@@ -45,7 +44,7 @@ overflow_sub-len-2 c =
     let a = c.args in
     let b = c.byte_at in
     let d = c.decode in
-        let h = b.ensures.1 (omega arith) in
+    let h = b.ensures.1 (omega arith) in
     omega (
       arith,
       read_length a.s.now a.out.now a.at a.n h (sym b.ensures.0 ∙ c.if-byte_at-ne34.false) d.new.out c.in-Got.len c.in-Got.next
@@ -57,7 +56,7 @@ returns c =
     let a = c.args in
     let b = c.byte_at in
     let d = c.decode in
-        let h = b.ensures.1 (omega arith) in
+    let h = b.ensures.1 (omega arith) in
     let p = sym b.ensures.0 ∙ c.if-byte_at-ne34.false in
     let e = ap (string_meant a.s.now d.new.out) (sym c.in-Got.is) ∙ d.ensures.0 in
     let f : c.in-Got.len ≤ length d.new.out = omega (arith, ap string_length (sym c.in-Got.is), d.ensures.2, d.auto.out) in

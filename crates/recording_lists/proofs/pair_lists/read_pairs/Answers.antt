@@ -1,12 +1,11 @@
 -- `recording_lists::pairs::read_pairs` meets its contract. Assumes nothing.
 use native.Mathlib.Omega.{arith}
-use borrow.Author.Rules.{rules}
-use Rattle.recording_lists.proofs.PairLists.{SoFar, begin, finish, fail, advances, step}
+use Rattle.recording_lists.proofs.PairLists.{begin, finish, fail, advances, step}
 use Rattle.recording_read.specs.Meant.{string_meant, string_length, room_after}
 use Rattle.recording.specs.Read.{items, read_pair}
-use lib.ListN.{length, drop}
-use Prim.Native.Nat.{◌+◌, ◌-◌, ◌*◌, ◌≤◌}
-use mathlib.Core.Path.{◌≡◌, refl, sym, ap, ◌∙◌}
+use lib.ListN.{drop}
+use Prim.Native.Nat.{◌-◌}
+use mathlib.Core.Path.{refl, sym, ap, ◌∙◌}
 use Rattle.recording_lists.proofs.pair_lists.read_pairs.Goals as goal
 
 pub loop-out-init : goal.loop-out-init
@@ -48,7 +47,7 @@ loop-out-smaller c =
     let h = b.ensures.1 (omega arith) in
     let p = sym b.ensures.0 ∙ c.loop-out-test.true in
     let w = c.counted_pair in
-        advances (items read_pair (drop a.at s)) s l.out l.n l.i l.invariant.3 h p w.new.out c.in-Got.len c.in-Got.next (ap (string_meant s w.new.out) (sym c.in-Got.is) ∙ w.ensures.0)
+    advances (items read_pair (drop a.at s)) s l.out l.n l.i l.invariant.3 h p w.new.out c.in-Got.len c.in-Got.next (ap (string_meant s w.new.out) (sym c.in-Got.is) ∙ w.ensures.0)
 
 pub loop-out-preserved : goal.loop-out-preserved
 loop-out-preserved c =
@@ -58,8 +57,7 @@ loop-out-preserved c =
     let b = c.byte_at in
     let h = b.ensures.1 (omega arith) in
     let p = sym b.ensures.0 ∙ c.loop-out-test.true in
-    let w = c.counted_pair in
-    (
+    let w = c.counted_pair in (
       w.auto.out ∙ l.invariant.0,
       omega (arith, l.invariant.1, ap (room_after s) (sym c.in-Got.is), w.ensures.1),
       omega (arith, ap string_length (sym c.in-Got.is), w.ensures.2, w.auto.out),

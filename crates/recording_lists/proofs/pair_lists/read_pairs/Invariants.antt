@@ -1,12 +1,9 @@
 -- `recording_lists::pairs::read_pairs` meets its contract. Assumes nothing.
-use native.Mathlib.Omega.{arith}
-use borrow.Author.Rules.{rules}
-use Rattle.recording_lists.proofs.PairLists.{SoFar, begin, finish, fail, advances, step}
-use Rattle.recording_read.specs.Meant.{string_meant, string_length, room_after}
+use Rattle.recording_lists.proofs.PairLists.{SoFar}
 use Rattle.recording.specs.Read.{items, read_pair}
 use lib.ListN.{length, drop}
 use Prim.Native.Nat.{◌+◌, ◌-◌, ◌*◌, ◌≤◌}
-use mathlib.Core.Path.{◌≡◌, refl, sym, ap, ◌∙◌}
+use mathlib.Core.Path.{◌≡◌}
 use Rattle.recording_lists.proofs.pair_lists.read_pairs.Given as goal
 
 abbrev pub invariant-loop-out : goal.invariant-loop-out

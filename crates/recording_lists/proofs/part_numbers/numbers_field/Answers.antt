@@ -4,7 +4,6 @@ use Rattle.recording_lists.proofs.InBrackets.{no_byte, after-byte}
 use Rattle.recording_lists.specs.Packed.{packed}
 use Rattle.recording.specs.Read.{read_numbers}
 use mathlib.Core.Path.{sym, ◌∙◌}
-use borrow.Author.Rules.{rules}
 use Rattle.recording_lists.proofs.part_numbers.numbers_field.Goals as goal
 
 pub returns-then-byte_at-ne32 : goal.returns-then-byte_at-ne32

@@ -1,14 +1,13 @@
 -- `recording_lists::part_numbers::numbers_inside` meets its contract. The invariant: the numbers so far stand in `out`, and what is read after them is what is
 -- read in all. Assumes nothing.
-use mathlib.Core.Path.{◌≡◌, refl, sym, ap, ◌∙◌}
-use Prim.Native.Nat.{ℕ, ◌+◌, ◌-◌, ◌≤◌}
+use mathlib.Core.Path.{refl, sym, ap, ◌∙◌}
+use Prim.Native.Nat.{ℕ, ◌+◌, ◌-◌}
 use native.Mathlib.Omega.{arith}
-use borrow.Author.Rules.{rules}
-use lib.ListN.{length, drop}
+use lib.ListN.{drop}
 use Rattle.base_number.specs.Number.{le, replaced_at}
 use Rattle.recording.specs.Read.{inside_numbers}
 use Rattle.recording_read.specs.Meant.{number_meant}
-use Rattle.recording_lists.proofs.ListSteps.{SoFar, nothing, begin, finish, fail, fits, step, advances}
+use Rattle.recording_lists.proofs.ListSteps.{nothing, begin, finish, fail, fits, step, advances}
 use Rattle.recording_lists.proofs.part_numbers.numbers_inside.Goals as goal
 
 pub returns-in_default : goal.returns-in_default
@@ -19,13 +18,13 @@ returns-in_default c =
 pub put_u16-requires : goal.put_u16-requires
 put_u16-requires c =
     let a = c.args in
-        let e = ap (number_meant a.s.now) (sym c.in-Got.is) ∙ c.read_number.ensures in
+    let e = ap (number_meant a.s.now) (sym c.in-Got.is) ∙ c.read_number.ensures in
     omega (arith, advances a.s.now a.at c.in-Got.value c.in-Got.next e, c.requires.0, c.requires.1)
 
 pub loop-i-init : goal.loop-i-init
 loop-i-init c =
     let a = c.args in
-        let e = ap (number_meant a.s.now) (sym c.in-Got.is) ∙ c.read_number.ensures in
+    let e = ap (number_meant a.s.now) (sym c.in-Got.is) ∙ c.read_number.ensures in
     let w = c.put_u16 in
     let k = advances a.s.now a.at c.in-Got.value c.in-Got.next e in (
       refl,
@@ -53,7 +52,7 @@ pub put_u16-requires-in-loop-i : goal.put_u16-requires-in-loop-i
 put_u16-requires-in-loop-i c =
     let a = c.args in
     let l = c.loop-i in
-        let e = ap (number_meant a.s.now) (sym c.in-Got-read_number.is) ∙ c.read_number-in-loop-i.ensures in
+    let e = ap (number_meant a.s.now) (sym c.in-Got-read_number.is) ∙ c.read_number-in-loop-i.ensures in
     let h = c.byte_at.ensures.1 (omega arith) in
     let p = sym c.byte_at.ensures.0 ∙ c.loop-i-test.true in
     omega (arith, fits (inside_numbers (drop a.at a.s.now)) a.s.now l.out l.n l.i l.invariant.2 h p c.in-Got-read_number.value c.in-Got-read_number.next e, l.invariant.0, c.requires.1)
@@ -62,7 +61,7 @@ pub loop-i-smaller : goal.loop-i-smaller
 loop-i-smaller c =
     let a = c.args in
     let l = c.loop-i in
-        let e = ap (number_meant a.s.now) (sym c.in-Got-read_number.is) ∙ c.read_number-in-loop-i.ensures in
+    let e = ap (number_meant a.s.now) (sym c.in-Got-read_number.is) ∙ c.read_number-in-loop-i.ensures in
     let h = c.byte_at.ensures.1 (omega arith) in
     let p = sym c.byte_at.ensures.0 ∙ c.loop-i-test.true in
     omega (arith, advances a.s.now (l.i + 1) c.in-Got-read_number.value c.in-Got-read_number.next e, h)
@@ -71,7 +70,7 @@ pub loop-i-preserved : goal.loop-i-preserved
 loop-i-preserved c =
     let a = c.args in
     let l = c.loop-i in
-        let e = ap (number_meant a.s.now) (sym c.in-Got-read_number.is) ∙ c.read_number-in-loop-i.ensures in
+    let e = ap (number_meant a.s.now) (sym c.in-Got-read_number.is) ∙ c.read_number-in-loop-i.ensures in
     let h = c.byte_at.ensures.1 (omega arith) in
     let p = sym c.byte_at.ensures.0 ∙ c.loop-i-test.true in
     let w = c.put_u16-in-loop-i in (

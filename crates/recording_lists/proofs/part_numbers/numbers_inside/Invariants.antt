@@ -1,14 +1,10 @@
 -- `recording_lists::part_numbers::numbers_inside` meets its contract. The invariant: the numbers so far stand in `out`, and what is read after them is what is
 -- read in all. Assumes nothing.
-use mathlib.Core.Path.{◌≡◌, refl, sym, ap, ◌∙◌}
-use Prim.Native.Nat.{ℕ, ◌+◌, ◌-◌, ◌≤◌}
-use native.Mathlib.Omega.{arith}
-use borrow.Author.Rules.{rules}
+use mathlib.Core.Path.{◌≡◌}
+use Prim.Native.Nat.{◌-◌, ◌≤◌}
 use lib.ListN.{length, drop}
-use Rattle.base_number.specs.Number.{le, replaced_at}
 use Rattle.recording.specs.Read.{inside_numbers}
-use Rattle.recording_read.specs.Meant.{number_meant}
-use Rattle.recording_lists.proofs.ListSteps.{SoFar, nothing, begin, finish, fail, fits, step, advances}
+use Rattle.recording_lists.proofs.ListSteps.{SoFar}
 use Rattle.recording_lists.proofs.part_numbers.numbers_inside.Given as goal
 
 abbrev pub invariant-loop-i : goal.invariant-loop-i

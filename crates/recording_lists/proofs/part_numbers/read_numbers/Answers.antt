@@ -7,7 +7,6 @@ use Rattle.recording_lists.specs.Packed.{packed}
 use Rattle.recording.specs.Read.{closed, inside_numbers, read_numbers}
 use lib.ListN.{take}
 use mathlib.Core.Path.{sym, ap, ◌∙◌}
-use borrow.Author.Rules.{rules}
 use Rattle.recording_lists.proofs.part_numbers.read_numbers.Goals as goal
 
 pub returns-then-byte_at-ne40 : goal.returns-then-byte_at-ne40
@@ -41,7 +40,7 @@ returns-then-byte_at-ne41 c =
     let p = sym b.ensures.0 ∙ c.if-byte_at-ne40.false in
     let t = after-byte (closed inside_numbers) packed s a.at 40 h p in
     let w = c.numbers_inside in
-        let y = take c.in-Got.len w.new.out in
+    let y = take c.in-Got.len w.new.out in
     let e = ap (string_meant s w.new.out) (sym c.in-Got.is) ∙ w.ensures.0 in
     let b₂ = c.byte_at-2 in
     (no-close inside_numbers packed s (a.at + 1) y c.in-Got.next e (λ x. c.if-byte_at-ne41.true (b₂.ensures.0 ∙ x)) ∙ t, omega arith)
@@ -59,7 +58,7 @@ returns c =
     let p = sym b.ensures.0 ∙ c.if-byte_at-ne40.false in
     let t = after-byte (closed inside_numbers) packed s a.at 40 h p in
     let w = c.numbers_inside in
-        let y = take c.in-Got.len w.new.out in
+    let y = take c.in-Got.len w.new.out in
     let e = ap (string_meant s w.new.out) (sym c.in-Got.is) ∙ w.ensures.0 in
     let b₂ = c.byte_at-2 in
     (is-closed inside_numbers packed s (a.at + 1) y c.in-Got.next e (b₂.ensures.1 (omega arith)) (sym b₂.ensures.0 ∙ c.if-byte_at-ne41.false) ∙ t, omega (arith, ap string_length (sym c.in-Got.is), w.ensures.1))

@@ -1,8 +1,7 @@
 -- `recording_read::numbers::digits` meets its contract. The invariant: what is read from here on with v before it is what is read in all. Assumes nothing.
-use mathlib.Core.Path.{◌≡◌, refl}
 use Prim.Native.Nat.{◌-◌}
 use native.Mathlib.Omega.{arith}
-use lib.ListN.{length, drop}
+use lib.ListN.{drop}
 use Rattle.recording.specs.Read.{digits_on}
 use Rattle.recording_read.proofs.NumberSteps.{ended, stopped, wide, more}
 use Rattle.recording_read.proofs.numbers.digits.Goals as goal

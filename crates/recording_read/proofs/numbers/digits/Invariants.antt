@@ -1,10 +1,8 @@
 -- `recording_read::numbers::digits` meets its contract. The invariant: what is read from here on with v before it is what is read in all. Assumes nothing.
-use mathlib.Core.Path.{◌≡◌, refl}
+use mathlib.Core.Path.{◌≡◌}
 use Prim.Native.Nat.{◌-◌}
-use native.Mathlib.Omega.{arith}
 use lib.ListN.{length, drop}
 use Rattle.recording.specs.Read.{digits_on}
-use Rattle.recording_read.proofs.NumberSteps.{ended, stopped, wide, more}
 use Rattle.recording_read.proofs.numbers.digits.Given as goal
 
 abbrev pub invariant-loop-i : goal.invariant-loop-i

@@ -1,6 +1,5 @@
 -- `recording_read::numbers::read_number` meets its contract. Assumes nothing.
 use native.Mathlib.Omega.{arith}
-use borrow.Author.Rules.{rules}
 use mathlib.Core.Path.{◌∙◌}
 use Rattle.recording_read.proofs.NumberSteps.{zero-at, none-at, digits-at}
 use Rattle.recording_read.proofs.numbers.read_number.Goals as goal

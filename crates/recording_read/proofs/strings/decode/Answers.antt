@@ -1,7 +1,7 @@
 -- `recording_read::strings::decode` meets its contract. The invariant: what is read from here on, after the m bytes in `out`, is what is read in all.
 -- Assumes nothing.
-use mathlib.Core.Path.{◌≡◌, refl}
-use Prim.Native.Nat.{◌-◌, ◌+◌, ◌*◌, ◌<◌}
+use mathlib.Core.Path.{refl}
+use Prim.Native.Nat.{◌-◌, ◌+◌, ◌<◌}
 use native.Mathlib.Omega.{arith}
 use lib.ListN.{length, take, drop, length-set}
 use Rattle.recording.specs.Read.{hex_on}

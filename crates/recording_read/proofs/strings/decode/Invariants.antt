@@ -1,11 +1,9 @@
 -- `recording_read::strings::decode` meets its contract. The invariant: what is read from here on, after the m bytes in `out`, is what is read in all.
 -- Assumes nothing.
-use mathlib.Core.Path.{◌≡◌, refl}
-use Prim.Native.Nat.{◌-◌, ◌+◌, ◌*◌, ◌<◌}
-use native.Mathlib.Omega.{arith}
-use lib.ListN.{length, take, drop, length-set}
+use mathlib.Core.Path.{◌≡◌}
+use Prim.Native.Nat.{◌-◌, ◌+◌, ◌*◌}
+use lib.ListN.{length, take, drop}
 use Rattle.recording.specs.Read.{hex_on}
-use Rattle.recording_read.proofs.StringSteps.{unclosed, closed, bad, second, more}
 use Rattle.recording_read.proofs.strings.decode.Given as goal
 
 abbrev pub invariant-loop-i : goal.invariant-loop-i

@@ -1,7 +1,6 @@
 -- `recording_read::strings::hex_pair` meets its contract. Assumes nothing.
 use mathlib.Core.Path.{sym}
 use native.Mathlib.Omega.{arith}
-use borrow.Author.Rules.{rules}
 use Rattle.recording.proofs.Strings.{no-high, no-low, both-digits}
 use Rattle.recording_read.proofs.strings.hex_pair.Goals as goal
 

@@ -1,7 +1,6 @@
 -- `recording_read::strings::hex_value` meets its contract: the tests are the definition's. Assumes nothing.
 use Prim.Native.Nat.{◌<◌}
 use native.Mathlib.Omega.{arith}
-use borrow.Author.Rules.{rules}
 use Rattle.machine.proofs.Tests.{tests}
 use Rattle.recording.specs.Read.{hex_value}
 use Rattle.recording_read.proofs.strings.hex_value.Goals as goal

@@ -1,6 +1,5 @@
 -- `recording_read::strings::read_string` meets its contract. Assumes nothing.
 use native.Mathlib.Omega.{arith}
-use borrow.Author.Rules.{rules}
 use mathlib.Core.Path.{sym, ◌∙◌}
 use mathlib.Core.List.{[]}
 use Rattle.recording.specs.Read.{hex_on, read_string}

@@ -1,6 +1,5 @@
 -- `recording_read::strings::string_field` meets its contract. Assumes nothing.
 use native.Mathlib.Omega.{arith}
-use borrow.Author.Rules.{rules}
 use mathlib.Core.Path.{sym, ◌∙◌}
 use Rattle.recording.specs.Read.{read_string}
 use Rattle.recording_read.proofs.Places.{past-at, past-not}

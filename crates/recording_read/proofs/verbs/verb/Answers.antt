@@ -1,5 +1,4 @@
 -- `recording_read::verbs::verb` meets its contract. Assumes nothing.
-use borrow.Author.Rules.{rules}
 use mathlib.Core.Path.{sym, ◌∙◌}
 use Rattle.recording_read.proofs.verbs.verb.Goals as goal
 

@@ -1,5 +1,4 @@
 -- `store_history::batch::fresh_batch` meets its contract. Assumes nothing.
-use borrow.Author.Rules.{rules}
 use mathlib.Core.Path.{refl}
 use Rattle.store_history.proofs.Concluding.{conclude}
 use Rattle.store_history.proofs.batch.fresh_batch.Goals as goal

@@ -1,5 +1,4 @@
 -- `store_history::batch::weigh` meets its contract. Assumes nothing.
-use borrow.Author.Rules.{rules}
 use Rattle.store_history.specs.Runs.{stop, call}
 use Rattle.store_history.specs.Batch.{batch_trace}
 use Rattle.machine.specs.PartLists.{part_list}

@@ -7,7 +7,7 @@ use std::collections::{BTreeMap, BTreeSet};
 use std::time::{Duration, Instant};
 
 /// No new list is tried after this long.
-const LONGEST: Duration = Duration::from_secs(40);
+const LONGEST: Duration = Duration::from_secs(240);
 
 /// Takes steps out and makes arguments plainer as long as the list fails. `fails` gives the step
 /// that does.

@@ -183,7 +183,8 @@ fn by_length(a: &[u8], b: &[u8], n: usize) -> Order
     requires { SameStart a.now b.now n }
     ensures { result ≡ order_of (by_bytes a.now b.now) }
 {
-    if n < a.len() {
+    let longer = n < a.len();
+    if longer {
         return Order::Greater;
     }
     if n < b.len() {

@@ -77,7 +77,8 @@ fn put_digest(v: Digest, out: &mut [u8]) -> u32
     ensures { (result ≡ answer (eqb (length out.old) 16))
         × (out.new ≡ changed result out.old (bytes_of v)) }
 {
-    if out.len() != 16 {
+    let unfit = out.len() != 16;
+    if unfit {
         return 1;
     }
     base_md5::put(out, 0, v);

@@ -21,7 +21,8 @@ pub(crate) fn refusal(tables: &[u8], arena: &[u8], count: usize, left: usize, re
     if left != 0 {
         return call_types::BAD_REQUEST;
     }
-    if results < count {
+    let short = results < count;
+    if short {
         return call_types::BUFFER_SHORT;
     }
     0

@@ -87,7 +87,8 @@ pub fn arrange(
         → Arranged tables.old arena.old at base list.now k.listed_at
         tables.new arena.new result }
 {
-    if !ascends {
+    let unordered = !ascends;
+    if unordered {
         order_parts(tables, arena, at, base, list);
     }
     digests::joined_digest(tables, at, list.len() / 2)

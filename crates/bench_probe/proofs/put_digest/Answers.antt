@@ -5,10 +5,10 @@ use Rattle.base_md5.specs.Md5.{bytes_of}
 use Rattle.bench_probe.proofs.Tests.{whole}
 use Rattle.bench_probe.proofs.put_digest.Goals as goal
 
-pub returns-then-out-ne16 : goal.returns-then-out-ne16
-returns-then-out-ne16 c = (simp (ne_eqb _ _ c.if-out-ne16.true), refl)
+pub returns-then-unfit : goal.returns-then-unfit
+returns-then-unfit c = (simp (ne_eqb _ _ c.if-unfit.true), refl)
 
 pub returns : goal.returns
 returns c =
-    let sixteen = c.if-out-ne16.false in
+    let sixteen = c.if-unfit.false in
     (simp (eq-eqb _ _ sixteen), c.put.ensures ∙ whole c.args.out.now (bytes_of c.args.v) 16 sixteen)

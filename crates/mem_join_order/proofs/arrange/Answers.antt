@@ -9,7 +9,7 @@ use Rattle.mem_join_order.specs.Region.{Arrangeable, ordered_tables, ordered_are
 use Rattle.mem_join_order.proofs.Listed.{ordered_at, ordered-listed, in_order}
 use native.Mathlib.Omega.{arith}
 use Rattle.mem_join_order.proofs.arrange.Goals as goal
-use Rattle.mem_join_order.proofs.arrange.Goals.{then-not-ascends, else-not-ascends}
+use Rattle.mem_join_order.proofs.arrange.Goals.{then-unordered, else-unordered}
 
 pub joined_digest-requires : goal.joined_digest-requires
 joined_digest-requires c =
@@ -17,9 +17,9 @@ joined_digest-requires c =
     let a : List ℕ = c.args.arena.now in
     let list : List ℕ = c.args.list.now in
     let ordered : (k : Arrangeable t a c.args.at c.args.base list c.args.ascends)
-    → (c.if-not-ascends.tables ≡ ordered_tables t a c.args.at c.args.base list k.listed_at) × (c.if-not-ascends.arena ≡ ordered_arena t a c.args.at c.args.base list k.listed_at) = λ k. elim c.if-not-ascends.branch [
-      | then-not-ascends w ↦ (let e = w.order_parts.ensures k.listed_at in (w.tables-is ∙ e.0, w.arena-is ∙ e.1))
-      | else-not-ascends w ↦ (let e = in_order t a _ _ list k.listed_at (k.in_order w.if-not-ascends.false) in (w.tables-is ∙ e.0, w.arena-is ∙ e.1))
+    → (c.if-unordered.tables ≡ ordered_tables t a c.args.at c.args.base list k.listed_at) × (c.if-unordered.arena ≡ ordered_arena t a c.args.at c.args.base list k.listed_at) = λ k. elim c.if-unordered.branch [
+      | then-unordered w ↦ (let e = w.order_parts.ensures k.listed_at in (w.tables-is ∙ e.0, w.arena-is ∙ e.1))
+      | else-unordered w ↦ (let e = in_order t a _ _ list k.listed_at (k.in_order w.if-unordered.false) in (w.tables-is ∙ e.0, w.arena-is ∙ e.1))
     ] in
     let p = c.requires in
     (ordered_at _ _ _ _ _ p.listed_at _ (ordered p).0, let n = p.few in omega arith)
@@ -30,9 +30,9 @@ returns c k =
     let a : List ℕ = c.args.arena.now in
     let list : List ℕ = c.args.list.now in
     let ordered : (k : Arrangeable t a c.args.at c.args.base list c.args.ascends)
-    → (c.if-not-ascends.tables ≡ ordered_tables t a c.args.at c.args.base list k.listed_at) × (c.if-not-ascends.arena ≡ ordered_arena t a c.args.at c.args.base list k.listed_at) = λ k. elim c.if-not-ascends.branch [
-      | then-not-ascends w ↦ (let e = w.order_parts.ensures k.listed_at in (w.tables-is ∙ e.0, w.arena-is ∙ e.1))
-      | else-not-ascends w ↦ (let e = in_order t a _ _ list k.listed_at (k.in_order w.if-not-ascends.false) in (w.tables-is ∙ e.0, w.arena-is ∙ e.1))
+    → (c.if-unordered.tables ≡ ordered_tables t a c.args.at c.args.base list k.listed_at) × (c.if-unordered.arena ≡ ordered_arena t a c.args.at c.args.base list k.listed_at) = λ k. elim c.if-unordered.branch [
+      | then-unordered w ↦ (let e = w.order_parts.ensures k.listed_at in (w.tables-is ∙ e.0, w.arena-is ∙ e.1))
+      | else-unordered w ↦ (let e = in_order t a _ _ list k.listed_at (k.in_order w.if-unordered.false) in (w.tables-is ∙ e.0, w.arena-is ∙ e.1))
     ] in
     let e = ordered k in
     record {

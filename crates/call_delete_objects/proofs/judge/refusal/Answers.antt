@@ -25,16 +25,16 @@ returns-then-left-ne0 c =
     → Judged c.args.count c.args.left c.args.results (memory c.args.tables.now c.args.arena.now) n = list-judged _ _ _ (memory c.args.tables.now c.args.arena.now) (λ j. (c.shared_slice_known-1.given j).fits) (said-yes c.whole.ensures (ap not c.if-not-whole.false)) in
     judged 2 (rw (le-leb _ 1000 c.if-count-gt-PLACES_MOST.false, ne_eqb _ 0 c.if-left-ne0.true))
 
-pub returns-then-results-count : goal.returns-then-results-count
+pub returns-then-short : goal.returns-then-short
 unfolding list_refusal
-returns-then-results-count c =
+returns-then-short c =
     let judged : (n : _) → n ≡ list_refusal c.args.count c.args.left c.args.results
     → Judged c.args.count c.args.left c.args.results (memory c.args.tables.now c.args.arena.now) n = list-judged _ _ _ (memory c.args.tables.now c.args.arena.now) (λ j. (c.shared_slice_known-1.given j).fits) (said-yes c.whole.ensures (ap not c.if-not-whole.false)) in
-    judged 7 (rw (le-leb _ 1000 c.if-count-gt-PLACES_MOST.false, eq-eqb _ 0 c.if-left-ne0.false, lt-leb _ _ c.if-results-count.true))
+    judged 7 (rw (le-leb _ 1000 c.if-count-gt-PLACES_MOST.false, eq-eqb _ 0 c.if-left-ne0.false, lt-leb _ _ c.if-short.true))
 
 pub returns : goal.returns
 unfolding list_refusal
 returns c =
     let judged : (n : _) → n ≡ list_refusal c.args.count c.args.left c.args.results
     → Judged c.args.count c.args.left c.args.results (memory c.args.tables.now c.args.arena.now) n = list-judged _ _ _ (memory c.args.tables.now c.args.arena.now) (λ j. (c.shared_slice_known-1.given j).fits) (said-yes c.whole.ensures (ap not c.if-not-whole.false)) in
-    judged 0 (rw (le-leb _ 1000 c.if-count-gt-PLACES_MOST.false, eq-eqb _ 0 c.if-left-ne0.false, le-leb _ _ c.if-results-count.false))
+    judged 0 (rw (le-leb _ 1000 c.if-count-gt-PLACES_MOST.false, eq-eqb _ 0 c.if-left-ne0.false, le-leb _ _ c.if-short.false))

@@ -33,9 +33,6 @@ read_head-h-requires c =
 pub find_from-requires : goal.find_from-requires
 find_from-requires c = (c.requires, c.loop-i.invariant)
 
-pub returns-then-h-ne0 : goal.returns-then-h-ne0
-returns-then-h-ne0 c = c.find_from.ensures
-
 pub overflow_add-from : goal.overflow_add-from
 overflow_add-from c =
     let t : List ℕ = c.args.tables.now in

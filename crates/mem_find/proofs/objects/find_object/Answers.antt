@@ -140,7 +140,7 @@ loop-i-preserved c =
     let turn : Turn (t) (a) (s) c.args.path.now c.loop-i.i c.loop-i.at c.loop-i.base c.read_head-h.result = object-turn (t) (a) (s) (stands) c.args.path.now c.loop-i.i c.loop-i.at c.loop-i.base c.loop-i.invariant (more) c.read_head-h.result c.read_head-h.ensures in
     let told : c.is_below.result ≡ is_below (take c.read_head-h.result.pathlen (drop (c.loop-i.at + head_length) (t))) c.args.path.now = rw add-sub_cancel_left at c.is_below.ensures in
     let h = c.read_head-h.result in
-    let next : c.loop-i.at + head_length + h.pathlen ≡ c.loop-i.at + span h = omega (arith, c.if-h-ne0.false) in
+    let next : c.loop-i.at + head_length + h.pathlen ≡ c.loop-i.at + span h = omega arith in
     subst (λ (n : ℕ). Passed (s) c.args.path.now (c.loop-i.i + 1) n (c.loop-i.base + h.size)) (sym next)
     ((turn).on (said-yes (told) (ap not c.if-not-is_below.false)))
 

@@ -1,15 +1,9 @@
 -- `base_buffer::rotate` meets its contract. The invariant: what is left to rotate, from `from` on, gives what the whole rotation gives. Assumes nothing.
-use mathlib.Core.Path.{refl, ◌∙◌}
+use mathlib.Core.Path.{◌∙◌}
 use native.Mathlib.Omega.{arith}
 use Rattle.base_buffer.proofs.Rotating.{swap-left, swap-right, none_left, none_right}
 use Rattle.base_buffer.proofs.rotate.Goals.{else-l-gt0-via-then-l-gt0+else-r-gt0-2, else-l-gt0-via-else-l-gt0}
 use Rattle.base_buffer.proofs.rotate.Goals as goal
-
-pub loop-l-init : goal.loop-l-init
-loop-l-init c = (omega arith, refl, refl)
-
-pub returns-then-r-gt0 : goal.returns-then-r-gt0
-returns-then-r-gt0 c = c.rotate_small_right.ensures ∙ c.loop-l.invariant.2
 
 pub returns-else-r-gt0 : goal.returns-else-r-gt0
 returns-else-r-gt0 c =

@@ -5,7 +5,7 @@ ghost use Rattle.mem_find.specs.Places.{object_place, Passed};
 
 use crate::counts::read_counts;
 use crate::{Lookup, RowPlace, TwoLookups, lookup_at, place_of};
-use base_order::Order;
+use std::cmp::Ordering;
 
 // The place of the object at `path`. While rows have no pairs, the next row begins where the path ends.
 pub fn find_object(tables: &[u8], arena: &[u8], path: &[u8]) -> Lookup
@@ -80,21 +80,21 @@ pub fn find_two(tables: &[u8], arena: &[u8], first: &[u8], second: &[u8]) -> Two
 {
     let o = base_order::compare(first, second);
     match o {
-        Order::Greater => {
+        Ordering::Greater => {
             let low = find_object(tables, arena, second);
             TwoLookups {
                 first: find_from(tables, arena, first, place_of(low)),
                 second: low,
             }
         }
-        Order::Equal => {
+        Ordering::Equal => {
             let low = find_object(tables, arena, first);
             TwoLookups {
                 first: low,
                 second: low,
             }
         }
-        Order::Less => {
+        Ordering::Less => {
             let low = find_object(tables, arena, first);
             TwoLookups {
                 first: low,

@@ -11,8 +11,6 @@ ghost use Rattle.recording.specs.Parse.{path_rest, list_rest, whole};
 ghost use Rattle.recording_line.specs.Replayed.{Replayed};
 
 use call_types::{GetAnswer, ListAnswer};
-use recording_arguments::ListRead;
-use recording_read::StringRead;
 
 // The rest of a line that begins with "(get", which ends at `at`.
 pub fn get_line(
@@ -32,20 +30,14 @@ pub fn get_line(
         (memory tables.now arena.now) }
 {
     let mut path = [0u8; 2048];
-    let StringRead::Got { len, next } = recording_read::string_field(line, at, &mut path) else {
+    let read = recording_read::string_field(line, at, &mut path);
+    let Some(len) = recording_read::closed(line, read) else {
         return GetAnswer::Refused(recording_line::refusal(
             tables,
             arena,
             recording_line::NOT_A_LINE,
         ));
     };
-    if !recording_read::ends_line(line, next) {
-        return GetAnswer::Refused(recording_line::refusal(
-            tables,
-            arena,
-            recording_line::NOT_A_LINE,
-        ));
-    }
     call_get::get(tables, arena, &path[..len], answer, pairs)
 }
 
@@ -60,20 +52,14 @@ pub fn head_line(tables: &[u8], arena: &[u8], line: &[u8], at: usize, pairs: &mu
         (memory tables.now arena.now) }
 {
     let mut path = [0u8; 2048];
-    let StringRead::Got { len, next } = recording_read::string_field(line, at, &mut path) else {
+    let read = recording_read::string_field(line, at, &mut path);
+    let Some(len) = recording_read::closed(line, read) else {
         return GetAnswer::Refused(recording_line::refusal(
             tables,
             arena,
             recording_line::NOT_A_LINE,
         ));
     };
-    if !recording_read::ends_line(line, next) {
-        return GetAnswer::Refused(recording_line::refusal(
-            tables,
-            arena,
-            recording_line::NOT_A_LINE,
-        ));
-    }
     call_get::head(tables, arena, &path[..len], pairs)
 }
 
@@ -94,20 +80,14 @@ pub fn uploads_line(
         (memory tables.now arena.now) }
 {
     let mut path = [0u8; 2048];
-    let StringRead::Got { len, next } = recording_read::string_field(line, at, &mut path) else {
+    let read = recording_read::string_field(line, at, &mut path);
+    let Some(len) = recording_read::closed(line, read) else {
         return ListAnswer::Refused(recording_line::refusal(
             tables,
             arena,
             recording_line::NOT_A_LINE,
         ));
     };
-    if !recording_read::ends_line(line, next) {
-        return ListAnswer::Refused(recording_line::refusal(
-            tables,
-            arena,
-            recording_line::NOT_A_LINE,
-        ));
-    }
     call_uploads::uploads(tables, arena, &path[..len], answer)
 }
 
@@ -129,24 +109,15 @@ pub fn list_line(
 {
     let mut p = [0u8; 2048];
     let mut d = [0u8; 2048];
-    let ListRead::Got {
-        prefix,
-        suffix,
-        next,
-    } = recording_arguments::read_list(line, at, &mut p, &mut d)
-    else {
+    let read = recording_arguments::read_list(line, at, &mut p, &mut d);
+    let Some(list) = recording_read::closed(line, read) else {
         return ListAnswer::Refused(recording_line::refusal(
             tables,
             arena,
             recording_line::NOT_A_LINE,
         ));
     };
-    if !recording_read::ends_line(line, next) {
-        return ListAnswer::Refused(recording_line::refusal(
-            tables,
-            arena,
-            recording_line::NOT_A_LINE,
-        ));
-    }
-    call_list::list(tables, arena, &p[..prefix], &d[..suffix], answer)
+    let prefix = &p[..list.prefix];
+    let suffix = &d[..list.suffix];
+    call_list::list(tables, arena, prefix, suffix, answer)
 }

@@ -1,12 +1,11 @@
 -- A line by its verb. Assumes nothing.
-use Prim.Native.Nat.{ℕ, zero, suc, ◌≤◌, ◌<◌}
+use Prim.Native.Nat.{ℕ, ◌≤◌, ◌<◌}
 use mathlib.Core.Path.{◌≡◌, refl, sym, ap, ap₂, subst, ◌∙◌}
-use mathlib.Core.Bool.{true, false}
 use mathlib.Core.List.{[], ◌++◌, append-nil}
 use mathlib.Core.Option.{Option, none}
 use native.Mathlib.Omega.{arith}
 use lib.ListN.{length, drop_of_length-le}
-use borrow.Author.Tests.{eqb-true, ne_eqb, le-leb, lt-leb}
+use borrow.Author.Tests.{le-leb, lt-leb}
 use Rattle.machine.specs.Names.{Bytes}
 use Rattle.machine.specs.Calls.{Reply, Answer, Buffers, buffers, no_buffers}
 use Rattle.machine.specs.Steps.{over, written}
@@ -29,41 +28,8 @@ use Rattle.recording.specs.Parse.{verbs, verb_index, by_index, parse, entry_of, 
 use Rattle.recording.proofs.Readers.{by-test}
 use Rattle.recording.proofs.Wholes.{parse-at}
 use Rattle.recording_line.specs.Replayed.{refusal_over, not_a_line, Replayed, ReplayedAlone}
-use Rattle.recording_replay.specs.Replayed.{LineDone, LineReplayed, changing, sending, looking}
+use Rattle.recording_replay.specs.Replayed.{LineDone, LineReplayed}
 use Rattle.recording_replay.proofs.Tells.{LinesTell}
-
--- Which verb -----------------------------------------------------------------------------------------------------------------
-
-pub last-change : (v : ℕ) → changing v ≡ true → (v ≡ 0 → ⊥) → (v ≡ 3 → ⊥) → (v ≡ 4 → ⊥) → (v ≡ 8 → ⊥) → v ≡ 9
-unfolding changing
-last-change v h a b c d = eqb-true v 9 (rw (ne_eqb v 0 a, ne_eqb v 3 b, ne_eqb v 4 c, ne_eqb v 8 d) at h)
-
-pub last-send : (v : ℕ) → sending v ≡ true → (v ≡ 6 → ⊥) → v ≡ 7
-unfolding sending
-last-send v h a = eqb-true v 7 (rw (ne_eqb v 6 a) at h)
-
-pub last-look : (v : ℕ) → looking v ≡ true → (v ≡ 1 → ⊥) → (v ≡ 2 → ⊥) → (v ≡ 5 → ⊥) → v ≡ 10
-unfolding looking
-last-look v h a b c = eqb-true v 10 (rw (ne_eqb v 1 a, ne_eqb v 2 b, ne_eqb v 5 c) at h)
-
-never : {B : Type 0} → true ≡ false → B
-never e = let z : ◌≡◌ {A = ℕ} 0 1 = cc in absurd (omega arith)
-
--- no verb has another index
-none-at : (v : ℕ) → looking v ≡ false → sending v ≡ false → changing v ≡ false → (l : Bytes) → whole (by_index verbs v l) ≡ none
-unfolding looking sending changing
-none-at zero a b c l = never c
-none-at (suc zero) a b c l = never a
-none-at (suc (suc zero)) a b c l = never a
-none-at (suc (suc (suc zero))) a b c l = never c
-none-at (suc (suc (suc (suc zero)))) a b c l = never c
-none-at (suc (suc (suc (suc (suc zero))))) a b c l = never a
-none-at (suc (suc (suc (suc (suc (suc zero)))))) a b c l = never b
-none-at (suc (suc (suc (suc (suc (suc (suc zero))))))) a b c l = never b
-none-at (suc (suc (suc (suc (suc (suc (suc (suc zero)))))))) a b c l = never c
-none-at (suc (suc (suc (suc (suc (suc (suc (suc (suc zero))))))))) a b c l = never c
-none-at (suc (suc (suc (suc (suc (suc (suc (suc (suc (suc zero)))))))))) a b c l = never a
-none-at (suc (suc (suc (suc (suc (suc (suc (suc (suc (suc (suc v))))))))))) a b c l = refl
 
 -- the entry of a line that is not too long
 module _ (l : Bytes) where
@@ -75,13 +41,10 @@ module _ (l : Bytes) where
   unfolding entry_of
   entry-parsed h = rw (le-leb (length l) 4096 h)
 
-  pub no-verb : (v : ℕ) → v ≡ verb_index verbs l → looking v ≡ false → sending v ≡ false → changing v ≡ false → parse l ≡ none
-  no-verb v e a b c = parse-at l v e ∙ none-at v a b c l
+  pub no-verb : 11 ≡ verb_index verbs l → parse l ≡ none
+  no-verb e = parse-at l 11 e
 
   -- what was replayed after the verb was replayed for the line
-  pub by-verb : {m m' : Memory} {r : Reply} (i : ℕ) → i ≡ verb_index verbs l → ReplayedAlone (whole (by_index verbs i l)) m r m' → ReplayedAlone (parse l) m r m'
-  by-verb {m} {m'} {r} i e h = subst (λ (o : Option Entry). ReplayedAlone o m r m') (sym (parse-at l i e)) h
-
   module _ {b b' : Buffers} {m m' : Memory} {n : ℕ} {o o' : Bytes} where
     pub line-by-verb : (i : ℕ) → i ≡ verb_index verbs l → LineDone (whole (by_index verbs i l)) b m o n b' o' m' → LineDone (parse l) b m o n b' o' m'
     line-by-verb i e h = subst (λ (x : Option Entry). LineDone x b m o n b' o' m') (sym (parse-at l i e)) h

@@ -1,28 +1,18 @@
 -- `call_delete::delete_whole` meets its contract: refused, or the object removed. Assumes nothing.
-use mathlib.Core.Path.{sym, ◌∙◌}
+use mathlib.Core.Path.{sym}
 use Rattle.mem_layout.specs.Memory.{state_of}
 use Rattle.mem_find_uploads.proofs.Answers.{object-row-place}
 use Rattle.call_contract.specs.Made.{memory}
-use Rattle.call_contract.proofs.MadeLaws.{judged}
 use Rattle.call_delete.proofs.Deleting.{delete-made}
 use Rattle.call_delete.proofs.delete_whole.Goals as goal
 
-pub returns-then-judged-ne0 : goal.returns-then-judged-ne0
-returns-then-judged-ne0 c = (judged _ c.delete_judge-judged.ensures.0 c.if-judged-ne0.true, c.if-judged-ne0.true)
-
 pub rows_end_from-end-requires : goal.rows_end_from-end-requires
 rows_end_from-end-requires c =
-    let j = c.delete_judge-judged in
-    (c.requires, object-row-place (state_of c.args.tables.now c.args.arena.now) c.args.path.now j.result.place (j.ensures.1 c.if-judged-ne0.false).1)
-
-pub remove_object-requires : goal.remove_object-requires
-remove_object-requires c =
-    let place = c.delete_judge-judged.ensures.1 c.if-judged-ne0.false in
-    ((c.requires, (c.args.path.now, place.1)), place.0, c.rows_end_from-end.ensures)
+    (c.requires, object-row-place (state_of c.args.tables.now c.args.arena.now) c.args.path.now c.in_ok-place.place c.in_ok-place.ensures.placed.1)
 
 pub returns : goal.returns
 returns c =
     let a = c.args in
-    let j = c.delete_judge-judged.ensures in
-    delete-made (memory a.tables.now a.arena.now) a.path.now (sym j.0 ∙ c.if-judged-ne0.false) _
-    (c.remove_object.ensures a.path.now (j.1 c.if-judged-ne0.false).1) c.remove_object.auto.tables c.remove_object.auto.arena
+    let e = c.in_ok-place.ensures in
+    delete-made (memory a.tables.now a.arena.now) a.path.now (sym e.judged) _
+    (c.remove_object.ensures a.path.now e.placed.1) c.remove_object.auto.tables c.remove_object.auto.arena

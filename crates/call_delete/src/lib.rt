@@ -1,7 +1,7 @@
 // DELETE.
 #![tactic(auto)]
 
-ghost use Rattle.std.specs.Prelude.{◌≡◌, true, IfOk};
+ghost use Rattle.std.specs.Prelude.{◌≡◌, true, IfOk, IfSome};
 ghost use Rattle.machine.specs.Calls.{Call};
 ghost use Rattle.mem_layout.specs.Memory.{whole, state_of};
 ghost use Rattle.mem_find.specs.Places.{object_place};
@@ -31,31 +31,33 @@ fn delete_judge(tables: &[u8], arena: &[u8], path: &[u8]) -> Result<Lookup, Refu
     Ok(place)
 }
 
-// DELETE over whole memory. The end of the rows is searched for from the object on.
-pub fn delete_whole(tables: &mut [u8], arena: &mut [u8], path: &[u8]) -> Result<(), Refusal>
-    requires { whole tables.old arena.old ≡ true }
+// DELETE over whole memory. The end of the rows is known where they stand at `offsets`; else it is searched for from the
+// object on.
+fn delete_known(
+    tables: &mut [u8],
+    arena: &mut [u8],
+    offsets: Option<Offsets>,
+    path: &[u8],
+) -> Result<(), Refusal>
+    requires is_whole { whole tables.old arena.old ≡ true }
+    requires scanned { IfSome offsets (λ o. Scanned tables.old arena.old o) }
     ensures { MadeWhole (Call.DELETE path.now) (memory tables.old arena.old) (done_reply result) (memory tables.new arena.new) }
 {
     let place = delete_judge(tables, arena, path)?;
-    let end = mem_find_uploads::rows_end_from(tables, arena, place);
+    let end = match offsets {
+        Some(o) => mem_find_uploads::rows_end(tables, arena, o),
+        None => mem_find_uploads::rows_end_from(tables, arena, place),
+    };
     mem_edit::objects::remove_object(tables, arena, place, end);
     Ok(())
 }
 
-// The same where the rows stand at `offsets`: their end is known.
-fn delete_scanned(
-    tables: &mut [u8],
-    arena: &mut [u8],
-    offsets: Offsets,
-    path: &[u8],
-) -> Result<(), Refusal>
-    requires { Scanned tables.old arena.old offsets }
+// DELETE over whole memory that was not scanned.
+pub fn delete_whole(tables: &mut [u8], arena: &mut [u8], path: &[u8]) -> Result<(), Refusal>
+    requires { whole tables.old arena.old ≡ true }
     ensures { MadeWhole (Call.DELETE path.now) (memory tables.old arena.old) (done_reply result) (memory tables.new arena.new) }
 {
-    let place = delete_judge(tables, arena, path)?;
-    let end = mem_find_uploads::rows_end(tables, arena, offsets);
-    mem_edit::objects::remove_object(tables, arena, place, end);
-    Ok(())
+    delete_known(tables, arena, None, path)
 }
 
 // DELETE: the object at path is taken out.
@@ -63,5 +65,5 @@ pub fn delete(tables: &mut [u8], arena: &mut [u8], path: &[u8]) -> Result<(), Re
     ensures { Made (Call.DELETE path.now) (memory tables.old arena.old) (done_reply result) (memory tables.new arena.new) }
 {
     let offsets = call_contract::offsets_of(tables, arena)?;
-    delete_scanned(tables, arena, offsets, path)
+    delete_known(tables, arena, Some(offsets), path)
 }

@@ -1,6 +1,6 @@
 -- The name places of a slice of them: how many there are, and where each stands. Assumes nothing.
 use Prim.Native.Nat.{ℕ}
-use mathlib.Core.Path.{◌≡◌, sym, ap, ◌∙◌}
+use mathlib.Core.Path.{◌≡◌, sym}
 use mathlib.Core.List.{List}
 use lib.ListN.{length, get_or, length-map, get_or-map}
 use Rattle.call_types.specs.declared.Place.{Place}

@@ -11,4 +11,4 @@ returns-in_err-offsets c =
     rw told (not-whole c.in_err-offsets.ensures.not_whole.1)
 
 pub returns : goal.returns
-returns c = over-whole c.in_ok-offsets.ensures.is_whole.0 c.delete_scanned.ensures
+returns c = over-whole c.in_ok-offsets.ensures.is_whole.0 c.delete_known.ensures

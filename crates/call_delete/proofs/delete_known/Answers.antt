@@ -1,14 +1,14 @@
--- `call_delete::delete_whole` meets its contract: refused, or the object removed. Assumes nothing.
+-- `call_delete::delete_known` meets its contract: refused, or the object removed. Assumes nothing.
 use mathlib.Core.Path.{sym}
 use Rattle.mem_layout.specs.Memory.{state_of}
 use Rattle.mem_find_uploads.proofs.Answers.{object-row-place}
 use Rattle.call_contract.specs.Made.{memory}
 use Rattle.call_delete.proofs.Deleting.{delete-made}
-use Rattle.call_delete.proofs.delete_whole.Goals as goal
+use Rattle.call_delete.proofs.delete_known.Goals as goal
 
 pub rows_end_from-end-requires : goal.rows_end_from-end-requires
 rows_end_from-end-requires c =
-    (c.requires, object-row-place (state_of c.args.tables.now c.args.arena.now) c.args.path.now c.in_ok-place.place c.in_ok-place.ensures.placed.1)
+    (c.requires.is_whole, object-row-place (state_of c.args.tables.now c.args.arena.now) c.args.path.now c.in_ok-place.place c.in_ok-place.ensures.placed.1)
 
 pub returns : goal.returns
 returns c =

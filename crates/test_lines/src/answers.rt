@@ -2,8 +2,8 @@
 use crate::words::front_len;
 use base_md5::words::Digest;
 use call_types::{
-    Counts, DoneAnswer, Etag, GetAnswer, InitiateAnswer, ListAnswer, Metadata, PartAnswer, Sweep,
-    SweepAnswer,
+    Counts, DoneAnswer, Etag, GetAnswer, InitiateAnswer, ListAnswer, Metadata, PartAnswer, Stamp,
+    Sweep, SweepAnswer,
 };
 use std::io;
 
@@ -12,13 +12,8 @@ pub fn print(rt: &impl Print, bytes: &[u8]) -> io::Result<()> {
     rt.write_all(bytes)
 }
 
-fn print_number(rt: &impl Print, name: &[u8], n: u64) -> io::Result<()> {
-    print(rt, name)?;
-    rt.print(n)
-}
-
 pub fn print_result(rt: &impl Print, n: u8) -> io::Result<()> {
-    print_number(rt, b": ", n as u64)
+    print!(rt; ": {n}")
 }
 
 fn print_digest(rt: &impl Print, d: Digest) -> io::Result<()> {
@@ -27,35 +22,30 @@ fn print_digest(rt: &impl Print, d: Digest) -> io::Result<()> {
     print(rt, &text)
 }
 
-fn print_etag(rt: &impl Print, name: &[u8], e: Etag) -> io::Result<()> {
-    print(rt, name)?;
+fn print_etag(rt: &impl Print, e: Etag) -> io::Result<()> {
     match e {
         Etag::Absent => print(rt, b"absent"),
         Etag::Plain(d) => print_digest(rt, d),
         Etag::Joined(d, n) => {
             print_digest(rt, d)?;
-            print_number(rt, b"-", n as u64)
+            print!(rt; "-{n}")
         }
     }
 }
 
 // The metadata; the counts of pairs where they are asked for.
 fn print_metadata(rt: &impl Print, m: Metadata, pairs: bool) -> io::Result<()> {
-    print_number(rt, b": 0, length ", m.length as u64)?;
-    let created = m.created;
-    print_number(rt, b", created ", created.0)?;
-    let e = m.etag;
-    print_etag(rt, b", etag ", e)?;
+    let Stamp(created) = m.created;
+    print!(rt; ": 0, length {}, created {}, etag ", m.length, created)?;
+    print_etag(rt, m.etag)?;
     if pairs {
-        print_number(rt, b", pairs ", m.pairs as u64)?;
-        print_number(rt, b", bytes ", m.bytes as u64)?;
+        print!(rt; ", pairs {}, bytes {}", m.pairs, m.bytes)?;
     }
     Ok(())
 }
 
 fn print_counts(rt: &impl Print, c: Counts) -> io::Result<()> {
-    print_number(rt, b": 0, records ", c.records as u64)?;
-    print_number(rt, b", bytes ", c.bytes as u64)
+    print!(rt; ": 0, records {}, bytes {}", c.records, c.bytes)
 }
 
 pub fn print_done(rt: &impl Print, a: DoneAnswer) -> io::Result<()> {
@@ -75,14 +65,17 @@ pub fn print_found(rt: &impl Print, a: GetAnswer, pairs: bool) -> io::Result<()>
 pub fn print_stored(rt: &impl Print, a: PartAnswer) -> io::Result<()> {
     match a {
         PartAnswer::Refused(n) => print_result(rt, n),
-        PartAnswer::Stored(e) => print_etag(rt, b": 0, etag ", e),
+        PartAnswer::Stored(e) => {
+            print(rt, b": 0, etag ")?;
+            print_etag(rt, e)
+        }
     }
 }
 
 pub fn print_opened(rt: &impl Print, a: InitiateAnswer) -> io::Result<()> {
     match a {
         InitiateAnswer::Refused(n) => print_result(rt, n),
-        InitiateAnswer::Opened(u) => print_number(rt, b": 0, upload ", u.0 as u64),
+        InitiateAnswer::Opened(u) => print!(rt; ": 0, upload {}", u.0),
     }
 }
 
@@ -94,12 +87,7 @@ pub fn print_written(rt: &impl Print, a: ListAnswer) -> io::Result<()> {
 }
 
 fn print_sweep(rt: &impl Print, s: Sweep) -> io::Result<()> {
-    print_number(rt, b": 0, swept ", s.count as u64)?;
-    if s.more {
-        print(rt, b", more 1")
-    } else {
-        print(rt, b", more 0")
-    }
+    print!(rt; ": 0, swept {}, more {}", s.count, u8::from(s.more))
 }
 
 pub fn print_swept(rt: &impl Print, a: SweepAnswer) -> io::Result<()> {
@@ -111,8 +99,8 @@ pub fn print_swept(rt: &impl Print, a: SweepAnswer) -> io::Result<()> {
 
 // Each byte in decimal.
 fn print_each(rt: &impl Print, bytes: &[u8]) -> io::Result<()> {
-    for i in 0..bytes.len() {
-        print_number(rt, b" ", base_number::wide(bytes[i]) as u64)?;
+    for b in bytes {
+        print!(rt; " {b}")?;
     }
     Ok(())
 }

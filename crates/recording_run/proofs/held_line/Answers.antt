@@ -6,7 +6,6 @@ use Rattle.call_contract.specs.Made.{memory}
 use Rattle.recording_run.proofs.Running.{small-refusal, small-replayed, held-run, long-run}
 use Rattle.recording_run.proofs.held_line.Goals as goal
 
--- src/lib.rt:30:9
 pub returns-then-held-gt4096 : goal.returns-then-held-gt4096
 returns-then-held-gt4096 c =
     let a = c.args in
@@ -14,13 +13,11 @@ returns-then-held-gt4096 c =
     let r = c.refusal in
     ((λ l A size s h x y st. long-run A size s m st l a.line.now a.held r.result c.requires c.if-held-gt4096.true h r.ensures), small-refusal m r.result r.ensures)
 
--- src/lib.rt:33:50
 pub slice_bounds-replay_line-end : goal.slice_bounds-replay_line-end
 slice_bounds-replay_line-end c =
     let a = c.args in
     sym (length-take-le a.held a.line.now (omega (arith, c.requires)))
 
--- src/lib.rt:15:1
 pub returns : goal.returns
 returns c =
     let a = c.args in

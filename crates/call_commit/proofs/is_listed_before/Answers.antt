@@ -1,5 +1,5 @@
 -- `call_commit::is_listed_before` meets its contract. The invariant: whether the number is one of the first k. Assumes nothing.
-use Prim.Native.Nat.{ℕ, ◌+◌, ◌-◌, ◌*◌, ◌≤◌}
+use Prim.Native.Nat.{ℕ, ◌+◌, ◌*◌, ◌≤◌}
 use mathlib.Core.Path.{◌≡◌, sym, ap, ◌∙◌}
 use lib.ListN.{length}
 use Rattle.machine.specs.ListFits.{member}

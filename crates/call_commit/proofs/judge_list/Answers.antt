@@ -1,7 +1,7 @@
 -- `call_commit::judge_list` meets its contract. In order it fits. The invariant of other lists: the first i numbers fit. Assumes nothing.
 use mathlib.Core.Path.{ap, ◌≡◌, sym, ◌∙◌, subst}
 use mathlib.Core.Bool.{not, false≢true}
-use Prim.Native.Nat.{ℕ, ◌+◌, ◌-◌, ◌*◌, ◌≤◌}
+use Prim.Native.Nat.{ℕ, ◌+◌, ◌*◌, ◌≤◌}
 use mathlib.Core.Option.{some}
 use mathlib.Core.List.{List}
 use native.Mathlib.Omega.{arith}

@@ -1,6 +1,6 @@
 -- `call_commit::pass_listed` meets its contract. The invariant: the rows passed are the parts that the list's first i numbers name. Assumes nothing.
 use mathlib.Core.Bool.{not, Bool}
-use Prim.Native.Nat.{ℕ, ◌+◌, ◌-◌, ◌*◌, ◌≤◌, ◌<◌}
+use Prim.Native.Nat.{ℕ, ◌+◌, ◌*◌, ◌≤◌, ◌<◌}
 use mathlib.Core.Path.{◌≡◌, sym, ap, ◌∙◌}
 use mathlib.Core.List.{List}
 use native.Mathlib.Omega.{arith}

@@ -10,8 +10,8 @@ pub returns-then-sum_of-bytes : goal.returns-then-sum_of-bytes
 returns-then-sum_of-bytes c =
     let a = c.args in
     elim c.if-lengths.branch [
-      then-lengths w ↦ test-all a.lengths.now a.bytes.now c.all_kept.result (omega arith)
-        (sym w.sum_of.ensures ∙ eqb-true _ _ (sym w.value-is ∙ c.if-sum_of-bytes.true)) c.all_kept.ensures
+      | then-lengths w ↦ test-all a.lengths.now a.bytes.now c.all_kept.result (omega arith)
+          (sym w.sum_of.ensures ∙ eqb-true _ _ (sym w.value-is ∙ c.if-sum_of-bytes.true)) c.all_kept.ensures
       | else-lengths w ↦ absurd (omega (arith, leb-true _ _ (sym w.value-is ∙ c.if-sum_of-bytes.true), w.if-lengths.false))
     ]
 
@@ -19,6 +19,6 @@ pub returns-else-sum_of-bytes : goal.returns-else-sum_of-bytes
 returns-else-sum_of-bytes c =
     let a = c.args in
     rw c.if-sum_of-bytes.false (elim c.if-lengths.branch [
-      then-lengths w ↦ test_sum a.lengths.now a.bytes.now (λ e. eqb-false _ _ (sym w.value-is ∙ c.if-sum_of-bytes.false) (w.sum_of.ensures ∙ e))
+      | then-lengths w ↦ test_sum a.lengths.now a.bytes.now (λ e. eqb-false _ _ (sym w.value-is ∙ c.if-sum_of-bytes.false) (w.sum_of.ensures ∙ e))
       | else-lengths w ↦ test-many a.lengths.now a.bytes.now (omega (arith, w.if-lengths.false))
     ])

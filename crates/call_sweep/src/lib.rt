@@ -29,6 +29,7 @@ fn sweep_whole(
     let mut here = mem_find_uploads::find_due(tables, arena, first, stamp);
     let mut end = mem_find_uploads::rows_end(tables, arena, offsets);
     let mut count: u32 = 0;
+    // each turn moves the rows, so that no iterator can hold them
     while here.row < end.row {
         if count == most {
             return Sweep { count, more: true };

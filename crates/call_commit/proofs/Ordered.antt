@@ -1,5 +1,5 @@
 -- A part list in ascending order, walked beside the rows: it fits. Assumes nothing.
-use Prim.Native.Nat.{ℕ, zero, suc, ◌+◌, ◌*◌, ◌≤◌}
+use Prim.Native.Nat.{ℕ, zero, suc, ◌+◌, ◌*◌, ◌≤◌, ◌<◌}
 use mathlib.Core.Path.{◌≡◌, refl, sym, ap, ◌∙◌, subst}
 use mathlib.Core.Bool.{Bool, true, false, cond}
 use mathlib.Core.List.{List, [], ◌∷◌, ◌++◌}
@@ -18,9 +18,11 @@ use Rattle.machine.specs.ListFits.{list_fits}
 use Rattle.machine.proofs.Options.{both}
 use Rattle.machine.proofs.ListFits.{fit-fits}
 use Rattle.mem_row.specs.declared.Head.{Head}
-use Rattle.mem_row.specs.Row.{Row, head_of, head_length, span}
+use Rattle.base_number.specs.Number.{AreBytes}
+use Rattle.mem_row.specs.Row.{Row, head_at, head_of, head_length, span}
 use Rattle.mem_layout.specs.Rules.{part_kind}
-use Rattle.mem_layout.specs.Memory.{row_kind, part_row, upload_row, object_rows, part_rows, upload_rows, rows_of}
+use Rattle.mem_layout.specs.Memory.{row_kind, part_row, upload_row, object_rows, part_rows, upload_rows, rows_of, whole, state_of, Stands}
+use Rattle.mem_layout.proofs.WholeLaws.{whole-stands}
 use Rattle.mem_layout.proofs.UploadLaws.{length-part-rows}
 use Rattle.mem_find.specs.declared.RowPlace.{RowPlace}
 use Rattle.mem_find.specs.declared.PassedParts.{PassedParts}
@@ -28,7 +30,7 @@ use Rattle.mem_find.specs.RowPlaces.{row_place_at, IsRowPlace}
 use Rattle.mem_find.specs.Places.{before_upload, before_parts, through_parts, after_upload, parts_row_of, passed_parts}
 use Rattle.mem_find.proofs.Splits.{parts-place}
 use Rattle.mem_find_uploads.proofs.Answers.{place-row, is-row-place}
-use Rattle.mem_find_uploads.proofs.Walk.{row_place, Reached, Turn, reached-place}
+use Rattle.mem_find_uploads.proofs.Walk.{row_place, Reached, Turn, reached-place, row_inside, row-turn}
 use Rattle.machine.specs.PartLists.{part_list}
 use Rattle.mem_join_order.specs.Region.{part_numbers}
 use Rattle.call_commit.specs.Numbers.{number_at, is_part, listed_first, after_listed}
@@ -135,6 +137,21 @@ module _ (s : State) (first : ℕ) (list : Bytes) where
             counted = omega (arith, k.counted);
             left = omega (arith, k.left, step true h);
           }
+
+-- the row that the walk looks at, in whole memory
+module _ (t a : List ℕ) (b : AreBytes t) (w : whole t a ≡ true) (first : ℕ) (list : Bytes) (i row at base : ℕ) (k : Walked (state_of t a) first list i row at base)
+    (rows : ℕ) (e : rows ≡ length (rows_of (state_of t a))) (l : row < rows) where
+  abbrev stands : Stands t a (state_of t a)
+  stands = whole-stands t a b w
+
+  pub walk-inside : at + head_length ≤ length t
+  walk-inside = row_inside t a (state_of t a) stands row at base k.here (omega arith)
+
+  pub walk-few : row < length (rows_of (state_of t a))
+  walk-few = omega arith
+
+  pub walk-turn : (head : Head) → head ≡ head_at (drop at t) → Turn t a (state_of t a) row at base head
+  walk-turn head read = row-turn t a (state_of t a) stands row at base k.here (omega arith) head read
 
 -- A list of the parts' numbers in order ----------------------------------------------------------------------------------
 

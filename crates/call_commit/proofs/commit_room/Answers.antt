@@ -1,8 +1,5 @@
 -- `call_commit::commit_room` meets its contract: the path in the upload's row has an object, or there is room for one more, or not. Assumes nothing.
-use Prim.Native.Nat.{◌+◌, ◌≤◌}
-use lib.ListN.{length}
 use Rattle.base_number.specs.Number.{AreBytes}
-use Rattle.mem_row.specs.Row.{span}
 use Rattle.call_commit.proofs.PathRoom.{row_inside, path-ends, path-place, room-old, room-new, room-full}
 use native.Mathlib.Omega.{arith}
 use Rattle.call_commit.proofs.commit_room.Goals as goal
@@ -15,21 +12,21 @@ read_head-h-requires c =
 
 pub overflow_add-from : goal.overflow_add-from
 overflow_add-from c =
-    let bytes : AreBytes c.args.tables.now = λ j. (c.type_inv.tables j).fits in
-    let ends : c.args.here.at + span c.read_head-h.result ≤ length c.args.tables.now = let p = c.requires.1 in path-ends c.args.tables.now c.args.arena.now bytes c.requires.0 p.0 c.args.here p.1 p.2 c.read_head-h.result c.read_head-h.ensures in
-    omega (arith, ends)
+    let a = c.args in
+    let p = c.requires.1 in
+    omega (arith, path-ends a.tables.now a.arena.now (λ j. (c.type_inv.tables j).fits) c.requires.0 p.0 a.here p.1 p.2 c.read_head-h.result c.read_head-h.ensures)
 
 pub overflow_add-to : goal.overflow_add-to
 overflow_add-to c =
-    let bytes : AreBytes c.args.tables.now = λ j. (c.type_inv.tables j).fits in
-    let ends : c.args.here.at + span c.read_head-h.result ≤ length c.args.tables.now = let p = c.requires.1 in path-ends c.args.tables.now c.args.arena.now bytes c.requires.0 p.0 c.args.here p.1 p.2 c.read_head-h.result c.read_head-h.ensures in
-    omega (arith, ends)
+    let a = c.args in
+    let p = c.requires.1 in
+    omega (arith, path-ends a.tables.now a.arena.now (λ j. (c.type_inv.tables j).fits) c.requires.0 p.0 a.here p.1 p.2 c.read_head-h.result c.read_head-h.ensures)
 
 pub slice_bounds-find_object-end : goal.slice_bounds-find_object-end
 slice_bounds-find_object-end c =
-    let bytes : AreBytes c.args.tables.now = λ j. (c.type_inv.tables j).fits in
-    let ends : c.args.here.at + span c.read_head-h.result ≤ length c.args.tables.now = let p = c.requires.1 in path-ends c.args.tables.now c.args.arena.now bytes c.requires.0 p.0 c.args.here p.1 p.2 c.read_head-h.result c.read_head-h.ensures in
-    omega (arith, ends)
+    let a = c.args in
+    let p = c.requires.1 in
+    omega (arith, path-ends a.tables.now a.arena.now (λ j. (c.type_inv.tables j).fits) c.requires.0 p.0 a.here p.1 p.2 c.read_head-h.result c.read_head-h.ensures)
 
 pub returns-then-place-clause-judged : goal.returns-then-place-clause-judged
 returns-then-place-clause-judged c u x q is = let a = c.args in room-old a.tables.now a.arena.now (λ j. (c.type_inv.tables j).fits) c.requires.0 u a.here q _ c.read_head-h.ensures _ c.find_object-place.ensures x is c.if-place.true

@@ -12,10 +12,10 @@ use Rattle.mem_find_uploads.proofs.search.next_row.Goals as goal
 
 pub read_head-h-requires : goal.read_head-h-requires
 read_head-h-requires c =
-    let t : List ℕ = c.args.tables.now in
-    let a : List ℕ = c.args.arena.now in
+    let t : List ℕ = c.args.memory.tables.now in
+    let a : List ℕ = c.args.memory.arena.now in
     let s : State = state_of t a in
-    let stands : Stands t a s = whole-stands t a (λ j. (c.shared_slice_known-1.given j).fits) c.requires.0 in
+    let stands : Stands t a s = whole-stands t a c.args.memory.bytes c.args.memory.is_whole in
     let more : c.args.from.row < length (rows_of s) = c.requires.1.1 in
     let reached : Reached s c.args.from.row c.args.from.at c.args.from.base = place-reached s c.args.from c.requires.1.0 (let m = more in omega arith) in
     let z : c.args.from.at + head_length ≤ length (t) =
@@ -24,19 +24,19 @@ read_head-h-requires c =
 
 pub overflow_add-result : goal.overflow_add-result
 overflow_add-result c =
-    let t : List ℕ = c.args.tables.now in
-    let a : List ℕ = c.args.arena.now in
+    let t : List ℕ = c.args.memory.tables.now in
+    let a : List ℕ = c.args.memory.arena.now in
     let s : State = state_of t a in
-    let stands : Stands t a s = whole-stands t a (λ j. (c.shared_slice_known-1.given j).fits) c.requires.0 in
+    let stands : Stands t a s = whole-stands t a c.args.memory.bytes c.args.memory.is_whole in
     let more : c.args.from.row < length (rows_of s) = c.requires.1.1 in
     let n = more in omega (arith, rows_few (t) (a) (s) (stands))
 
 pub overflow_add-result-2 : goal.overflow_add-result-2
 overflow_add-result-2 c =
-    let t : List ℕ = c.args.tables.now in
-    let a : List ℕ = c.args.arena.now in
+    let t : List ℕ = c.args.memory.tables.now in
+    let a : List ℕ = c.args.memory.arena.now in
     let s : State = state_of t a in
-    let stands : Stands t a s = whole-stands t a (λ j. (c.shared_slice_known-1.given j).fits) c.requires.0 in
+    let stands : Stands t a s = whole-stands t a c.args.memory.bytes c.args.memory.is_whole in
     let more : c.args.from.row < length (rows_of s) = c.requires.1.1 in
     let reached : Reached s c.args.from.row c.args.from.at c.args.from.base = place-reached s c.args.from c.requires.1.0 (let m = more in omega arith) in
     let turn : Turn (t) (a) (s) c.args.from.row c.args.from.at c.args.from.base c.read_head-h.result = row-turn (t) (a) (s) (stands) c.args.from.row c.args.from.at c.args.from.base (reached) (more) c.read_head-h.result c.read_head-h.ensures in
@@ -44,10 +44,10 @@ overflow_add-result-2 c =
 
 pub overflow_add-result-3 : goal.overflow_add-result-3
 overflow_add-result-3 c =
-    let t : List ℕ = c.args.tables.now in
-    let a : List ℕ = c.args.arena.now in
+    let t : List ℕ = c.args.memory.tables.now in
+    let a : List ℕ = c.args.memory.arena.now in
     let s : State = state_of t a in
-    let stands : Stands t a s = whole-stands t a (λ j. (c.shared_slice_known-1.given j).fits) c.requires.0 in
+    let stands : Stands t a s = whole-stands t a c.args.memory.bytes c.args.memory.is_whole in
     let more : c.args.from.row < length (rows_of s) = c.requires.1.1 in
     let reached : Reached s c.args.from.row c.args.from.at c.args.from.base = place-reached s c.args.from c.requires.1.0 (let m = more in omega arith) in
     let turn : Turn (t) (a) (s) c.args.from.row c.args.from.at c.args.from.base c.read_head-h.result = row-turn (t) (a) (s) (stands) c.args.from.row c.args.from.at c.args.from.base (reached) (more) c.read_head-h.result c.read_head-h.ensures in
@@ -55,10 +55,10 @@ overflow_add-result-3 c =
 
 pub returns : goal.returns
 returns c =
-    let t : List ℕ = c.args.tables.now in
-    let a : List ℕ = c.args.arena.now in
+    let t : List ℕ = c.args.memory.tables.now in
+    let a : List ℕ = c.args.memory.arena.now in
     let s : State = state_of t a in
-    let stands : Stands t a s = whole-stands t a (λ j. (c.shared_slice_known-1.given j).fits) c.requires.0 in
+    let stands : Stands t a s = whole-stands t a c.args.memory.bytes c.args.memory.is_whole in
     let more : c.args.from.row < length (rows_of s) = c.requires.1.1 in
     let reached : Reached s c.args.from.row c.args.from.at c.args.from.base = place-reached s c.args.from c.requires.1.0 (let m = more in omega arith) in
     let turn : Turn (t) (a) (s) c.args.from.row c.args.from.at c.args.from.base c.read_head-h.result = row-turn (t) (a) (s) (stands) c.args.from.row c.args.from.at c.args.from.base (reached) (more) c.read_head-h.result c.read_head-h.ensures in

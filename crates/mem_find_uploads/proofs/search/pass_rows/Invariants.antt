@@ -10,9 +10,9 @@ use Rattle.mem_find_uploads.proofs.search.pass_rows.Given as goal
 
 abbrev pub invariant-loop-row : goal.invariant-loop-row
 invariant-loop-row g l =
-    Reached (state_of l.tables l.arena) l.row l.at l.base
+    Reached (state_of l.memory.tables.now l.memory.arena.now) l.row l.at l.base
     × ((x : Goal) → ((h : Head) (r : Bool) → g.F.Fn.post l.stops (h, tt) r → r ≡ stops_at x h)
-    → sought x (rows_of (state_of l.tables l.arena)) l.initial.row ≡ sought x (rows_of (state_of l.tables l.arena)) l.row)
+    → sought x (rows_of (state_of l.memory.tables.now l.memory.arena.now)) l.initial.row ≡ sought x (rows_of (state_of l.memory.tables.now l.memory.arena.now)) l.row)
     × (l.initial.row ≤ l.row)
 
 abbrev pub decreases-loop-row : goal.decreases-loop-row

@@ -15,19 +15,19 @@ pub read_head-h-requires : goal.read_head-h-requires
 read_head-h-requires g c =
     let a = c.args in
     let here = c.loop-here.here in
-    let s = state_of a.tables.now a.arena.now in
-    let stands = whole-stands a.tables.now a.arena.now (λ j. (c.type_inv.tables j).fits) c.requires.place.0 in
-    let more : here.row < length (rows_of s) = omega (arith, c.read_counts-counts.ensures.rows, c.loop-here-test.true) in
-    omega (arith, row_inside a.tables.now a.arena.now s stands here.row here.at here.base (place-reached s here c.loop-here.invariant.0.0 c.loop-here.invariant.0.1) more)
+    let s = state_of a.memory.tables.now a.memory.arena.now in
+    let stands = whole-stands a.memory.tables.now a.memory.arena.now c.args.memory.bytes c.args.memory.is_whole in
+    let more : here.row < length (rows_of s) = omega (arith, c.counts-rows.ensures.rows, c.loop-here-test.true) in
+    omega (arith, row_inside a.memory.tables.now a.memory.arena.now s stands here.row here.at here.base (place-reached s here c.loop-here.invariant.0.0 c.loop-here.invariant.0.1) more)
 
 pub returns-then-stops : goal.returns-then-stops
 returns-then-stops g c x told =
     let a = c.args in
     let here = c.loop-here.here in
-    let s = state_of a.tables.now a.arena.now in
-    let stands = whole-stands a.tables.now a.arena.now (λ j. (c.type_inv.tables j).fits) c.requires.place.0 in
-    let more : here.row < length (rows_of s) = omega (arith, c.read_counts-counts.ensures.rows, c.loop-here-test.true) in
-    let turn = row-turn a.tables.now a.arena.now s stands here.row here.at here.base (place-reached s here c.loop-here.invariant.0.0 c.loop-here.invariant.0.1) more c.read_head-h.result c.read_head-h.ensures in
+    let s = state_of a.memory.tables.now a.memory.arena.now in
+    let stands = whole-stands a.memory.tables.now a.memory.arena.now c.args.memory.bytes c.args.memory.is_whole in
+    let more : here.row < length (rows_of s) = omega (arith, c.counts-rows.ensures.rows, c.loop-here-test.true) in
+    let turn = row-turn a.memory.tables.now a.memory.arena.now s stands here.row here.at here.base (place-reached s here c.loop-here.invariant.0.0 c.loop-here.invariant.0.1) more c.read_head-h.result c.read_head-h.ensures in
     let so_far : sought x (rows_of s) a.from.row ≡ sought x (rows_of s) here.row = c.pass_rows-here.ensures.same x told ∙ c.loop-here.invariant.1 x told in
     c.loop-here.invariant.0.0 ∙ sym (so_far ∙ sought-here x _ _ turn.row turn.here (ap (stops_at x) (sym turn.same) ∙ sym (told c.read_head-h.result c.stops.result c.stops.ensures) ∙ c.if-stops.true))
 
@@ -36,7 +36,7 @@ unfolding row_place_at
 pass_rows-here-requires-in-loop-here-clause-place g c =
     let number : c.next_row-next.result.row ≡ c.loop-here.here.row + 1 = ap (λ (p : RowPlace). p.row) c.next_row-next.ensures in (
       c.requires.place.0,
-      (c.next_row-next.ensures ∙ ap (row_place_at (rows_of (state_of c.args.tables.now c.args.arena.now))) (sym number), omega (arith, number, c.read_counts-counts.ensures.rows, c.loop-here-test.true)),
+      (c.next_row-next.ensures ∙ ap (row_place_at (rows_of (state_of c.args.memory.tables.now c.args.memory.arena.now))) (sym number), omega (arith, number, c.counts-rows.ensures.rows, c.loop-here-test.true)),
     )
 
 pub loop-here-smaller : goal.loop-here-smaller
@@ -50,10 +50,10 @@ unfolding row_place_at
 loop-here-preserved g c =
     let a = c.args in
     let here = c.loop-here.here in
-    let s = state_of a.tables.now a.arena.now in
-    let stands = whole-stands a.tables.now a.arena.now (λ j. (c.type_inv.tables j).fits) c.requires.place.0 in
-    let more : here.row < length (rows_of s) = omega (arith, c.read_counts-counts.ensures.rows, c.loop-here-test.true) in
-    let turn = row-turn a.tables.now a.arena.now s stands here.row here.at here.base (place-reached s here c.loop-here.invariant.0.0 c.loop-here.invariant.0.1) more c.read_head-h.result c.read_head-h.ensures in
+    let s = state_of a.memory.tables.now a.memory.arena.now in
+    let stands = whole-stands a.memory.tables.now a.memory.arena.now c.args.memory.bytes c.args.memory.is_whole in
+    let more : here.row < length (rows_of s) = omega (arith, c.counts-rows.ensures.rows, c.loop-here-test.true) in
+    let turn = row-turn a.memory.tables.now a.memory.arena.now s stands here.row here.at here.base (place-reached s here c.loop-here.invariant.0.0 c.loop-here.invariant.0.1) more c.read_head-h.result c.read_head-h.ensures in
     let number : c.next_row-next.result.row ≡ here.row + 1 = ap (λ (p : RowPlace). p.row) c.next_row-next.ensures in (
       c.pass_rows-here-in-loop-here.ensures.place,
       λ x told.
@@ -66,6 +66,6 @@ loop-here-preserved g c =
 pub returns : goal.returns
 returns g c x told =
     let here = c.loop-here.here in
-    let rs = rows_of (state_of c.args.tables.now c.args.arena.now) in
+    let rs = rows_of (state_of c.args.memory.tables.now c.args.memory.arena.now) in
     let so_far : sought x rs c.args.from.row ≡ sought x rs here.row = c.pass_rows-here.ensures.same x told ∙ c.loop-here.invariant.1 x told in
-    c.loop-here.invariant.0.0 ∙ sym (so_far ∙ sought-end x _ _ (omega (arith, c.read_counts-counts.ensures.rows, c.loop-here-test.false)))
+    c.loop-here.invariant.0.0 ∙ sym (so_far ∙ sought-end x _ _ (omega (arith, c.counts-rows.ensures.rows, c.loop-here-test.false)))

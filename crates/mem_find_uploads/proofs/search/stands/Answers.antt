@@ -19,18 +19,18 @@ use Rattle.mem_find_uploads.proofs.search.stands.Goals as goal
 pub returns-then-counts-here : goal.returns-then-counts-here
 returns-then-counts-here c =
     let x = c.args in
-    let rs = rows_of (state_of x.tables.now x.arena.now) in
-    let e : c.read_counts-counts.result.rows ≡ length rs = c.read_counts-counts.ensures.rows in
+    let rs = rows_of (state_of x.memory.tables.now x.memory.arena.now) in
+    let e : c.counts-rows.result.rows ≡ length rs = c.counts-rows.ensures.rows in
     let l : length rs ≤ x.here.row = let l = c.if-counts-here.true in omega arith in
     sym (leads-none x.kind x.number rs x.here.row l)
 
 pub read_head-h-requires : goal.read_head-h-requires
 read_head-h-requires c =
-    let t : List ℕ = c.args.tables.now in
-    let a : List ℕ = c.args.arena.now in
+    let t : List ℕ = c.args.memory.tables.now in
+    let a : List ℕ = c.args.memory.arena.now in
     let s : State = state_of t a in
-    let stands : Stands t a s = whole-stands t a (λ j. (c.shared_slice_known-1.given j).fits) c.requires.0 in
-    let more : c.args.here.row < length (rows_of s) = let l = c.if-counts-here.false in omega (arith, c.read_counts-counts.ensures.rows) in
+    let stands : Stands t a s = whole-stands t a c.args.memory.bytes c.args.memory.is_whole in
+    let more : c.args.here.row < length (rows_of s) = let l = c.if-counts-here.false in omega (arith, c.counts-rows.ensures.rows) in
     let reached : Reached s c.args.here.row c.args.here.at c.args.here.base = place-reached s c.args.here c.requires.1.0 c.requires.1.1 in
     let z : c.args.here.at + head_length ≤ length (t) =
     row_inside (t) (a) (s) (stands) c.args.here.row c.args.here.at c.args.here.base (reached) (more) in
@@ -38,11 +38,11 @@ read_head-h-requires c =
 
 pub returns-then-h-kind : goal.returns-then-h-kind
 returns-then-h-kind c =
-    let t : List ℕ = c.args.tables.now in
-    let a : List ℕ = c.args.arena.now in
+    let t : List ℕ = c.args.memory.tables.now in
+    let a : List ℕ = c.args.memory.arena.now in
     let s : State = state_of t a in
-    let stands : Stands t a s = whole-stands t a (λ j. (c.shared_slice_known-1.given j).fits) c.requires.0 in
-    let more : c.args.here.row < length (rows_of s) = let l = c.if-counts-here.false in omega (arith, c.read_counts-counts.ensures.rows) in
+    let stands : Stands t a s = whole-stands t a c.args.memory.bytes c.args.memory.is_whole in
+    let more : c.args.here.row < length (rows_of s) = let l = c.if-counts-here.false in omega (arith, c.counts-rows.ensures.rows) in
     let reached : Reached s c.args.here.row c.args.here.at c.args.here.base = place-reached s c.args.here c.requires.1.0 c.requires.1.1 in
     let head : Head = c.read_head-h.result in
     let told : (b : Bool) → eqb head.kind c.args.kind ≡ b
@@ -55,11 +55,11 @@ returns-then-h-kind c =
 
 pub returns-else-h-kind : goal.returns-else-h-kind
 returns-else-h-kind c =
-    let t : List ℕ = c.args.tables.now in
-    let a : List ℕ = c.args.arena.now in
+    let t : List ℕ = c.args.memory.tables.now in
+    let a : List ℕ = c.args.memory.arena.now in
     let s : State = state_of t a in
-    let stands : Stands t a s = whole-stands t a (λ j. (c.shared_slice_known-1.given j).fits) c.requires.0 in
-    let more : c.args.here.row < length (rows_of s) = let l = c.if-counts-here.false in omega (arith, c.read_counts-counts.ensures.rows) in
+    let stands : Stands t a s = whole-stands t a c.args.memory.bytes c.args.memory.is_whole in
+    let more : c.args.here.row < length (rows_of s) = let l = c.if-counts-here.false in omega (arith, c.counts-rows.ensures.rows) in
     let reached : Reached s c.args.here.row c.args.here.at c.args.here.base = place-reached s c.args.here c.requires.1.0 c.requires.1.1 in
     let head : Head = c.read_head-h.result in
     let told : (b : Bool) → eqb head.kind c.args.kind ≡ b

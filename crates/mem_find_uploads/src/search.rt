@@ -1,9 +1,10 @@
 // A search along the rows.
 ghost use Rattle.std.specs.Prelude.{◌≡◌, Bool, ◌+◌, ◌≤◌, length, drop};
 ghost use Rattle.mem_row.specs.declared.Head.{Head};
+ghost use Rattle.mem_row.specs.Row.{span};
 ghost use Rattle.mem_layout.specs.Memory.{state_of, object_rows};
 ghost use Rattle.mem_find.specs.RowPlaces.{IsRow, IsRowPlace, row_place_at};
-ghost use Rattle.mem_find_uploads.specs.Search.{Goal, stops_at, sought, leads};
+ghost use Rattle.mem_find_uploads.specs.Search.{HeadAt, Goal, stops_at, sought, leads};
 ghost use Rattle.mem_find.specs.Places.{first_upload_row};
 ghost use Rattle.mem_find.specs.Known.{rows_in};
 
@@ -11,16 +12,25 @@ use crate::memory::ScannedMemory;
 use mem_find::{RowPlace, WholeMemory};
 use mem_row::Head;
 
+// The head of the row at a place.
+pub fn row_head(memory: WholeMemory, here: RowPlace) -> Head
+    requires { IsRow (rows_in memory.tables.now memory.arena.now) here }
+    ensures row { HeadAt (rows_in memory.entry.tables.now memory.entry.arena.now) here result }
+    ensures inside { (here.at + span result ≤ length memory.entry.tables.now)
+        × (here.base + result.size ≤ length memory.entry.arena.now) }
+{
+    mem_row::read_head(memory.tables, here.at)
+}
+
 // The row after a row.
 pub fn next_row(memory: WholeMemory, from: RowPlace) -> RowPlace
     requires { IsRow (rows_in memory.tables.now memory.arena.now) from }
     ensures { result ≡ row_place_at (rows_in memory.entry.tables.now memory.entry.arena.now) (from.row + 1) }
 {
-    let at = from.at;
-    let h = mem_row::read_head(memory.tables, at);
+    let h = row_head(memory, from);
     RowPlace {
         row: from.row + 1,
-        at: at + mem_row::span(h),
+        at: from.at + mem_row::span(h),
         base: from.base + h.size as usize,
     }
 }
@@ -35,24 +45,23 @@ fn pass_rows<F: Fn(Head) -> bool>(memory: WholeMemory, from: RowPlace, stops: &F
     ensures same { (goal : Goal) → ((h : Head) (r : Bool) → F.post stops.now h r → r ≡ stops_at goal h)
         → sought goal (rows_in memory.entry.tables.now memory.entry.arena.now) from.row ≡ sought goal (rows_in memory.entry.tables.now memory.entry.arena.now) result.row }
 {
-    let tables = memory.tables;
     let rows = memory.counts().rows;
-    let mut row = from.row;
-    let mut at = from.at;
-    let mut base = from.base;
-    while row < rows {
-        let h = mem_row::read_head(tables, at);
+    let mut here = from;
+    while here.row < rows {
+        let h = row_head(memory, here);
         if h.pairs != 0 {
-            return RowPlace { row, at, base };
+            return here;
         }
         if stops(h) {
-            return RowPlace { row, at, base };
+            return here;
         }
-        at += mem_row::HEAD_LENGTH + h.pathlen as usize;
-        base += h.size as usize;
-        row += 1;
+        here = RowPlace {
+            row: here.row + 1,
+            at: here.at + (mem_row::HEAD_LENGTH + h.pathlen as usize),
+            base: here.base + h.size as usize,
+        };
     }
-    RowPlace { row, at, base }
+    here
 }
 
 // From a row on, the first row at which the search stops, or the end of the rows.
@@ -62,12 +71,10 @@ pub(crate) fn seek<F: Fn(Head) -> bool>(memory: WholeMemory, from: RowPlace, sto
     ensures { (goal : Goal) → ((h : Head) (r : Bool) → F.post stops.now h r → r ≡ stops_at goal h)
         → result ≡ sought goal (rows_in memory.entry.tables.now memory.entry.arena.now) from.row }
 {
-    let tables = memory.tables;
     let rows = memory.counts().rows;
     let mut here = pass_rows(memory, from, stops);
     while here.row < rows {
-        let h = mem_row::read_head(tables, here.at);
-        if stops(h) {
+        if stops(row_head(memory, here)) {
             return here;
         }
         let next = next_row(memory, here);
@@ -78,9 +85,9 @@ pub(crate) fn seek<F: Fn(Head) -> bool>(memory: WholeMemory, from: RowPlace, sto
 
 // The place of the first upload's row, or where it would stand.
 pub fn first_upload(memory: ScannedMemory) -> RowPlace
-    ensures { result ≡ first_upload_row (state_of memory.entry.tables.now memory.entry.arena.now) }
+    ensures { result ≡ first_upload_row (state_of memory.entry.whole.tables.now memory.entry.whole.arena.now) }
 {
-    let counts = memory.whole().counts();
+    let counts = memory.whole.counts();
     let uploads = memory.offsets.uploads;
     RowPlace {
         row: counts.objects,
@@ -93,11 +100,11 @@ pub fn first_upload(memory: ScannedMemory) -> RowPlace
 pub(crate) fn seek_uploads<F: Fn(Head) -> bool>(memory: ScannedMemory, stops: &F) -> RowPlace
     requires { F.IsAlwaysCallable stops.now }
     ensures { (goal : Goal) → ((h : Head) (r : Bool) → F.post stops.now h r → r ≡ stops_at goal h)
-        → result ≡ sought goal (rows_in memory.entry.tables.now memory.entry.arena.now)
-        (length (object_rows (state_of memory.entry.tables.now memory.entry.arena.now).O)) }
+        → result ≡ sought goal (rows_in memory.entry.whole.tables.now memory.entry.whole.arena.now)
+        (length (object_rows (state_of memory.entry.whole.tables.now memory.entry.whole.arena.now).O)) }
 {
     let first = first_upload(memory);
-    seek(memory.whole(), first, stops)
+    seek(memory.whole, first, stops)
 }
 
 // Whether a row of this kind with this number stands there.
@@ -108,6 +115,6 @@ pub(crate) fn stands(memory: WholeMemory, here: RowPlace, kind: u8, number: u32)
     if memory.counts().rows <= here.row {
         return false;
     }
-    let h = mem_row::read_head(memory.tables, here.at);
+    let h = row_head(memory, here);
     h.kind == kind && h.number == number
 }

@@ -13,9 +13,9 @@ use mem_row::Head;
 
 // The end of the rows.
 pub fn rows_end(memory: ScannedMemory) -> RowPlace
-    ensures { result ≡ place_after (rows_in memory.entry.tables.now memory.entry.arena.now) }
+    ensures { result ≡ place_after (rows_in memory.entry.whole.tables.now memory.entry.whole.arena.now) }
 {
-    let counts = memory.whole().counts();
+    let counts = memory.whole.counts();
     let end = memory.offsets.end;
     RowPlace {
         row: counts.rows,
@@ -35,11 +35,11 @@ pub fn rows_end_from(memory: WholeMemory, place: Lookup) -> RowPlace
 
 // The place of the upload with this number.
 pub fn find_upload(memory: ScannedMemory, upload: u32) -> Lookup
-    ensures { result ≡ upload_place (state_of memory.entry.tables.now memory.entry.arena.now) upload }
+    ensures { result ≡ upload_place (state_of memory.entry.whole.tables.now memory.entry.whole.arena.now) upload }
 {
     let reached = |h: Head| h.kind == mem_layout::UPLOAD_KIND && upload <= h.number;
     let here = seek_uploads(memory, &reached);
-    let found = stands(memory.whole(), here, mem_layout::UPLOAD_KIND, upload);
+    let found = stands(memory.whole, here, mem_layout::UPLOAD_KIND, upload);
     lookup_at(found, here)
 }
 

@@ -7,5 +7,5 @@ use Rattle.mem_find_uploads.proofs.search.first_upload.Goals as goal
 
 pub returns : goal.returns
 returns c =
-    let stands = whole-stands c.args.memory.tables.now c.args.memory.arena.now c.args.memory.bytes c.args.memory.is_whole in
-    first-upload-row _ _ _ stands c.args.offsets.uploads c.counts-rows.result.objects (ap (λ (o : Offsets). o.uploads) c.requires.1) c.counts-rows.ensures.objects
+    let stands = whole-stands c.args.memory.whole.tables.now c.args.memory.whole.arena.now c.args.memory.whole.bytes c.args.memory.whole.is_whole in
+    first-upload-row _ _ _ stands c.args.memory.offsets.uploads c.counts-counts.result.objects (ap (λ (o : Offsets). o.uploads) c.args.memory.scanned) c.counts-counts.ensures.objects

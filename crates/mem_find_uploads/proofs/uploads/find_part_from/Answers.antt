@@ -11,7 +11,7 @@ pub stands-found-requires : goal.stands-found-requires
 unfolding stops_at
 stands-found-requires c =
     let s = state_of c.args.memory.tables.now c.args.memory.arena.now in
-    (c.requires.0, sought-row-place (Part c.args.number) (rows_of s) c.seek-here.result c.args.first.row (c.seek-here.ensures (Part c.args.number) (λ h r told. search (rules, tests))) c.requires.1.1)
+    sought-row-place (Part c.args.number) (rows_of s) c.seek-here.result c.args.first.row (c.seek-here.ensures (Part c.args.number) (λ h r told. search (rules, tests))) c.requires.1
 
 pub returns : goal.returns
 unfolding stops_at

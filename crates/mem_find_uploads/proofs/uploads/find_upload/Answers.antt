@@ -12,13 +12,13 @@ use Rattle.mem_find_uploads.proofs.uploads.find_upload.Goals as goal
 pub stands-found-requires : goal.stands-found-requires
 unfolding stops_at
 stands-found-requires c =
-    let s = state_of c.args.memory.tables.now c.args.memory.arena.now in
-    (c.requires.0, sought-row-place (Upload c.args.upload) (rows_of s) c.seek_uploads-here.result _ (c.seek_uploads-here.ensures (Upload c.args.upload) (λ h r told. search (rules, tests))) (uploads-within s))
+    let s = state_of c.args.memory.whole.tables.now c.args.memory.whole.arena.now in
+    sought-row-place (Upload c.args.upload) (rows_of s) c.seek_uploads-here.result _ (c.seek_uploads-here.ensures (Upload c.args.upload) (λ h r told. search (rules, tests))) (uploads-within s)
 
 pub returns : goal.returns
 unfolding stops_at
 returns c =
     let d = c.stands-found in
-    let s = state_of c.args.memory.tables.now c.args.memory.arena.now in
+    let s = state_of c.args.memory.whole.tables.now c.args.memory.whole.arena.now in
     let here = c.seek_uploads-here.result in
     c.lookup_at.ensures ∙ found-upload s c.args.upload here d.result (upload-answer s c.args.upload here (c.seek_uploads-here.ensures (Upload c.args.upload) (λ h r told. search (rules, tests)))) d.ensures

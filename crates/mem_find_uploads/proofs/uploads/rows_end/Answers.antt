@@ -7,5 +7,5 @@ use Rattle.mem_find_uploads.proofs.uploads.rows_end.Goals as goal
 
 pub returns : goal.returns
 returns c =
-    let stands = whole-stands c.args.memory.tables.now c.args.memory.arena.now c.args.memory.bytes c.args.memory.is_whole in
-    rows-end-place _ _ _ stands c.args.offsets.end c.counts-rows.result.rows (ap (λ (o : Offsets). o.end) c.requires.1) c.counts-rows.ensures.rows
+    let stands = whole-stands c.args.memory.whole.tables.now c.args.memory.whole.arena.now c.args.memory.whole.bytes c.args.memory.whole.is_whole in
+    rows-end-place _ _ _ stands c.args.memory.offsets.end c.counts-counts.result.rows (ap (λ (o : Offsets). o.end) c.args.memory.scanned) c.counts-counts.ensures.rows

@@ -49,10 +49,7 @@ fn pass_rows<F: Fn(Head) -> bool>(memory: WholeMemory, from: RowPlace, stops: &F
     let mut here = from;
     while here.row < rows {
         let h = row_head(memory, here);
-        if h.pairs != 0 {
-            return here;
-        }
-        if stops(h) {
+        if h.pairs != 0 || stops(h) {
             return here;
         }
         here = RowPlace {

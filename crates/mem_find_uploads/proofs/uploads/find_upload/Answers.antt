@@ -1,11 +1,9 @@
 -- `mem_find_uploads::uploads::find_upload` meets its contract: what stands there tells whether it is the upload. Assumes nothing.
-use mathlib.Core.Path.{◌≡◌, ◌∙◌}
-use mathlib.Core.Bool.{Bool}
-use lib.ListN.{length}
+use mathlib.Core.Path.{◌∙◌}
 use Rattle.std.proofs.Common.{rules}
 use Rattle.machine.proofs.Tests.{tests}
-use Rattle.mem_layout.specs.Memory.{state_of, rows_of, object_rows}
-use Rattle.mem_find_uploads.specs.Search.{Upload, stops_at, sought}
+use Rattle.mem_layout.specs.Memory.{state_of, rows_of}
+use Rattle.mem_find_uploads.specs.Search.{Upload, stops_at}
 use Rattle.mem_find_uploads.proofs.Answers.{sought-row-place, uploads-within, upload-answer, found-upload}
 use Rattle.mem_find_uploads.proofs.uploads.find_upload.Goals as goal
 

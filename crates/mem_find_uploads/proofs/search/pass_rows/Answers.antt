@@ -11,7 +11,7 @@ loop-here-preserved g c =
     let here = c.loop-here.here in
     let h = c.row_head-h.result in
     let told = c.row_head-h.ensures.row in
-    let next : here.at + (head_length + h.pathlen) ≡ here.at + span h = omega (arith, c.if-h-ne0.false) in (
+    let next : here.at + (head_length + h.pathlen) ≡ here.at + span h = omega arith in (
       (rw next told.next, omega (arith, c.counts-rows.ensures.rows, c.loop-here-test.true)),
       λ x says. c.loop-here.invariant.1 x says ∙ sought-on x _ here h told (sym (says h c.stops.result c.stops.ensures) ∙ c.if-stops.false),
       omega arith,

@@ -10,7 +10,7 @@ ghost use Rattle.mem_edit.specs.Blocks.{kept_of};
 ghost use Rattle.mem_edit.specs.Edits.{MayBecome, Becomes};
 
 use base_md5::words::Digest;
-use mem_find::RowPlace;
+use mem_find::{RowPlace, WholeMemory};
 use mem_layout::Header;
 use mem_row::Head;
 
@@ -66,7 +66,7 @@ pub fn remove_upload(tables: &mut [u8], arena: &mut [u8], here: RowPlace, end: R
         (λ s u x. Stands tables.new arena.new (without_upload s u))
         × (result ≡ place_after (rows_in tables.new arena.new)) }
 {
-    let parts = mem_find_uploads::pass_parts(tables, arena, here);
+    let parts = mem_find_uploads::pass_parts(WholeMemory::of(tables, arena), here);
     let next = parts.next;
     let header = mem_layout::headers::read_header(tables);
     let rows = next.row - here.row;

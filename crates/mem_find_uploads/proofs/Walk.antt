@@ -17,8 +17,8 @@ use Rattle.mem_layout.specs.Memory.{rows_of, Stands}
 use Rattle.mem_layout.proofs.RowCounts.{length-rows}
 use Rattle.mem_find.specs.declared.RowPlace.{RowPlace}
 use Rattle.mem_find_uploads.specs.Search.{Goal}
-use Rattle.mem_find.specs.RowPlaces.{row_place_at}
-use Rattle.mem_find_uploads.specs.Search.{reach, stops_at, stops_of, sought, leads}
+use Rattle.mem_find.specs.RowPlaces.{row_place_at, IsRow}
+use Rattle.mem_find_uploads.specs.Search.{HeadAt, reach, stops_at, stops_of, sought, leads}
 use Rattle.mem_find.proofs.RowsAt.{At, Read, row-at, row_read}
 
 abbrev pub row_place : ℕ → ℕ → ℕ → RowPlace
@@ -89,6 +89,16 @@ module _ (t a : List ℕ) (s : State) (h : Stands t a s) (i at base : ℕ) (k : 
             };
       }
 
+pub turn-at : (t a : List ℕ) (s : State) → Stands t a s → (p : RowPlace) → IsRow (rows_of s) p → (head : Head) → head ≡ head_at (drop p.at t)
+    → Turn t a s p.row p.at p.base head
+turn-at t a s h p k head q = row-turn t a s h p.row p.at p.base (place-reached s p k.0 (let l = k.1 in omega arith)) k.1 head q
+
+pub head-at : (t a : List ℕ) (s : State) → Stands t a s → (p : RowPlace) → IsRow (rows_of s) p → (head : Head) → head ≡ head_at (drop p.at t)
+    → HeadAt (rows_of s) p head
+head-at t a s h p k head q =
+    let turn = turn-at t a s h p k head q in
+    record { row = turn.row; here = turn.here; same = turn.same; next = reached-place s _ _ _ turn.next }
+
 -- The search --------------------------------------------------------------------------------------------------------------
 
 module _ (g : Goal) (rs : List Row) (i : ℕ) where
@@ -96,21 +106,23 @@ module _ (g : Goal) (rs : List Row) (i : ℕ) where
   unfolding sought reach
   sought-end l = rw (drop_of_length-le rs l, add-zero)
 
-  pub sought-here : (r : Row) → drop i rs ≡ r ∷ drop (i + 1) rs → stops_at g (head_of r) ≡ true → sought g rs i ≡ row_place_at rs i
+module _ (g : Goal) (rs : List Row) (p : RowPlace) (h : Head) (k : HeadAt rs p h) where
+  pub sought-here : stops_at g h ≡ true → sought g rs p.row ≡ row_place_at rs p.row
   unfolding sought reach
-  sought-here r e q = rw (e, q, add-zero)
+  sought-here q = let same : stops_at g (head_of k.row) ≡ true = ap (stops_at g) (sym k.same) ∙ q in rw (k.here, same, add-zero)
 
-  pub sought-on : (r : Row) → drop i rs ≡ r ∷ drop (i + 1) rs → stops_at g (head_of r) ≡ false → sought g rs i ≡ sought g rs (i + 1)
+  pub sought-on : stops_at g h ≡ false → sought g rs p.row ≡ sought g rs (p.row + 1)
   unfolding sought reach
-  sought-on r e q =
-      let n = reach (stops_of g) (drop (i + 1) rs) in
-      let m : i + suc n ≡ i + 1 + n = omega arith in
-      rw (e, q) (ap (row_place_at rs) m)
+  sought-on q =
+      let n = reach (stops_of g) (drop (p.row + 1) rs) in
+      let m : p.row + suc n ≡ p.row + 1 + n = omega arith in
+      let same : stops_at g (head_of k.row) ≡ false = ap (stops_at g) (sym k.same) ∙ q in
+      rw (k.here, same) (ap (row_place_at rs) m)
 
 pub leads-none : (kind number : ℕ) (rs : List Row) (i : ℕ) → length rs ≤ i → leads kind number (drop i rs) ≡ false
 unfolding leads
 leads-none kind number rs i l = rw (drop_of_length-le rs l)
 
-pub leads-row : (kind number : ℕ) (rs : List Row) (i : ℕ) (r : Row) → drop i rs ≡ r ∷ drop (i + 1) rs → leads kind number (drop i rs) ≡ (eqb r.kind kind && eqb r.number number)
+pub leads-row : (kind number : ℕ) (rs : List Row) (p : RowPlace) (h : Head) → HeadAt rs p h → leads kind number (drop p.row rs) ≡ (eqb h.kind kind && eqb h.number number)
 unfolding leads
-leads-row kind number rs i r e = rw e
+leads-row kind number _ p h k = ap (leads kind number) k.here ∙ ap (λ (h : Head). eqb h.kind kind && eqb h.number number) (sym k.same)

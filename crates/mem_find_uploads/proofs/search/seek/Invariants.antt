@@ -10,9 +10,9 @@ use Rattle.mem_find_uploads.proofs.search.seek.Given as goal
 
 abbrev pub invariant-loop-here : goal.invariant-loop-here
 invariant-loop-here g l =
-    IsRowPlace (rows_of (state_of l.tables l.arena)) l.here
+    IsRowPlace (rows_of (state_of l.memory.tables.now l.memory.arena.now)) l.here
     × ((x : Goal) → ((h : Head) (r : Bool) → g.F.Fn.post l.stops (h, tt) r → r ≡ stops_at x h)
-    → sought x (rows_of (state_of l.tables l.arena)) l.initial.here.row ≡ sought x (rows_of (state_of l.tables l.arena)) l.here.row)
+    → sought x (rows_of (state_of l.memory.tables.now l.memory.arena.now)) l.initial.here.row ≡ sought x (rows_of (state_of l.memory.tables.now l.memory.arena.now)) l.here.row)
 
 abbrev pub decreases-loop-here : goal.decreases-loop-here
 decreases-loop-here g l = l.rows - l.here.row

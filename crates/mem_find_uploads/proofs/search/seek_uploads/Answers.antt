@@ -7,11 +7,11 @@ use Rattle.mem_find_uploads.proofs.search.seek_uploads.Goals as goal
 
 pub seek-requires-clause-place : goal.seek-requires-clause-place
 seek-requires-clause-place g c =
-    let s = state_of c.args.tables.now c.args.arena.now in
-    (c.requires.offsets.0, is-row-place (rows_of s) c.first_upload-first.result _ c.first_upload-first.ensures (uploads-within s))
+    let s = state_of c.args.memory.whole.tables.now c.args.memory.whole.arena.now in
+    is-row-place (rows_of s) c.first_upload-first.result _ c.first_upload-first.ensures (uploads-within s)
 
 pub returns : goal.returns
 returns g c x told =
-    let rs = rows_of (state_of c.args.tables.now c.args.arena.now) in
+    let rs = rows_of (state_of c.args.memory.whole.tables.now c.args.memory.whole.arena.now) in
     let f = c.first_upload-first in
     c.seek.ensures x told ∙ ap (sought x rs) (place-row rs f.result _ f.ensures)

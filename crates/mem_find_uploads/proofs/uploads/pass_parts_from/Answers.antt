@@ -13,4 +13,4 @@ overflow_sub-result c = omega (arith, sought-after NextUpload _ c.seek-next.resu
 
 pub returns : goal.returns
 unfolding stops_at
-returns c u x e f l = all-parts (state_of c.args.tables.now c.args.arena.now) u x f c.args.first e c.args.from c.seek-next.result c.requires.1 l (c.seek-next.ensures NextUpload (λ h r told. search (rules, tests)))
+returns c u x e f l = all-parts (state_of c.args.memory.tables.now c.args.memory.arena.now) u x f c.args.first e c.args.from c.seek-next.result c.requires.1 l (c.seek-next.ensures NextUpload (λ h r told. search (rules, tests)))

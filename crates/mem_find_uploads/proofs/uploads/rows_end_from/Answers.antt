@@ -11,5 +11,5 @@ use Rattle.mem_find_uploads.proofs.uploads.rows_end_from.Goals as goal
 pub returns : goal.returns
 unfolding stops_at
 returns c =
-    let placed : IsRowPlace (rows_in c.args.tables.now c.args.arena.now) c.place_of-from.result = subst (IsRowPlace (rows_in c.args.tables.now c.args.arena.now)) (sym c.place_of-from.ensures) c.requires.1 in
+    let placed : IsRowPlace (rows_in c.args.memory.tables.now c.args.memory.arena.now) c.place_of-from.result = subst (IsRowPlace (rows_in c.args.memory.tables.now c.args.memory.arena.now)) (sym c.place_of-from.ensures) c.requires in
     end-answer _ c.seek.result c.place_of-from.result.row placed.1 (c.seek.ensures End (λ h r told. search (rules, tests)))

@@ -72,6 +72,12 @@ metadata-told t h e n q f l =
     ∙ ap (λ (x : Head). metadata (x.size - n) x.stamp (row_etag x.kind (digest_at t) x.count) x.pairs (2 * x.pairs + n)) q
     ∙ rw l
 
+-- the metadata m are those of the object x
+pub record Told (m : Metadata) (x : Object) : Type 0 where
+  pub all : metadata_of m ≡ about x
+  pub size : m.length ≡ length x.content
+  pub written : m.bytes ≡ length (encode_pairs x.pairs)
+
 -- the object whose row stands at `at`, with its block at `base`
 module _ (t a : List ℕ) (at base : ℕ) (k : Holds t a at base) where
   abbrev h : Head
@@ -124,15 +130,10 @@ module _ (t a : List ℕ) (at base : ℕ) (k : Holds t a at base) where
   stored-about = λ i. metadata (stored-length i) h.stamp (row_etag h.kind (digest_at (drop at t)) h.count) (stored-count i) (stored_bytes i)
 
   -- what the code was told of it
-  module _ (m : Metadata) (told : metadata_of m ≡ metadata_at (drop at t)) where
-    pub about-told : metadata_of m ≡ about x
-    about-told = told ∙ sym stored-about
-
-    pub length-told : m.length ≡ length x.content
-    length-told = let e = about-told in cc
-
-    pub bytes-told : m.bytes ≡ length (encode_pairs x.pairs)
-    bytes-told = let e = about-told in cc
+  pub told : (m : Metadata) → metadata_of m ≡ metadata_at (drop at t) → Told m x
+  told m e =
+      let q : metadata_of m ≡ about x = e ∙ sym stored-about in
+      record { all = q; size = cc; written = cc }
 
   -- the lengths and the slices of the block that the code takes, where the pairs have n bytes
   module _ (l : List ℕ) (same : l ≡ ls) (n : ℕ) (e : n ≡ sum_of ls) where

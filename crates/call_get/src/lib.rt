@@ -13,36 +13,35 @@ ghost use Rattle.call_contract.specs.Answers.{etag_of, metadata_of, get_reply};
 ghost use Rattle.call_contract.specs.Made.{memory, outcome, Made};
 ghost use Rattle.call_get.specs.Named.{named_in, metadata_at, stored_at, Holds, get_step, head_step};
 
-use call_types::{Etag, GetAnswer, Metadata, Stamp};
+use call_types::{Etag, Metadata, Refusal, Stamp};
 
-// What the path of a GET or HEAD names: nothing, with the refusal's number; the root; or an object, by the place of its
-// row in the tables and of its block in the arena.
+// What the path of a GET or HEAD names: the root, or an object, by the place of its row in the tables and of its block in
+// the arena.
 #[derive(Clone, Copy)]
 enum Named {
-    Refused(u8),
     Root,
     Object { at: usize, base: usize },
 }
 
-// What the path names.
-fn look_up(tables: &[u8], arena: &[u8], path: &[u8]) -> Named
+// What the path names, or why it is refused.
+fn look_up(tables: &[u8], arena: &[u8], path: &[u8]) -> Result<Named, Refusal>
     requires { whole tables.now arena.now ≡ true }
     ensures { result ≡ named_in (state_of tables.now arena.now) path.now }
 {
     if path.len() == 0 {
-        return Named::Root;
+        return Ok(Named::Root);
     }
     if !names::request_path_ok(path) {
-        return Named::Refused(call_types::BAD_REQUEST);
+        return Err(Refusal::BadRequest);
     }
     let place = mem_find::find_object(tables, arena, path);
     if !place.found {
-        return Named::Refused(call_types::NOT_FOUND);
+        return Err(Refusal::NotFound);
     }
-    Named::Object {
+    Ok(Named::Object {
         at: place.at,
         base: place.base,
-    }
+    })
 }
 
 // The root's metadata.
@@ -112,7 +111,7 @@ fn get_object(
     base: usize,
     answer: &mut [u8],
     pairs: &mut [u8],
-) -> GetAnswer
+) -> Result<Metadata, Refusal>
     requires { Holds tables.now arena.now at base }
     ensures { get_reply result (buffers answer.new pairs.new)
         ≡ reply_of (buffers answer.old pairs.old)
@@ -121,21 +120,24 @@ fn get_object(
 {
     let m = metadata(tables, at);
     let n = m.length as usize;
-    if answer.len() < n {
-        return GetAnswer::Refused(call_types::BUFFER_SHORT);
-    }
     let bytes = m.bytes as usize;
-    if pairs.len() < bytes {
-        return GetAnswer::Refused(call_types::BUFFER_SHORT);
+    if answer.len() < n || pairs.len() < bytes {
+        return Err(Refusal::BufferShort);
     }
     let from = base + mem_find::pairs_size(tables, at);
     base_buffer::copy_at(answer, 0, &arena[from..from + n]);
     write_pairs(tables, arena, at, base, pairs);
-    GetAnswer::Found(m)
+    Ok(m)
 }
 
 // HEAD of the object whose row stands at `at`, with its block at `base`.
-fn head_object(tables: &[u8], arena: &[u8], at: usize, base: usize, pairs: &mut [u8]) -> GetAnswer
+fn head_object(
+    tables: &[u8],
+    arena: &[u8],
+    at: usize,
+    base: usize,
+    pairs: &mut [u8],
+) -> Result<Metadata, Refusal>
     requires { Holds tables.now arena.now at base }
     ensures { get_reply result (buffers [] pairs.new)
         ≡ reply_of (buffers [] pairs.old)
@@ -144,10 +146,10 @@ fn head_object(tables: &[u8], arena: &[u8], at: usize, base: usize, pairs: &mut 
 {
     let m = metadata(tables, at);
     if pairs.len() < m.bytes as usize {
-        return GetAnswer::Refused(call_types::BUFFER_SHORT);
+        return Err(Refusal::BufferShort);
     }
     write_pairs(tables, arena, at, base, pairs);
-    GetAnswer::Found(m)
+    Ok(m)
 }
 
 // GET over whole memory.
@@ -157,33 +159,34 @@ fn get_whole(
     path: &[u8],
     answer: &mut [u8],
     pairs: &mut [u8],
-) -> GetAnswer
+) -> Result<Metadata, Refusal>
     requires { whole tables.now arena.now ≡ true }
     ensures { get_reply result (buffers answer.new pairs.new)
         ≡ reply_of (buffers answer.old pairs.old)
         (outcome (GET path.now answer.old pairs.old)
         (memory tables.now arena.now)) }
 {
-    let named = look_up(tables, arena, path);
-    match named {
-        Named::Refused(n) => GetAnswer::Refused(n),
-        Named::Root => GetAnswer::Found(root()),
+    match look_up(tables, arena, path)? {
+        Named::Root => Ok(root()),
         Named::Object { at, base } => get_object(tables, arena, at, base, answer, pairs),
     }
 }
 
 // HEAD over whole memory.
-fn head_whole(tables: &[u8], arena: &[u8], path: &[u8], pairs: &mut [u8]) -> GetAnswer
+fn head_whole(
+    tables: &[u8],
+    arena: &[u8],
+    path: &[u8],
+    pairs: &mut [u8],
+) -> Result<Metadata, Refusal>
     requires { whole tables.now arena.now ≡ true }
     ensures { get_reply result (buffers [] pairs.new)
         ≡ reply_of (buffers [] pairs.old)
         (outcome (HEAD path.now pairs.old)
         (memory tables.now arena.now)) }
 {
-    let named = look_up(tables, arena, path);
-    match named {
-        Named::Refused(n) => GetAnswer::Refused(n),
-        Named::Root => GetAnswer::Found(root()),
+    match look_up(tables, arena, path)? {
+        Named::Root => Ok(root()),
         Named::Object { at, base } => head_object(tables, arena, at, base, pairs),
     }
 }
@@ -195,27 +198,23 @@ pub fn get(
     path: &[u8],
     answer: &mut [u8],
     pairs: &mut [u8],
-) -> GetAnswer
+) -> Result<Metadata, Refusal>
     ensures { Made (GET path.now answer.old pairs.old)
         (memory tables.now arena.now)
         (get_reply result (buffers answer.new pairs.new))
         (memory tables.now arena.now) }
 {
-    if !mem_scan::whole(tables, arena) {
-        return GetAnswer::Refused(call_types::NOT_A_STORE);
-    }
+    call_contract::offsets_of(tables, arena)?;
     get_whole(tables, arena, path, answer, pairs)
 }
 
 // HEAD: GET's pairs and metadata, no data.
-pub fn head(tables: &[u8], arena: &[u8], path: &[u8], pairs: &mut [u8]) -> GetAnswer
+pub fn head(tables: &[u8], arena: &[u8], path: &[u8], pairs: &mut [u8]) -> Result<Metadata, Refusal>
     ensures { Made (HEAD path.now pairs.old)
         (memory tables.now arena.now)
         (get_reply result (buffers [] pairs.new))
         (memory tables.now arena.now) }
 {
-    if !mem_scan::whole(tables, arena) {
-        return GetAnswer::Refused(call_types::NOT_A_STORE);
-    }
+    call_contract::offsets_of(tables, arena)?;
     head_whole(tables, arena, path, pairs)
 }

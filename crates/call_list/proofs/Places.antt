@@ -4,9 +4,8 @@ use mathlib.Core.Path.{◌≡◌, refl, sym, ap, ◌∙◌}
 use mathlib.Core.Bool.{Bool, true, false, cond}
 use mathlib.Core.Logic.{⊎_elim}
 use mathlib.Core.List.{List, ◌++◌}
-use native.Mathlib.Nat.{add-zero, eq-or-lt_of_le}
+use native.Mathlib.Nat.{eq-or-lt_of_le}
 use native.Mathlib.Omega.{arith}
-use lib.Dec.{eqb}
 use lib.ListN.{length, take, drop, length-append, take-append-drop}
 use lib.Seq.{take_all}
 use Rattle.base_number.specs.Number.{le, from_le, replaced_at, written}
@@ -30,11 +29,10 @@ no_place s prefix suffix places k l = absurd (omega arith)
 module _ (t a : List ℕ) (s : State) (h : Stands t a s) (prefix suffix : Bytes) (places : List ℕ) (i at count size : ℕ) (w : Walked s prefix suffix i at count size) (l : i < length s.O)
     (all : AllListed s prefix suffix places count) (inside : 2 * count + 2 ≤ length places) (small : at < 65536) where
   -- the places after the row's was written
-  noted : List ℕ
+  abbrev noted : List ℕ
   noted = replaced_at places (2 * count) (le 2 at) 2
 
-  placed : is_listed prefix suffix (path_at (drop at t)) ≡ true → AllListed s prefix suffix noted (count + 1)
-  unfolding noted
+  pub placed : is_listed prefix suffix (path_at (drop at t)) ≡ true → AllListed s prefix suffix noted (count + 1)
   placed is k m =
       ⊎_elim
       (λ (e : k ≡ count). rw e
@@ -55,19 +53,6 @@ module _ (t a : List ℕ) (s : State) (h : Stands t a s) (prefix suffix : Bytes)
         through = old.through;
       })
       (eq-or-lt_of_le (omega arith))
-
-  pub placed-next : (c : ℕ) (after : List ℕ) → c ≡ cond (is_listed prefix suffix (path_at (drop at t))) 1 0 → after ≡ cond (eqb c 0) places (replaced_at places (2 * count) (le 2 at) 2)
-      → AllListed s prefix suffix after (count + c)
-  unfolding noted
-  placed-next c after e f = go (is_listed prefix suffix (path_at (drop at t))) refl
-    where
-      go : (b : Bool) → is_listed prefix suffix (path_at (drop at t)) ≡ b → AllListed s prefix suffix after (count + c)
-      go true is =
-          let one : c ≡ 1 = e ∙ rw is in
-          rw (f, one) (placed is)
-      go false is =
-          let none : c ≡ 0 = e ∙ rw is in
-          rw (f, none, add-zero) all
 
 -- The records of the first k -----------------------------------------------------------------------------------------------
 

@@ -13,7 +13,7 @@ ghost use Rattle.mem_layout.specs.Memory.{whole};
 ghost use Rattle.call_contract.specs.Answers.{list_reply};
 ghost use Rattle.call_contract.specs.Made.{memory, outcome, Made};
 
-use call_types::ListAnswer;
+use call_types::{Counts, Refusal};
 
 // LIST over whole memory. Where the rows stand that have a record is handed from the pass that measures to that which writes: two bytes for
 // each of at most 256.
@@ -23,7 +23,7 @@ fn list_whole(
     prefix: &[u8],
     suffix: &[u8],
     answer: &mut [u8],
-) -> ListAnswer
+) -> Result<Counts, Refusal>
     requires { whole tables.now arena.now ≡ true }
     ensures { list_reply result answer.new ≡ reply_of (buffers answer.old [])
         (outcome (LIST prefix.now suffix.now answer.old)
@@ -32,7 +32,7 @@ fn list_whole(
     let mut places = [0u8; 512];
     let counts = measuring::measure_rows(tables, arena, prefix, suffix, &mut places);
     if answer.len() < counts.bytes as usize {
-        return ListAnswer::Refused(call_types::BUFFER_SHORT);
+        return Err(Refusal::BufferShort);
     }
     writing::write_rows(
         tables,
@@ -43,7 +43,7 @@ fn list_whole(
         counts.records,
         answer,
     );
-    ListAnswer::Written(counts)
+    Ok(counts)
 }
 
 // LIST: the records of the paths that begin with the prefix and whose rest ends with the suffix.
@@ -53,14 +53,12 @@ pub fn list(
     prefix: &[u8],
     suffix: &[u8],
     answer: &mut [u8],
-) -> ListAnswer
+) -> Result<Counts, Refusal>
     ensures { Made (LIST prefix.now suffix.now answer.old)
         (memory tables.now arena.now)
         (list_reply result answer.new)
         (memory tables.now arena.now) }
 {
-    if !mem_scan::whole(tables, arena) {
-        return ListAnswer::Refused(call_types::NOT_A_STORE);
-    }
+    call_contract::offsets_of(tables, arena)?;
     list_whole(tables, arena, prefix, suffix, answer)
 }

@@ -27,10 +27,8 @@ pub(crate) fn write_rows(
         (list_bytes prefix.now suffix.now (state_of tables.now arena.now)) }
 {
     let mut to: usize = 0;
-    let mut i: u32 = 0;
-    while i < records {
+    for i in 0..records {
         let at = base_number::get_u16(places, 2 * i as usize) as usize;
         to = crate::record::write_record(tables, at, answer, to);
-        i += 1;
     }
 }

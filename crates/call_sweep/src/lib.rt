@@ -7,8 +7,8 @@ ghost use Rattle.call_contract.specs.Answers.{sweep_reply};
 ghost use Rattle.call_contract.specs.Made.{memory, Made};
 ghost use Rattle.call_sweep.specs.Swept.{Swept};
 
-use call_types::{Stamp, Sweep, SweepAnswer};
-use mem_scan::{Offsets, StoreScan};
+use call_types::{Refusal, Stamp, Sweep};
+use mem_scan::Offsets;
 
 // The sweep over whole memory whose rows stand at `offsets`, in one pass over their rows: where an upload is taken out
 // stands then what stood after it, and the search goes on there.
@@ -41,18 +41,15 @@ fn sweep_whole(
 }
 
 // SWEEP.
-pub fn sweep(tables: &mut [u8], arena: &mut [u8], stamp: Stamp, most: u32) -> SweepAnswer
+pub fn sweep(tables: &mut [u8], arena: &mut [u8], stamp: Stamp, most: u32) -> Result<Sweep, Refusal>
     ensures { Made (SWEEP stamp.0 most)
         (memory tables.old arena.old)
         (sweep_reply result)
         (memory tables.new arena.new) }
 {
-    let StoreScan::Good(offsets) = mem_scan::scan_store(tables, arena) else {
-        return SweepAnswer::Refused(call_types::NOT_A_STORE);
-    };
+    let offsets = call_contract::offsets_of(tables, arena)?;
     if !names::stamp_ok(stamp.0) {
-        return SweepAnswer::Refused(call_types::BAD_REQUEST);
+        return Err(Refusal::BadRequest);
     }
-    let swept = sweep_whole(tables, arena, offsets, stamp.0, most);
-    SweepAnswer::Swept(swept)
+    Ok(sweep_whole(tables, arena, offsets, stamp.0, most))
 }

@@ -51,11 +51,9 @@ pub fn open_upload(
         d: 0,
     };
     let after = Header {
-        arena: header.arena,
         next: header.next + 1,
-        objects: header.objects,
         uploads: header.uploads + 1,
-        parts: header.parts,
+        ..header
     };
     mem_edit::rows::replace_rows(tables, used, 0, used, h, digest, path, &lengths[..n], after);
 }
@@ -75,11 +73,9 @@ pub fn remove_upload(tables: &mut [u8], arena: &mut [u8], here: RowPlace, end: R
     let n = next.at - here.at;
     let m = next.base - here.base;
     let after = Header {
-        arena: header.arena,
-        next: header.next,
-        objects: header.objects,
         uploads: header.uploads - 1,
         parts: header.parts - parts.count as u16,
+        ..header
     };
     mem_edit::rows::remove_rows(tables, here.at, n, end.at, after);
     base_buffer::remove(arena, here.base, m, end.base);

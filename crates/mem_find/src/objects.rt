@@ -5,7 +5,7 @@ ghost use Rattle.mem_find.specs.Places.{object_place, Passed};
 
 use crate::counts::read_counts;
 use crate::{Lookup, RowPlace, TwoLookups, lookup_at, place_of};
-use base_order::Order;
+use std::cmp::Ordering;
 
 // The place of the object at `path`. While rows have no pairs, the next row begins where the path ends.
 pub fn find_object(tables: &[u8], arena: &[u8], path: &[u8]) -> Lookup
@@ -16,8 +16,7 @@ pub fn find_object(tables: &[u8], arena: &[u8], path: &[u8]) -> Lookup
     let objects = counts.objects;
     let mut at: usize = mem_layout::HEADER_LENGTH;
     let mut base: usize = 0;
-    let mut i: usize = 0;
-    while i < objects {
+    for i in 0..objects {
         let h = mem_row::read_head(tables, at);
         if h.pairs != 0 {
             return find_from(tables, arena, path, RowPlace { row: i, at, base });
@@ -30,9 +29,15 @@ pub fn find_object(tables: &[u8], arena: &[u8], path: &[u8]) -> Lookup
         }
         at = to;
         base += h.size as usize;
-        i += 1;
     }
-    lookup_at(false, RowPlace { row: i, at, base })
+    lookup_at(
+        false,
+        RowPlace {
+            row: objects,
+            at,
+            base,
+        },
+    )
 }
 
 // The same from a row on, where the paths of all rows before it are below `path`.
@@ -45,8 +50,7 @@ fn find_from(tables: &[u8], arena: &[u8], path: &[u8], start: RowPlace) -> Looku
     let objects = counts.objects;
     let mut at = start.at;
     let mut base = start.base;
-    let mut i = start.row;
-    while i < objects {
+    for i in start.row..objects {
         let h = mem_row::read_head(tables, at);
         let from = at + mem_row::HEAD_LENGTH;
         let to = from + h.pathlen as usize;
@@ -56,9 +60,15 @@ fn find_from(tables: &[u8], arena: &[u8], path: &[u8], start: RowPlace) -> Looku
         }
         at += mem_row::span(h);
         base += h.size as usize;
-        i += 1;
     }
-    lookup_at(false, RowPlace { row: i, at, base })
+    lookup_at(
+        false,
+        RowPlace {
+            row: objects,
+            at,
+            base,
+        },
+    )
 }
 
 // The places of the objects at two paths, in one pass: the search for the higher path begins where that for the lower one
@@ -70,21 +80,21 @@ pub fn find_two(tables: &[u8], arena: &[u8], first: &[u8], second: &[u8]) -> Two
 {
     let o = base_order::compare(first, second);
     match o {
-        Order::Greater => {
+        Ordering::Greater => {
             let low = find_object(tables, arena, second);
             TwoLookups {
                 first: find_from(tables, arena, first, place_of(low)),
                 second: low,
             }
         }
-        Order::Equal => {
+        Ordering::Equal => {
             let low = find_object(tables, arena, first);
             TwoLookups {
                 first: low,
                 second: low,
             }
         }
-        Order::Less => {
+        Ordering::Less => {
             let low = find_object(tables, arena, first);
             TwoLookups {
                 first: low,

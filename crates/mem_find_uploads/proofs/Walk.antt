@@ -16,7 +16,7 @@ use Rattle.mem_layout.specs.Header.{header_length}
 use Rattle.mem_layout.specs.Memory.{rows_of, Stands}
 use Rattle.mem_layout.proofs.RowCounts.{length-rows}
 use Rattle.mem_find.specs.declared.RowPlace.{RowPlace}
-use Rattle.mem_find_uploads.specs.declared.search.Goal.{Goal}
+use Rattle.mem_find_uploads.specs.Search.{Goal}
 use Rattle.mem_find.specs.RowPlaces.{row_place_at}
 use Rattle.mem_find_uploads.specs.Search.{reach, stops_at, stops_of, sought, leads}
 use Rattle.mem_find.proofs.RowsAt.{At, Read, row-at, row_read}

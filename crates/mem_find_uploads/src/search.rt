@@ -1,8 +1,9 @@
 // A search along the rows.
-ghost use Rattle.std.specs.Prelude.{◌≡◌, ◌+◌, ◌≤◌, length, drop};
+ghost use Rattle.std.specs.Prelude.{◌≡◌, Bool, ◌+◌, ◌≤◌, length, drop};
+ghost use Rattle.mem_row.specs.declared.Head.{Head};
 ghost use Rattle.mem_layout.specs.Memory.{state_of, object_rows};
 ghost use Rattle.mem_find.specs.RowPlaces.{IsRowPlace, row_place_at};
-ghost use Rattle.mem_find_uploads.specs.Search.{stops_at, sought, leads};
+ghost use Rattle.mem_find_uploads.specs.Search.{Goal, stops_at, sought, leads};
 ghost use Rattle.mem_find.specs.Places.{first_upload_row};
 ghost use Rattle.mem_scan.specs.Scanned.{Scanned};
 ghost use Rattle.mem_find.specs.Known.{rows_in, WholeRow, WholePlace};
@@ -10,31 +11,6 @@ ghost use Rattle.mem_find.specs.Known.{rows_in, WholeRow, WholePlace};
 use mem_find::{RowPlace, read_counts};
 use mem_row::Head;
 use mem_scan::Offsets;
-
-// Where a search along the rows stops: after them all; at the upload with a number, or the first above it; at the next
-// upload; at the part with a number, the first above it, or the next upload; at the next upload that started before a
-// stamp.
-#[derive(Clone, Copy)]
-pub(crate) enum Goal {
-    End,
-    Upload(u32),
-    NextUpload,
-    Part(u16),
-    Due(u64),
-}
-
-// Whether a search stops at the row with this head.
-fn stops(h: Head, goal: Goal) -> bool
-    ensures { result ≡ stops_at goal h }
-{
-    match goal {
-        Goal::End => false,
-        Goal::Upload(u) => h.kind == mem_layout::UPLOAD_KIND && u <= h.number,
-        Goal::NextUpload => h.kind == mem_layout::UPLOAD_KIND,
-        Goal::Part(n) => h.kind == mem_layout::UPLOAD_KIND || n as u32 <= h.number,
-        Goal::Due(t) => h.kind == mem_layout::UPLOAD_KIND && h.stamp < t,
-    }
-}
 
 // The row after a row.
 pub fn next_row(tables: &[u8], arena: &[u8], from: RowPlace) -> RowPlace
@@ -52,12 +28,18 @@ pub fn next_row(tables: &[u8], arena: &[u8], from: RowPlace) -> RowPlace
 
 // Passes rows that have no pairs, as most have none, up to one at which the search stops. The next row begins where the
 // path ends, which is known sooner than where pairs do.
-fn pass_rows(tables: &[u8], arena: &[u8], from: RowPlace, goal: Goal) -> RowPlace
-    requires { WholePlace tables.now arena.now from }
-    ensures { (from.row ≤ result.row)
-        × IsRowPlace (rows_in tables.now arena.now) result
-        × (sought goal (rows_in tables.now arena.now) from.row
-        ≡ sought goal (rows_in tables.now arena.now) result.row) }
+fn pass_rows<F: Fn(Head) -> bool>(
+    tables: &[u8],
+    arena: &[u8],
+    from: RowPlace,
+    stops: &F,
+) -> RowPlace
+    requires place { WholePlace tables.now arena.now from }
+    requires stops { F.IsAlwaysCallable stops.now }
+    ensures on { from.row ≤ result.row }
+    ensures place { IsRowPlace (rows_in tables.now arena.now) result }
+    ensures same { (goal : Goal) → ((h : Head) (r : Bool) → F.post stops.now h r → r ≡ stops_at goal h)
+        → sought goal (rows_in tables.now arena.now) from.row ≡ sought goal (rows_in tables.now arena.now) result.row }
 {
     let counts = read_counts(tables, arena);
     let rows = counts.rows;
@@ -69,7 +51,7 @@ fn pass_rows(tables: &[u8], arena: &[u8], from: RowPlace, goal: Goal) -> RowPlac
         if h.pairs != 0 {
             return RowPlace { row, at, base };
         }
-        if stops(h, goal) {
+        if stops(h) {
             return RowPlace { row, at, base };
         }
         at += mem_row::HEAD_LENGTH + h.pathlen as usize;
@@ -80,20 +62,27 @@ fn pass_rows(tables: &[u8], arena: &[u8], from: RowPlace, goal: Goal) -> RowPlac
 }
 
 // From a row on, the first row at which the search stops, or the end of the rows.
-pub(crate) fn seek(tables: &[u8], arena: &[u8], from: RowPlace, goal: Goal) -> RowPlace
-    requires { WholePlace tables.now arena.now from }
-    ensures { result ≡ sought goal (rows_in tables.now arena.now) from.row }
+pub(crate) fn seek<F: Fn(Head) -> bool>(
+    tables: &[u8],
+    arena: &[u8],
+    from: RowPlace,
+    stops: &F,
+) -> RowPlace
+    requires place { WholePlace tables.now arena.now from }
+    requires stops { F.IsAlwaysCallable stops.now }
+    ensures { (goal : Goal) → ((h : Head) (r : Bool) → F.post stops.now h r → r ≡ stops_at goal h)
+        → result ≡ sought goal (rows_in tables.now arena.now) from.row }
 {
     let counts = read_counts(tables, arena);
     let rows = counts.rows;
-    let mut here = pass_rows(tables, arena, from, goal);
+    let mut here = pass_rows(tables, arena, from, stops);
     while here.row < rows {
         let h = mem_row::read_head(tables, here.at);
-        if stops(h, goal) {
+        if stops(h) {
             return here;
         }
         let next = next_row(tables, arena, here);
-        here = pass_rows(tables, arena, next, goal);
+        here = pass_rows(tables, arena, next, stops);
     }
     here
 }
@@ -113,13 +102,20 @@ pub fn first_upload(tables: &[u8], arena: &[u8], offsets: Offsets) -> RowPlace
 }
 
 // The search from there on.
-pub(crate) fn seek_uploads(tables: &[u8], arena: &[u8], offsets: Offsets, goal: Goal) -> RowPlace
-    requires { Scanned tables.now arena.now offsets }
-    ensures { result ≡ sought goal (rows_in tables.now arena.now)
+pub(crate) fn seek_uploads<F: Fn(Head) -> bool>(
+    tables: &[u8],
+    arena: &[u8],
+    offsets: Offsets,
+    stops: &F,
+) -> RowPlace
+    requires offsets { Scanned tables.now arena.now offsets }
+    requires stops { F.IsAlwaysCallable stops.now }
+    ensures { (goal : Goal) → ((h : Head) (r : Bool) → F.post stops.now h r → r ≡ stops_at goal h)
+        → result ≡ sought goal (rows_in tables.now arena.now)
         (length (object_rows (state_of tables.now arena.now).O)) }
 {
     let first = first_upload(tables, arena, offsets);
-    seek(tables, arena, first, goal)
+    seek(tables, arena, first, stops)
 }
 
 // Whether a row of this kind with this number stands there.

@@ -6,8 +6,9 @@ ghost use Rattle.mem_scan.specs.Scanned.{Scanned};
 ghost use Rattle.mem_find.specs.Known.{rows_in, WholeRow, WholePlace, OfOpenAt, OfOpenBefore};
 ghost use Rattle.mem_find_uploads.specs.Search.{due_from};
 
-use crate::search::{Goal, next_row, seek, seek_uploads, stands};
+use crate::search::{next_row, seek, seek_uploads, stands};
 use mem_find::{Lookup, PassedParts, RowPlace, lookup_at, place_of, read_counts};
+use mem_row::Head;
 use mem_scan::Offsets;
 
 // The end of the rows.
@@ -30,7 +31,7 @@ pub fn rows_end_from(tables: &[u8], arena: &[u8], place: Lookup) -> RowPlace
     ensures { result ≡ place_after (rows_in tables.now arena.now) }
 {
     let from = place_of(place);
-    seek(tables, arena, from, Goal::End)
+    seek(tables, arena, from, &|_| false)
 }
 
 // The place of the upload with this number.
@@ -38,7 +39,8 @@ pub fn find_upload(tables: &[u8], arena: &[u8], offsets: Offsets, upload: u32) -
     requires { Scanned tables.now arena.now offsets }
     ensures { result ≡ upload_place (state_of tables.now arena.now) upload }
 {
-    let here = seek_uploads(tables, arena, offsets, Goal::Upload(upload));
+    let reached = |h: Head| h.kind == mem_layout::UPLOAD_KIND && upload <= h.number;
+    let here = seek_uploads(tables, arena, offsets, &reached);
     let found = stands(tables, arena, here, mem_layout::UPLOAD_KIND, upload);
     lookup_at(found, here)
 }
@@ -49,7 +51,8 @@ pub fn find_part_from(tables: &[u8], arena: &[u8], first: RowPlace, number: u16)
     ensures { OfOpenBefore tables.now arena.now first
         (λ s u x. result ≡ part_place s u x number) }
 {
-    let here = seek(tables, arena, first, Goal::Part(number));
+    let reached = |h: Head| h.kind == mem_layout::UPLOAD_KIND || number as u32 <= h.number;
+    let here = seek(tables, arena, first, &reached);
     let found = stands(tables, arena, here, mem_layout::PART_KIND, number as u32);
     lookup_at(found, here)
 }
@@ -72,7 +75,8 @@ pub fn pass_parts_from(tables: &[u8], arena: &[u8], first: RowPlace, from: RowPl
     ensures { OfOpenBefore tables.now arena.now first
         (λ s u x. from.row ≤ first.row + length x.parts → result ≡ passed_parts s u x) }
 {
-    let next = seek(tables, arena, from, Goal::NextUpload);
+    let is_upload = |h: Head| h.kind == mem_layout::UPLOAD_KIND;
+    let next = seek(tables, arena, from, &is_upload);
     PassedParts {
         count: next.row - first.row,
         next,
@@ -93,5 +97,6 @@ pub fn find_due(tables: &[u8], arena: &[u8], from: RowPlace, stamp: u64) -> RowP
     requires { WholePlace tables.now arena.now from }
     ensures { result ≡ due_from stamp (rows_in tables.now arena.now) from.row }
 {
-    seek(tables, arena, from, Goal::Due(stamp))
+    let is_due = |h: Head| h.kind == mem_layout::UPLOAD_KIND && h.stamp < stamp;
+    seek(tables, arena, from, &is_due)
 }

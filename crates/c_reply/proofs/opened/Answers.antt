@@ -3,6 +3,6 @@ use mathlib.Core.Path.{refl}
 use Rattle.c_reply.specs.Reply.{reply_bytes}
 use Rattle.c_reply.proofs.opened.Goals as goal
 
-pub returns-in-Opened : goal.returns-in-Opened
+pub returns-in-Ok : goal.returns-in-Ok
 unfolding reply_bytes
-returns-in-Opened c = rw c.in-Opened.is (refl, c.write.ensures)
+returns-in-Ok c = rw c.in-Ok.is (refl, c.write.ensures)

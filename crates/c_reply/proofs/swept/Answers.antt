@@ -3,6 +3,6 @@ use mathlib.Core.Path.{refl}
 use Rattle.c_reply.specs.Reply.{reply_bytes}
 use Rattle.c_reply.proofs.swept.Goals as goal
 
-pub returns-in-Swept : goal.returns-in-Swept
+pub returns-in-Ok : goal.returns-in-Ok
 unfolding reply_bytes
-returns-in-Swept c = rw c.in-Swept.is (refl, c.write_swept.ensures)
+returns-in-Ok c = rw c.in-Ok.is (refl, c.write_swept.ensures)

@@ -3,6 +3,6 @@ use mathlib.Core.Path.{refl}
 use Rattle.c_reply.specs.Reply.{reply_bytes}
 use Rattle.c_reply.proofs.written.Goals as goal
 
-pub returns-in-Written : goal.returns-in-Written
+pub returns-in-Ok : goal.returns-in-Ok
 unfolding reply_bytes
-returns-in-Written c = rw c.in-Written.is (refl, c.write.ensures)
+returns-in-Ok c = rw c.in-Ok.is (refl, c.write.ensures)

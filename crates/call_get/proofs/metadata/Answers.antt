@@ -23,12 +23,12 @@ overflow_sub-length c =
 
 pub overflow_cast-result-2 : goal.overflow_cast-result-2
 overflow_cast-result-2 c =
-    let small : c.pairs_size-held.result ≤ 32130 = omega (arith, c.pairs_size-held.ensures, size-most c.args.tables.now c.args.at (λ j. (c.shared_slice_known-1.given j).fits) c.requires.0) in
+    let small : c.pairs_size-held.result ≤ 32130 = omega (arith, c.pairs_size-held.ensures, size-most c.args.tables.now c.args.at (λ j. (c.type_inv.tables j).fits) c.requires.0) in
     omega (arith, small)
 
 pub overflow_add-result : goal.overflow_add-result
 overflow_add-result c =
-    let small : c.pairs_size-held.result ≤ 32130 = omega (arith, c.pairs_size-held.ensures, size-most c.args.tables.now c.args.at (λ j. (c.shared_slice_known-1.given j).fits) c.requires.0) in
+    let small : c.pairs_size-held.result ≤ 32130 = omega (arith, c.pairs_size-held.ensures, size-most c.args.tables.now c.args.at (λ j. (c.type_inv.tables j).fits) c.requires.0) in
     omega (arith, small)
 
 pub returns : goal.returns

@@ -1,6 +1,5 @@
 -- `call_sweep::sweep_whole` meets its contract. The invariant: so many ABORTs are made, a sweep of the rest leaves what the whole sweep leaves, and
 -- the first row that is due is here. Assumes nothing.
-use Prim.Native.Nat.{◌-◌}
 use native.Mathlib.Omega.{arith}
 use Rattle.call_contract.specs.Made.{memory}
 use Rattle.call_sweep.proofs.Sweeping.{First, first-place, start, one-due, open-here, place-there, turn, none-due, most-done}

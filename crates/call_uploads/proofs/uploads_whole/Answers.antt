@@ -15,9 +15,8 @@ use Rattle.call_uploads.proofs.uploads_whole.Goals as goal
 
 pub returns-then-answer-counts : goal.returns-then-answer-counts
 returns-then-answer-counts c =
-    let a : List ℕ = c.args.arena.now in
     let a = c.args in
-    refused-short a.tables.now a.arena.now a.prefix.now a.answer.now c.measure-counts.result.bytes c.measure-counts.ensures.1 c.if-answer-counts.true
+    refused-short a.tables.now a.arena.now a.prefix.now a.answer.now c.measure-counts.result.bytes c.measure-counts.ensures.sized c.if-answer-counts.true
 
 pub write-requires : goal.write-requires
 write-requires c =
@@ -26,12 +25,12 @@ write-requires c =
     let p : List ℕ = c.args.prefix.now in
     let s : State = state_of t a in
     let notes : List ℕ = c.measure-counts.new.notes in
-    let stands : Stands t a s = whole-stands t a (λ j. (c.shared_slice_known-1.given j).fits) c.requires.0 in
-    let told : records_noted t notes c.measure-counts.result.records ≡ records_under p s = records-noted t a s stands p notes c.measure-counts.result.records c.measure-counts.ensures.2 c.measure-counts.ensures.0 in
-    let n = c.measure-counts.ensures.1 in
-    let few = c.measure-counts.ensures.3 in
+    let stands : Stands t a s = whole-stands t a (λ j. (c.type_inv.tables j).fits) c.requires.0 in
+    let told : records_noted t notes c.measure-counts.result.records ≡ records_under p s = records-noted t a s stands p notes c.measure-counts.result.records c.measure-counts.ensures.noted c.measure-counts.ensures.counted in
+    let n = c.measure-counts.ensures.sized in
+    let few = c.measure-counts.ensures.few in
     let l = c.if-answer-counts.false in
-    (search rules, rows-noted (t) (a) (s) (stands) (p) (notes) c.measure-counts.result.records c.measure-counts.ensures.2, rw (told) (omega arith))
+    (search rules, rows-noted (t) (a) (s) (stands) (p) (notes) c.measure-counts.result.records c.measure-counts.ensures.noted, rw (told) (omega arith))
 
 pub returns : goal.returns
 returns c =
@@ -40,7 +39,7 @@ returns c =
     let p : List ℕ = c.args.prefix.now in
     let s : State = state_of t a in
     let notes : List ℕ = c.measure-counts.new.notes in
-    let stands : Stands t a s = whole-stands t a (λ j. (c.shared_slice_known-1.given j).fits) c.requires.0 in
-    let told : records_noted t notes c.measure-counts.result.records ≡ records_under p s = records-noted t a s stands p notes c.measure-counts.result.records c.measure-counts.ensures.2 c.measure-counts.ensures.0 in
+    let stands : Stands t a s = whole-stands t a (λ j. (c.type_inv.tables j).fits) c.requires.0 in
+    let told : records_noted t notes c.measure-counts.result.records ≡ records_under p s = records-noted t a s stands p notes c.measure-counts.result.records c.measure-counts.ensures.noted c.measure-counts.ensures.counted in
     let e = c.measure-counts.ensures in
-    all-written (t) (a) (p) c.args.answer.now c.measure-counts.result _ _ (e.0, e.1) c.if-answer-counts.false (told) c.write.ensures
+    all-written (t) (a) (p) c.args.answer.now c.measure-counts.result _ _ (e.counted, e.sized) c.if-answer-counts.false (told) c.write.ensures

@@ -1,5 +1,5 @@
 -- `call_list::writing::write_rows` meets its contract. The invariant: the first i records stand at the front. Assumes nothing.
-use Prim.Native.Nat.{ℕ, ◌-◌}
+use Prim.Native.Nat.{ℕ}
 use mathlib.Core.Path.{◌∙◌}
 use mathlib.Core.List.{List}
 use native.Mathlib.Omega.{arith}
@@ -24,7 +24,7 @@ write_record-to-requires c =
     let t : List ℕ = c.args.tables.now in
     let a : List ℕ = c.args.arena.now in
     let s : State = state_of t a in
-    let stands : Stands t a s = whole-stands t a (λ j. (c.shared_slice_known-1.given j).fits) c.requires.0 in
+    let stands : Stands t a s = whole-stands t a (λ j. (c.type_inv.tables j).fits) c.requires.0 in
     let here : ListedAt (s) c.args.prefix.now c.args.suffix.now c.args.places.now c.loop-i.i = c.requires.4 c.loop-i.i c.loop-i-test.true in
     let g = c.get_u16-at in
     let x = here in
@@ -43,7 +43,7 @@ loop-i-preserved c =
     let t : List ℕ = c.args.tables.now in
     let a : List ℕ = c.args.arena.now in
     let s : State = state_of t a in
-    let stands : Stands t a s = whole-stands t a (λ j. (c.shared_slice_known-1.given j).fits) c.requires.0 in
+    let stands : Stands t a s = whole-stands t a (λ j. (c.type_inv.tables j).fits) c.requires.0 in
     let here : ListedAt (s) c.args.prefix.now c.args.suffix.now c.args.places.now c.loop-i.i = c.requires.4 c.loop-i.i c.loop-i-test.true in
     let g = c.get_u16-at in
     let w = c.write_record-to in

@@ -1,5 +1,4 @@
 -- `call_uploads::measuring::measure` meets its contract. The invariant: the uploads passed are measured, and those that have a record noted. Assumes nothing.
-use Prim.Native.Nat.{◌-◌}
 use mathlib.Core.Path.{◌≡◌}
 use lib.ListN.{length}
 use Rattle.mem_layout.specs.Memory.{state_of}
@@ -12,6 +11,3 @@ invariant-loop-i l =
     Measured (state_of l.tables l.arena) l.prefix l.i l.here l.records l.bytes
     × AllNoted (state_of l.tables l.arena) l.prefix l.notes l.records
     × (length l.notes ≡ length l.initial.notes)
-
-abbrev pub decreases-loop-i : goal.decreases-loop-i
-decreases-loop-i l = l.uploads - l.i

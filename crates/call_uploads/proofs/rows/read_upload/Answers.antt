@@ -22,7 +22,7 @@ read_head-h-requires c =
     let s : State = state_of t a in
     let here : RowPlace = c.args.here in
     let number : ℕ = (head_at (drop here.at t)).number in
-    let stands : Stands t a s = whole-stands t a (λ j. (c.shared_slice_known-1.given j).fits) c.requires.0 in
+    let stands : Stands t a s = whole-stands t a (λ j. (c.type_inv.tables j).fits) c.requires.0 in
     let a-row : (here ≡ row_place_at (rows_of s) here.row) × (here.row < length (rows_of s)) = open-row-place s number here c.requires.2 c.requires.1 in
     let reached : Reached s here.row here.at here.base = place-reached s here a-row.0 (let l = a-row.1 in omega arith) in
     let head-inside : here.at + head_length ≤ length t = row_inside t a s stands here.row here.at here.base reached a-row.1 in
@@ -45,7 +45,7 @@ overflow_add-from c =
     let s : State = state_of t a in
     let here : RowPlace = c.args.here in
     let number : ℕ = (head_at (drop here.at t)).number in
-    let stands : Stands t a s = whole-stands t a (λ j. (c.shared_slice_known-1.given j).fits) c.requires.0 in
+    let stands : Stands t a s = whole-stands t a (λ j. (c.type_inv.tables j).fits) c.requires.0 in
     let a-row : (here ≡ row_place_at (rows_of s) here.row) × (here.row < length (rows_of s)) = open-row-place s number here c.requires.2 c.requires.1 in
     let reached : Reached s here.row here.at here.base = place-reached s here a-row.0 (let l = a-row.1 in omega arith) in
     let path_inside : (here).at + span c.read_head-h.result ≤ length (t) = (row-turn (t) (a) (s) (stands) (here).row (here).at (here).base (reached) (a-row).1 c.read_head-h.result c.read_head-h.ensures).inside in
@@ -58,7 +58,7 @@ overflow_add-result c =
     let s : State = state_of t a in
     let here : RowPlace = c.args.here in
     let number : ℕ = (head_at (drop here.at t)).number in
-    let stands : Stands t a s = whole-stands t a (λ j. (c.shared_slice_known-1.given j).fits) c.requires.0 in
+    let stands : Stands t a s = whole-stands t a (λ j. (c.type_inv.tables j).fits) c.requires.0 in
     let a-row : (here ≡ row_place_at (rows_of s) here.row) × (here.row < length (rows_of s)) = open-row-place s number here c.requires.2 c.requires.1 in
     let reached : Reached s here.row here.at here.base = place-reached s here a-row.0 (let l = a-row.1 in omega arith) in
     let path_inside : (here).at + span c.read_head-h.result ≤ length (t) = (row-turn (t) (a) (s) (stands) (here).row (here).at (here).base (reached) (a-row).1 c.read_head-h.result c.read_head-h.ensures).inside in
@@ -71,7 +71,7 @@ overflow_cast-result-2 c =
     let s : State = state_of t a in
     let here : RowPlace = c.args.here in
     let number : ℕ = (head_at (drop here.at t)).number in
-    let stands : Stands t a s = whole-stands t a (λ j. (c.shared_slice_known-1.given j).fits) c.requires.0 in
+    let stands : Stands t a s = whole-stands t a (λ j. (c.type_inv.tables j).fits) c.requires.0 in
     omega (arith, parts-fit (t) (a) (s) (stands) (number) c.requires.1 c.pass_parts-parts.result (λ x. c.pass_parts-parts.ensures (number) x c.requires.2))
 
 pub returns : goal.returns

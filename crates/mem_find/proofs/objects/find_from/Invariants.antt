@@ -6,6 +6,3 @@ use Rattle.mem_find.proofs.objects.find_from.Given as goal
 
 abbrev pub invariant-loop-i : goal.invariant-loop-i
 invariant-loop-i l = Passed (state_of l.tables l.arena) l.path l.i l.at l.base
-
-abbrev pub decreases-loop-i : goal.decreases-loop-i
-decreases-loop-i l = l.objects - l.i

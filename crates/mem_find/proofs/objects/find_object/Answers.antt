@@ -146,8 +146,6 @@ loop-i-preserved c =
 
 pub returns : goal.returns
 returns c =
-    let t : List ℕ = c.args.tables.now in
-    let a : List ℕ = c.args.arena.now in
-    let s : State = state_of t a in
-    let counted : c.read_counts-counts.result.objects ≡ length s.O = c.read_counts-counts.ensures.objects in
-    c.lookup_at-2.ensures ∙ passed-all (s) c.args.path.now c.loop-i.i c.loop-i.at c.loop-i.base c.loop-i.invariant (let n = c.loop-i-test.false in omega (arith, counted))
+    let s : State = state_of c.args.tables.now c.args.arena.now in
+    let at-end : c.read_counts-counts.result.objects ≡ c.loop-i.i = omega (arith, c.read_counts-counts.ensures.objects, c.loop-i-test.false, c.loop-i.invariant.within) in
+    rw at-end at c.lookup_at-2.ensures ∙ passed-all s c.args.path.now c.loop-i.i c.loop-i.at c.loop-i.base c.loop-i.invariant (omega (arith, c.read_counts-counts.ensures.objects, c.loop-i-test.false))

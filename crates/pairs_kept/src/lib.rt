@@ -120,5 +120,9 @@ fn all_distinct(pairs: &[u8]) -> bool
 pub fn judge(pairs: &[u8]) -> bool
     ensures { result ≡ pairs_ok (pair_list pairs.now) }
 {
-    formed(pairs) && count(pairs) <= pairs::PAIRS_MOST && all_distinct(pairs)
+    if !formed(pairs) {
+        return false;
+    }
+    let few = count(pairs) <= pairs::PAIRS_MOST;
+    few && all_distinct(pairs)
 }

@@ -26,6 +26,6 @@ pub returns-else-l-gt0 : goal.returns-else-l-gt0
 returns-else-l-gt0 c =
     let l = c.loop-l in
     elim c.else-l-gt0.branch [
-      else-l-gt0-via-then-l-gt0+else-r-gt0-2 w ↦ none_right l.b l.from l.l l.r (omega arith) (omega arith) ∙ l.invariant.2
+      | else-l-gt0-via-then-l-gt0+else-r-gt0-2 w ↦ none_right l.b l.from l.l l.r (omega arith) (omega arith) ∙ l.invariant.2
       | else-l-gt0-via-else-l-gt0 w ↦ none_left l.b l.from l.l l.r (omega arith) (omega arith) ∙ l.invariant.2
     ]

@@ -1,6 +1,6 @@
 -- `call_commit::pass_listed` meets its contract. The invariant: the rows passed are the parts that the list's first i numbers name. Assumes nothing.
 use mathlib.Core.Bool.{not, Bool}
-use Prim.Native.Nat.{ℕ, ◌+◌, ◌-◌, ◌*◌, ◌≤◌, ◌<◌}
+use Prim.Native.Nat.{ℕ, ◌+◌, ◌*◌, ◌≤◌, ◌<◌}
 use mathlib.Core.Path.{◌≡◌, sym, ap, ◌∙◌}
 use mathlib.Core.List.{List}
 use native.Mathlib.Omega.{arith}
@@ -21,7 +21,7 @@ loop-i-init c =
     let s : State = state_of t a in
     let first = c.args.first in
     let s = state_of c.args.tables.now c.args.arena.now in
-    (omega arith, walked_none s first.row c.args.list.now first.at first.base (place-reached s first c.requires.1.0 c.requires.1.1))
+    walked_none s first.row c.args.list.now first.at first.base (place-reached s first c.requires.1.0 c.requires.1.1)
 
 pub returns-then-rows-row : goal.returns-then-rows-row
 returns-then-rows-row c =
@@ -30,7 +30,7 @@ returns-then-rows-row c =
     let s : State = state_of t a in
     let list : List ℕ = c.args.list.now in
     let counted : c.read_counts-counts.result.rows ≡ length (rows_of s) = c.read_counts-counts.ensures.rows in
-    let walked : Walked s c.args.first.row list c.loop-i.i c.loop-i.row c.loop-i.at c.loop-i.base = c.loop-i.invariant.1 in
+    let walked : Walked s c.args.first.row list c.loop-i.i c.loop-i.row c.loop-i.at c.loop-i.base = c.loop-i.invariant in
     walked-rows (s) _ _ _ _ _ _ (walked) (let n = c.if-rows-row.true in omega (arith, counted))
 
 pub read_head-h-requires : goal.read_head-h-requires
@@ -39,9 +39,9 @@ read_head-h-requires c =
     let a : List ℕ = c.args.arena.now in
     let s : State = state_of t a in
     let list : List ℕ = c.args.list.now in
-    let stands : Stands t a s = whole-stands t a (λ j. (c.shared_slice_known-1.given j).fits) c.requires.0 in
+    let stands : Stands t a s = whole-stands t a (λ j. (c.type_inv.tables j).fits) c.requires.0 in
     let counted : c.read_counts-counts.result.rows ≡ length (rows_of s) = c.read_counts-counts.ensures.rows in
-    let walked : Walked s c.args.first.row list c.loop-i.i c.loop-i.row c.loop-i.at c.loop-i.base = c.loop-i.invariant.1 in
+    let walked : Walked s c.args.first.row list c.loop-i.i c.loop-i.row c.loop-i.at c.loop-i.base = c.loop-i.invariant in
     let more : c.loop-i.row < length (rows_of (s)) = let n = c.if-rows-row.false in omega (arith, counted) in
     omega (arith, row_inside (t) (a) (s) (stands) _ _ _ (walked).here (more))
 
@@ -63,9 +63,9 @@ returns-then-not-is_part c =
     let a : List ℕ = c.args.arena.now in
     let s : State = state_of t a in
     let list : List ℕ = c.args.list.now in
-    let stands : Stands t a s = whole-stands t a (λ j. (c.shared_slice_known-1.given j).fits) c.requires.0 in
+    let stands : Stands t a s = whole-stands t a (λ j. (c.type_inv.tables j).fits) c.requires.0 in
     let counted : c.read_counts-counts.result.rows ≡ length (rows_of s) = c.read_counts-counts.ensures.rows in
-    let walked : Walked s c.args.first.row list c.loop-i.i c.loop-i.row c.loop-i.at c.loop-i.base = c.loop-i.invariant.1 in
+    let walked : Walked s c.args.first.row list c.loop-i.i c.loop-i.row c.loop-i.at c.loop-i.base = c.loop-i.invariant in
     let inside : 2 * c.loop-i.i + 2 ≤ length (list) = let n = c.loop-i-test.true in omega arith in
     let more : c.loop-i.row < length (rows_of (s)) = let n = c.if-rows-row.false in omega (arith, counted) in
     let turn : Turn (t) (a) (s) c.loop-i.row c.loop-i.at c.loop-i.base c.read_head-h.result = row-turn (t) (a) (s) (stands) _ _ _ (walked).here (more) c.read_head-h.result c.read_head-h.ensures in
@@ -78,9 +78,9 @@ overflow_add-at c =
     let a : List ℕ = c.args.arena.now in
     let s : State = state_of t a in
     let list : List ℕ = c.args.list.now in
-    let stands : Stands t a s = whole-stands t a (λ j. (c.shared_slice_known-1.given j).fits) c.requires.0 in
+    let stands : Stands t a s = whole-stands t a (λ j. (c.type_inv.tables j).fits) c.requires.0 in
     let counted : c.read_counts-counts.result.rows ≡ length (rows_of s) = c.read_counts-counts.ensures.rows in
-    let walked : Walked s c.args.first.row list c.loop-i.i c.loop-i.row c.loop-i.at c.loop-i.base = c.loop-i.invariant.1 in
+    let walked : Walked s c.args.first.row list c.loop-i.i c.loop-i.row c.loop-i.at c.loop-i.base = c.loop-i.invariant in
     let more : c.loop-i.row < length (rows_of (s)) = let n = c.if-rows-row.false in omega (arith, counted) in
     let turn : Turn (t) (a) (s) c.loop-i.row c.loop-i.at c.loop-i.base c.read_head-h.result = row-turn (t) (a) (s) (stands) _ _ _ (walked).here (more) c.read_head-h.result c.read_head-h.ensures in
     let z = (turn).inside in omega arith
@@ -91,9 +91,9 @@ overflow_add-base c =
     let a : List ℕ = c.args.arena.now in
     let s : State = state_of t a in
     let list : List ℕ = c.args.list.now in
-    let stands : Stands t a s = whole-stands t a (λ j. (c.shared_slice_known-1.given j).fits) c.requires.0 in
+    let stands : Stands t a s = whole-stands t a (λ j. (c.type_inv.tables j).fits) c.requires.0 in
     let counted : c.read_counts-counts.result.rows ≡ length (rows_of s) = c.read_counts-counts.ensures.rows in
-    let walked : Walked s c.args.first.row list c.loop-i.i c.loop-i.row c.loop-i.at c.loop-i.base = c.loop-i.invariant.1 in
+    let walked : Walked s c.args.first.row list c.loop-i.i c.loop-i.row c.loop-i.at c.loop-i.base = c.loop-i.invariant in
     let more : c.loop-i.row < length (rows_of (s)) = let n = c.if-rows-row.false in omega (arith, counted) in
     let turn : Turn (t) (a) (s) c.loop-i.row c.loop-i.at c.loop-i.base c.read_head-h.result = row-turn (t) (a) (s) (stands) _ _ _ (walked).here (more) c.read_head-h.result c.read_head-h.ensures in
     let z = (turn).arena-inside in omega arith
@@ -103,7 +103,7 @@ overflow_add-row c =
     let t : List ℕ = c.args.tables.now in
     let a : List ℕ = c.args.arena.now in
     let s : State = state_of t a in
-    let stands : Stands t a s = whole-stands t a (λ j. (c.shared_slice_known-1.given j).fits) c.requires.0 in
+    let stands : Stands t a s = whole-stands t a (λ j. (c.type_inv.tables j).fits) c.requires.0 in
     let counted : c.read_counts-counts.result.rows ≡ length (rows_of s) = c.read_counts-counts.ensures.rows in
     let more : c.loop-i.row < length (rows_of (s)) = let n = c.if-rows-row.false in omega (arith, counted) in
     let l = more in
@@ -115,14 +115,14 @@ loop-i-preserved c =
     let a : List ℕ = c.args.arena.now in
     let s : State = state_of t a in
     let list : List ℕ = c.args.list.now in
-    let stands : Stands t a s = whole-stands t a (λ j. (c.shared_slice_known-1.given j).fits) c.requires.0 in
+    let stands : Stands t a s = whole-stands t a (λ j. (c.type_inv.tables j).fits) c.requires.0 in
     let counted : c.read_counts-counts.result.rows ≡ length (rows_of s) = c.read_counts-counts.ensures.rows in
-    let walked : Walked s c.args.first.row list c.loop-i.i c.loop-i.row c.loop-i.at c.loop-i.base = c.loop-i.invariant.1 in
+    let walked : Walked s c.args.first.row list c.loop-i.i c.loop-i.row c.loop-i.at c.loop-i.base = c.loop-i.invariant in
     let inside : 2 * c.loop-i.i + 2 ≤ length (list) = let n = c.loop-i-test.true in omega arith in
     let more : c.loop-i.row < length (rows_of (s)) = let n = c.if-rows-row.false in omega (arith, counted) in
     let turn : Turn (t) (a) (s) c.loop-i.row c.loop-i.at c.loop-i.base c.read_head-h.result = row-turn (t) (a) (s) (stands) _ _ _ (walked).here (more) c.read_head-h.result c.read_head-h.ensures in
     let told : (b : Bool) → c.is_part.result ≡ b → is_part (number_at (list) c.loop-i.i) c.read_head-h.result ≡ b = λ b e. ap (λ (n : ℕ). is_part n c.read_head-h.result) (sym c.get_u16.ensures) ∙ sym c.is_part.ensures ∙ e in
-    (omega arith, walked_next (s) _ _ _ _ _ _ (walked) (inside) (t) (a) _ (turn) (told _ (not-false _ (ap not c.if-not-is_part.false))))
+    walked_next (s) _ _ _ _ _ _ (walked) (inside) (t) (a) _ (turn) (told _ (not-false _ (ap not c.if-not-is_part.false)))
 
 pub returns : goal.returns
 returns c =
@@ -130,5 +130,5 @@ returns c =
     let a : List ℕ = c.args.arena.now in
     let s : State = state_of t a in
     let list : List ℕ = c.args.list.now in
-    let walked : Walked s c.args.first.row list c.loop-i.i c.loop-i.row c.loop-i.at c.loop-i.base = c.loop-i.invariant.1 in
+    let walked : Walked s c.args.first.row list c.loop-i.i c.loop-i.row c.loop-i.at c.loop-i.base = c.loop-i.invariant in
     walked-list (s) _ _ _ _ _ _ (walked) (let n = c.loop-i-test.false in omega arith)

@@ -1,22 +1,21 @@
 -- `pairs_kept::judge` meets its contract: three tests, each over what the one before it left. Assumes nothing.
-use mathlib.Core.Path.{sym, ◌∙◌}
+use mathlib.Core.Path.{ap}
+use mathlib.Core.Bool.{not}
 use native.Mathlib.Omega.{arith}
-use borrow.Author.Tests.{leb-true, leb-false}
+use borrow.Author.Tests.{lt-leb}
 use Rattle.pairs_kept.proofs.Keeping.{judge-form, judge-many, judge-keys}
+use Rattle.machine.proofs.Tests.{said-no, said-yes}
 use Rattle.machine.specs.Pairs.{pair_list}
-use Rattle.pairs_kept.proofs.judge.Goals.{then-formed, else-formed}
 use Rattle.pairs_kept.proofs.judge.Goals as goal
 
-pub returns-then-count-le-PAIRS_MOST : goal.returns-then-count-le-PAIRS_MOST
-returns-then-count-le-PAIRS_MOST c =
-    elim c.if-formed.branch [
-      then-formed w ↦ judge-keys (pair_list c.args.pairs.now) (sym c.formed.ensures ∙ w.if-formed.true) (omega (arith, w.count.ensures, leb-true w.count.result 8 (sym w.value-is ∙ c.if-count-le-PAIRS_MOST.true))) c.all_distinct.result c.all_distinct.ensures
-      | else-formed w ↦ let e = w.value-is in let f = c.if-count-le-PAIRS_MOST.true in cc
-    ]
+pub returns-then-not-formed : goal.returns-then-not-formed
+returns-then-not-formed c = judge-form (pair_list c.args.pairs.now) (said-no c.formed.ensures (ap not c.if-not-formed.true))
 
-pub returns-else-count-le-PAIRS_MOST : goal.returns-else-count-le-PAIRS_MOST
-returns-else-count-le-PAIRS_MOST c =
-    rw c.if-count-le-PAIRS_MOST.false (elim c.if-formed.branch [
-      then-formed w ↦ judge-many (pair_list c.args.pairs.now) (sym c.formed.ensures ∙ w.if-formed.true) (omega (arith, w.count.ensures, leb-false w.count.result 8 (sym w.value-is ∙ c.if-count-le-PAIRS_MOST.false)))
-      | else-formed w ↦ judge-form (pair_list c.args.pairs.now) (sym c.formed.ensures ∙ w.if-formed.false)
-    ])
+pub returns-then-few : goal.returns-then-few
+returns-then-few c =
+    judge-keys (pair_list c.args.pairs.now) (said-yes c.formed.ensures (ap not c.if-not-formed.false))
+    (omega (arith, c.count-few.ensures)) c.all_distinct.result c.all_distinct.ensures
+
+pub returns-else-few : goal.returns-else-few
+returns-else-few c =
+    rw (lt-leb c.count-few.result 8 (omega arith)) (judge-many (pair_list c.args.pairs.now) (said-yes c.formed.ensures (ap not c.if-not-formed.false)) (omega (arith, c.count-few.ensures)))

@@ -2,6 +2,7 @@
 use mathlib.Core.Path.{◌∙◌}
 use native.Mathlib.Omega.{arith}
 use borrow.Author.Tests.{le-leb}
+use lib.ListN.{length}
 use Rattle.machine.specs.Pairs.{key_byte, key_ok}
 use Rattle.machine.proofs.Tests.{tests}
 use Rattle.pairs.proofs.RuleLaws.{all_every}
@@ -14,4 +15,5 @@ returns-then-n-lt1 c = grind (arith, tests)
 pub returns : goal.returns
 unfolding key_ok
 returns c =
-    rw (le-leb _ _ c.if-n-lt1.false, le-leb _ _ c.if-n-gt32.false) (c.all_key_bytes.ensures ∙ all_every key_byte c.args.k.now)
+    let n = length c.args.k.now in
+    rw (le-leb 1 n (omega arith), le-leb n 32 (omega arith)) (c.all_key_bytes.ensures ∙ all_every key_byte c.args.k.now)

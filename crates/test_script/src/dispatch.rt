@@ -1,18 +1,16 @@
 // The call that a line says.
-use call_types::{
-    DoneAnswer, InitiateAnswer, PartAnswer, PartNumber, Stamp, SweepAnswer, UploadNumber,
-};
+use call_types::{Etag, PartNumber, Refusal, Stamp, Sweep, UploadNumber};
 use std::io;
 use test_lines::answers::{
-    print_buffer, print_done, print_found, print_front, print_opened, print_result, print_stored,
-    print_swept, print_written,
+    print_buffer, print_done, print_found, print_front, print_opened, print_stored, print_swept,
+    print_written,
 };
 use test_lines::fields::{Kind, field, list_bytes, number, part_number};
 use test_lines::room::room;
 use test_lines::words::{Word, front_len, length_in};
 
 // COMMIT of the list that the line says, at most 32 numbers: `list_bytes` asks room for a place, eight bytes, at each entry.
-fn commit(tables: &mut [u8], arena: &mut [u8], line: &[u8]) -> DoneAnswer {
+fn commit(tables: &mut [u8], arena: &mut [u8], line: &[u8]) -> Result<(), Refusal> {
     let mut list = [0u8; 70];
     let n = list_bytes(field(line, 2), Kind::PartNumbers, &mut list);
     store::commit(tables, arena, UploadNumber(upload(line)), &list[..n])
@@ -99,7 +97,7 @@ fn head_with_buffer(rt: &impl Print, tables: &[u8], arena: &[u8], line: &[u8]) -
 }
 
 // PUT, with the pairs that the line says.
-fn put(tables: &mut [u8], arena: &mut [u8], line: &[u8]) -> DoneAnswer {
+fn put(tables: &mut [u8], arena: &mut [u8], line: &[u8]) -> Result<(), Refusal> {
     let mut pairs = room::<1024>(0);
     let m = list_bytes(field(line, 4), Kind::Pairs, &mut pairs);
     let stamp = Stamp(stamp(line));
@@ -113,7 +111,7 @@ fn put(tables: &mut [u8], arena: &mut [u8], line: &[u8]) -> DoneAnswer {
     )
 }
 
-fn copy(tables: &mut [u8], arena: &mut [u8], line: &[u8]) -> DoneAnswer {
+fn copy(tables: &mut [u8], arena: &mut [u8], line: &[u8]) -> Result<(), Refusal> {
     let stamp = Stamp(stamp(line));
     store::copy(tables, arena, stamp, field(line, 2), field(line, 3))
 }
@@ -126,7 +124,7 @@ fn upload(line: &[u8]) -> u32 {
     number(line, 1, 4294967295) as u32
 }
 
-fn initiate(tables: &mut [u8], arena: &mut [u8], line: &[u8]) -> InitiateAnswer {
+fn initiate(tables: &mut [u8], arena: &mut [u8], line: &[u8]) -> Result<UploadNumber, Refusal> {
     let mut pairs = room::<1024>(0);
     let m = list_bytes(field(line, 3), Kind::Pairs, &mut pairs);
     store::initiate(
@@ -138,7 +136,7 @@ fn initiate(tables: &mut [u8], arena: &mut [u8], line: &[u8]) -> InitiateAnswer 
     )
 }
 
-fn part(tables: &mut [u8], arena: &mut [u8], line: &[u8]) -> PartAnswer {
+fn part(tables: &mut [u8], arena: &mut [u8], line: &[u8]) -> Result<Etag, Refusal> {
     let number = PartNumber(part_number(field(line, 2)));
     store::part(
         tables,
@@ -149,7 +147,7 @@ fn part(tables: &mut [u8], arena: &mut [u8], line: &[u8]) -> PartAnswer {
     )
 }
 
-fn sweep(tables: &mut [u8], arena: &mut [u8], line: &[u8]) -> SweepAnswer {
+fn sweep(tables: &mut [u8], arena: &mut [u8], line: &[u8]) -> Result<Sweep, Refusal> {
     let most = number(line, 2, 4294967295) as u32;
     store::sweep(tables, arena, Stamp(stamp(line)), most)
 }
@@ -210,7 +208,7 @@ pub(crate) fn run(
         Word::List => list_and_show(rt, tables, arena, line),
         Word::Uploads => uploads_and_show(rt, tables, arena, line),
         Word::Delete => print_done(rt, store::delete(tables, arena, field(line, 1))),
-        Word::Fresh => print_result(rt, store::fresh(tables, arena)),
+        Word::Fresh => print_done(rt, store::fresh(tables, arena)),
         Word::Put => print_done(rt, put(tables, arena, line)),
         Word::Copy => print_done(rt, copy(tables, arena, line)),
         Word::Initiate => print_opened(rt, initiate(tables, arena, line)),

@@ -7,6 +7,7 @@ ghost use Rattle.call_contract.specs.Made.{memory};
 ghost use Rattle.recording.specs.Parse.{parse};
 ghost use Rattle.recording_replay.specs.Replayed.{LineDone, LineReplayed};
 
+use call_types::Refusal;
 use recording_read::Verb;
 
 // A line by its verb.
@@ -73,7 +74,7 @@ fn verb_line(
             let listed = recording_looks::uploads_line(tables, arena, line, 8, answer);
             c_reply::written(listed, reply)
         }
-        None => u32::from(recording_line::refusal(tables, arena, recording_line::NOT_A_LINE)),
+        None => c_reply::done(Err(recording_line::refusal(tables, arena, Refusal::NotALine))),
     }
 }
 
@@ -99,7 +100,7 @@ pub fn replay_line(
         return 1;
     }
     if 4096 < line.len() {
-        return recording_line::refusal(tables, arena, recording_line::NOT_A_LINE) as u32;
+        return c_reply::done(Err(recording_line::refusal(tables, arena, Refusal::NotALine)));
     }
     verb_line(tables, arena, line, answer, pairs, reply)
 }

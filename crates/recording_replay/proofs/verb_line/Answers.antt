@@ -97,4 +97,4 @@ returns-in-Some-Uploads c =
 pub returns-in-None : goal.returns-in-None
 returns-in-None c =
     let a = c.args in
-    line-none (buffers a.answer.now a.pairs.now) a.reply.now c.from.result (no-verb a.line.now c.in-None.ensures) (c.from.ensures ∙ c.refusal.ensures)
+    line-none (buffers a.answer.now a.pairs.now) a.reply.now c.done.result (no-verb a.line.now c.in-None.ensures) (c.done.ensures ∙ c.refusal.ensures)

@@ -36,11 +36,11 @@ fn verb_line(
         }
         Some(Verb::Get) => {
             let got = recording_looks::get_line(tables, arena, line, 4, answer, pairs);
-            c_reply::found(got, reply)
+            c_reply::tell(got, reply)
         }
         Some(Verb::Head) => {
             let got = recording_looks::head_line(tables, arena, line, 5, pairs);
-            c_reply::found(got, reply)
+            c_reply::tell(got, reply)
         }
         Some(Verb::Delete) => {
             let done = recording_objects::delete_line(tables, arena, line, 7);
@@ -52,15 +52,15 @@ fn verb_line(
         }
         Some(Verb::List) => {
             let listed = recording_looks::list_line(tables, arena, line, 5, answer);
-            c_reply::written(listed, reply)
+            c_reply::tell(listed, reply)
         }
         Some(Verb::Initiate) => {
             let opened = recording_uploads::initiate_line(tables, arena, line, 9);
-            c_reply::opened(opened, reply)
+            c_reply::tell(opened, reply)
         }
         Some(Verb::Part) => {
             let stored = recording_uploads::part_line(tables, arena, line, 5);
-            c_reply::stored(stored, reply)
+            c_reply::tell(stored, reply)
         }
         Some(Verb::Commit) => {
             let done = recording_uploads::commit_line(tables, arena, line, 7);
@@ -72,7 +72,7 @@ fn verb_line(
         }
         Some(Verb::Uploads) => {
             let listed = recording_looks::uploads_line(tables, arena, line, 8, answer);
-            c_reply::written(listed, reply)
+            c_reply::tell(listed, reply)
         }
         None => c_reply::done(Err(recording_line::refusal(tables, arena, Refusal::NotALine))),
     }

@@ -10,7 +10,7 @@ ghost use Rattle.recording.specs.Entry as entry;
 ghost use Rattle.recording.specs.Parse.{path_rest, list_rest, whole};
 ghost use Rattle.recording_line.specs.Replayed.{Replayed};
 
-use call_types::{GetAnswer, ListAnswer};
+use call_types::{Counts, Metadata, Refusal};
 
 // The rest of a line that begins with "(get", which ends at `at`.
 pub fn get_line(
@@ -20,7 +20,7 @@ pub fn get_line(
     at: usize,
     answer: &mut [u8],
     pairs: &mut [u8],
-) -> GetAnswer
+) -> Result<Metadata, Refusal>
     requires { length line.now ≤ 4096 }
     ensures { Replayed (whole (path_rest entry.get (drop at line.now)))
         answer.old pairs.old
@@ -32,17 +32,13 @@ pub fn get_line(
     let mut path = [0u8; 2048];
     let read = recording_read::string_field(line, at, &mut path);
     let Some(len) = recording_read::closed(line, read) else {
-        return GetAnswer::Refused(recording_line::refusal(
-            tables,
-            arena,
-            recording_line::NOT_A_LINE,
-        ));
+        return Err(recording_line::refusal(tables, arena, Refusal::NotALine));
     };
     call_get::get(tables, arena, &path[..len], answer, pairs)
 }
 
 // The rest of a line that begins with "(head", which ends at `at`; b is an answer buffer that it does not have.
-pub fn head_line(tables: &[u8], arena: &[u8], line: &[u8], at: usize, pairs: &mut [u8]) -> GetAnswer
+pub fn head_line(tables: &[u8], arena: &[u8], line: &[u8], at: usize, pairs: &mut [u8]) -> Result<Metadata, Refusal>
     requires { length line.now ≤ 4096 }
     ensures { (b : Bytes) → Replayed (whole (path_rest entry.head (drop at line.now)))
         b pairs.old
@@ -54,11 +50,7 @@ pub fn head_line(tables: &[u8], arena: &[u8], line: &[u8], at: usize, pairs: &mu
     let mut path = [0u8; 2048];
     let read = recording_read::string_field(line, at, &mut path);
     let Some(len) = recording_read::closed(line, read) else {
-        return GetAnswer::Refused(recording_line::refusal(
-            tables,
-            arena,
-            recording_line::NOT_A_LINE,
-        ));
+        return Err(recording_line::refusal(tables, arena, Refusal::NotALine));
     };
     call_get::head(tables, arena, &path[..len], pairs)
 }
@@ -70,7 +62,7 @@ pub fn uploads_line(
     line: &[u8],
     at: usize,
     answer: &mut [u8],
-) -> ListAnswer
+) -> Result<Counts, Refusal>
     requires { length line.now ≤ 4096 }
     ensures { (p : Bytes) → Replayed (whole (path_rest entry.uploads (drop at line.now)))
         answer.old p
@@ -82,11 +74,7 @@ pub fn uploads_line(
     let mut path = [0u8; 2048];
     let read = recording_read::string_field(line, at, &mut path);
     let Some(len) = recording_read::closed(line, read) else {
-        return ListAnswer::Refused(recording_line::refusal(
-            tables,
-            arena,
-            recording_line::NOT_A_LINE,
-        ));
+        return Err(recording_line::refusal(tables, arena, Refusal::NotALine));
     };
     call_uploads::uploads(tables, arena, &path[..len], answer)
 }
@@ -98,7 +86,7 @@ pub fn list_line(
     line: &[u8],
     at: usize,
     answer: &mut [u8],
-) -> ListAnswer
+) -> Result<Counts, Refusal>
     requires { length line.now ≤ 4096 }
     ensures { (p : Bytes) → Replayed (whole (list_rest (drop at line.now)))
         answer.old p
@@ -111,11 +99,7 @@ pub fn list_line(
     let mut d = [0u8; 2048];
     let read = recording_arguments::read_list(line, at, &mut p, &mut d);
     let Some(list) = recording_read::closed(line, read) else {
-        return ListAnswer::Refused(recording_line::refusal(
-            tables,
-            arena,
-            recording_line::NOT_A_LINE,
-        ));
+        return Err(recording_line::refusal(tables, arena, Refusal::NotALine));
     };
     let prefix = &p[..list.prefix];
     let suffix = &d[..list.suffix];

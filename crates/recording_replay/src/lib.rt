@@ -7,6 +7,7 @@ ghost use Rattle.call_contract.specs.Made.{memory};
 ghost use Rattle.recording.specs.Parse.{parse};
 ghost use Rattle.recording_replay.specs.Replayed.{LineDone, LineReplayed};
 
+use call_types::Refusal;
 use recording_read::Verb;
 
 // A line by its verb.
@@ -35,11 +36,11 @@ fn verb_line(
         }
         Some(Verb::Get) => {
             let got = recording_looks::get_line(tables, arena, line, 4, answer, pairs);
-            c_reply::found(got, reply)
+            c_reply::tell(got, reply)
         }
         Some(Verb::Head) => {
             let got = recording_looks::head_line(tables, arena, line, 5, pairs);
-            c_reply::found(got, reply)
+            c_reply::tell(got, reply)
         }
         Some(Verb::Delete) => {
             let done = recording_objects::delete_line(tables, arena, line, 7);
@@ -51,15 +52,15 @@ fn verb_line(
         }
         Some(Verb::List) => {
             let listed = recording_looks::list_line(tables, arena, line, 5, answer);
-            c_reply::written(listed, reply)
+            c_reply::tell(listed, reply)
         }
         Some(Verb::Initiate) => {
             let opened = recording_uploads::initiate_line(tables, arena, line, 9);
-            c_reply::opened(opened, reply)
+            c_reply::tell(opened, reply)
         }
         Some(Verb::Part) => {
             let stored = recording_uploads::part_line(tables, arena, line, 5);
-            c_reply::stored(stored, reply)
+            c_reply::tell(stored, reply)
         }
         Some(Verb::Commit) => {
             let done = recording_uploads::commit_line(tables, arena, line, 7);
@@ -71,9 +72,9 @@ fn verb_line(
         }
         Some(Verb::Uploads) => {
             let listed = recording_looks::uploads_line(tables, arena, line, 8, answer);
-            c_reply::written(listed, reply)
+            c_reply::tell(listed, reply)
         }
-        None => u32::from(recording_line::refusal(tables, arena, recording_line::NOT_A_LINE)),
+        None => c_reply::done(Err(recording_line::refusal(tables, arena, Refusal::NotALine))),
     }
 }
 
@@ -99,7 +100,7 @@ pub fn replay_line(
         return 1;
     }
     if 4096 < line.len() {
-        return recording_line::refusal(tables, arena, recording_line::NOT_A_LINE) as u32;
+        return c_reply::done(Err(recording_line::refusal(tables, arena, Refusal::NotALine)));
     }
     verb_line(tables, arena, line, answer, pairs, reply)
 }

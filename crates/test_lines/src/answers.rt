@@ -1,10 +1,7 @@
 // What a call answered, printed after its line.
 use crate::words::front_len;
 use base_md5::words::Digest;
-use call_types::{
-    Counts, DoneAnswer, Etag, GetAnswer, InitiateAnswer, ListAnswer, Metadata, PartAnswer, Stamp,
-    Sweep, SweepAnswer,
-};
+use call_types::{Counts, Etag, Metadata, Refusal, Stamp, Sweep, UploadNumber};
 use std::io;
 
 // Bytes that need not be text.
@@ -12,8 +9,8 @@ pub fn print(rt: &impl Print, bytes: &[u8]) -> io::Result<()> {
     rt.write_all(bytes)
 }
 
-pub fn print_result(rt: &impl Print, n: u8) -> io::Result<()> {
-    print!(rt; ": {n}")
+fn print_refusal(rt: &impl Print, refusal: Refusal) -> io::Result<()> {
+    print!(rt; ": {}", u8::from(refusal))
 }
 
 fn print_digest(rt: &impl Print, d: Digest) -> io::Result<()> {
@@ -48,41 +45,41 @@ fn print_counts(rt: &impl Print, c: Counts) -> io::Result<()> {
     print!(rt; ": 0, records {}, bytes {}", c.records, c.bytes)
 }
 
-pub fn print_done(rt: &impl Print, a: DoneAnswer) -> io::Result<()> {
+pub fn print_done(rt: &impl Print, a: Result<(), Refusal>) -> io::Result<()> {
     match a {
-        DoneAnswer::Refused(n) => print_result(rt, n),
-        DoneAnswer::Done => print_result(rt, 0),
+        Ok(()) => print(rt, b": 0"),
+        Err(refusal) => print_refusal(rt, refusal),
     }
 }
 
-pub fn print_found(rt: &impl Print, a: GetAnswer, pairs: bool) -> io::Result<()> {
+pub fn print_found(rt: &impl Print, a: Result<Metadata, Refusal>, pairs: bool) -> io::Result<()> {
     match a {
-        GetAnswer::Refused(n) => print_result(rt, n),
-        GetAnswer::Found(m) => print_metadata(rt, m, pairs),
+        Ok(m) => print_metadata(rt, m, pairs),
+        Err(refusal) => print_refusal(rt, refusal),
     }
 }
 
-pub fn print_stored(rt: &impl Print, a: PartAnswer) -> io::Result<()> {
+pub fn print_stored(rt: &impl Print, a: Result<Etag, Refusal>) -> io::Result<()> {
     match a {
-        PartAnswer::Refused(n) => print_result(rt, n),
-        PartAnswer::Stored(e) => {
+        Ok(e) => {
             print(rt, b": 0, etag ")?;
             print_etag(rt, e)
         }
+        Err(refusal) => print_refusal(rt, refusal),
     }
 }
 
-pub fn print_opened(rt: &impl Print, a: InitiateAnswer) -> io::Result<()> {
+pub fn print_opened(rt: &impl Print, a: Result<UploadNumber, Refusal>) -> io::Result<()> {
     match a {
-        InitiateAnswer::Refused(n) => print_result(rt, n),
-        InitiateAnswer::Opened(u) => print!(rt; ": 0, upload {}", u.0),
+        Ok(u) => print!(rt; ": 0, upload {}", u.0),
+        Err(refusal) => print_refusal(rt, refusal),
     }
 }
 
-pub fn print_written(rt: &impl Print, a: ListAnswer) -> io::Result<()> {
+pub fn print_written(rt: &impl Print, a: Result<Counts, Refusal>) -> io::Result<()> {
     match a {
-        ListAnswer::Refused(n) => print_result(rt, n),
-        ListAnswer::Written(c) => print_counts(rt, c),
+        Ok(c) => print_counts(rt, c),
+        Err(refusal) => print_refusal(rt, refusal),
     }
 }
 
@@ -90,10 +87,10 @@ fn print_sweep(rt: &impl Print, s: Sweep) -> io::Result<()> {
     print!(rt; ": 0, swept {}, more {}", s.count, u8::from(s.more))
 }
 
-pub fn print_swept(rt: &impl Print, a: SweepAnswer) -> io::Result<()> {
+pub fn print_swept(rt: &impl Print, a: Result<Sweep, Refusal>) -> io::Result<()> {
     match a {
-        SweepAnswer::Refused(n) => print_result(rt, n),
-        SweepAnswer::Swept(s) => print_sweep(rt, s),
+        Ok(s) => print_sweep(rt, s),
+        Err(refusal) => print_refusal(rt, refusal),
     }
 }
 

@@ -1,4 +1,5 @@
 -- `recording_looks::get_line` meets its contract. Assumes nothing.
+use Rattle.call_types.specs.Numbers.{number_of}
 use Prim.Native.Nat.{ℕ}
 use mathlib.Core.List.{[]}
 use lib.ListN.{take, drop}
@@ -15,7 +16,7 @@ returns-in_default c =
     let a = c.args in
     let l = a.line.now in
     let w = c.string_field-read in
-    no_line a.answer.now a.pairs.now (buffers a.answer.now a.pairs.now) c.refusal.result
+    no_line a.answer.now a.pairs.now (buffers a.answer.now a.pairs.now) (number_of c.refusal.result)
     (no-plain entry.get string (λ (n : ℕ). take n w.new.out) l (drop a.at l) w.result w.ensures.0 c.in_default.ensures) c.refusal.ensures
 
 pub returns : goal.returns

@@ -1,4 +1,5 @@
 -- `recording_looks::list_line` meets its contract. Assumes nothing.
+use Rattle.call_types.specs.Numbers.{number_of}
 use mathlib.Core.List.{[]}
 use lib.ListN.{take, drop}
 use Rattle.machine.specs.Names.{Bytes}
@@ -24,7 +25,7 @@ returns-in_default c =
     let a = c.args in
     let l = a.line.now in
     let w = c.read_list-read in
-    λ q. no_line a.answer.now q (buffers a.answer.now []) c.refusal.result
+    λ q. no_line a.answer.now q (buffers a.answer.now []) (number_of c.refusal.result)
     (no-plain list_entry (both string string) (said w.new.prefix w.new.suffix) l (drop a.at l) w.result w.ensures.0 c.in_default.ensures) c.refusal.ensures
 
 pub returns : goal.returns

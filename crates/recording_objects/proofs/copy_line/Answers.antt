@@ -1,4 +1,5 @@
 -- `recording_objects::copy_line` meets its contract. Assumes nothing.
+use Rattle.call_types.specs.Numbers.{number_of}
 use lib.ListN.{take, drop}
 use Prim.Native.Nat.{ℕ}
 use Rattle.machine.specs.Names.{Bytes}
@@ -23,7 +24,7 @@ unfolding copy_rest
 returns-in_default c =
     let l = c.args.line.now in
     let w = c.read_copy-read in
-    λ b q. no_line b q no_buffers c.refusal.result
+    λ b q. no_line b q no_buffers (number_of c.refusal.result)
     (no-plain copy_entry (both number (both string string)) (said w.new.source w.new.destination) l (drop c.args.at l) w.result w.ensures.0 c.in_default.ensures)
     c.refusal.ensures
 
@@ -34,4 +35,4 @@ returns c =
     let w = c.read_copy-read in
     let s = said w.new.source w.new.destination in
     λ b q. a-line b q no_buffers (copy_entry (s c.in-Some.copy))
-    (a-plain copy_entry (both number (both string string)) s l (drop c.args.at l) w.result w.ensures.0 c.in-Some.copy c.in-Some.ensures) c.copy.ensures.0
+    (a-plain copy_entry (both number (both string string)) s l (drop c.args.at l) w.result w.ensures.0 c.in-Some.copy c.in-Some.ensures) c.copy.ensures

@@ -1,4 +1,5 @@
 -- `recording_objects::delete_line` meets its contract. Assumes nothing.
+use Rattle.call_types.specs.Numbers.{number_of}
 use Prim.Native.Nat.{ℕ}
 use lib.ListN.{take, drop}
 use Rattle.machine.specs.Calls.{no_buffers}
@@ -13,7 +14,7 @@ unfolding path_rest
 returns-in_default c =
     let l = c.args.line.now in
     let w = c.string_field-read in
-    λ b q. no_line b q no_buffers c.refusal.result
+    λ b q. no_line b q no_buffers (number_of c.refusal.result)
     (no-plain entry.delete string (λ (n : ℕ). take n w.new.out) l (drop c.args.at l) w.result w.ensures.0 c.in_default.ensures) c.refusal.ensures
 
 pub returns : goal.returns
@@ -22,4 +23,4 @@ returns c =
     let l = c.args.line.now in
     let w = c.string_field-read in
     λ b q. a-line b q no_buffers (entry.delete (take c.in-Some.len w.new.out))
-    (a-plain entry.delete string (λ (n : ℕ). take n w.new.out) l (drop c.args.at l) w.result w.ensures.0 c.in-Some.len c.in-Some.ensures) c.delete.ensures.0
+    (a-plain entry.delete string (λ (n : ℕ). take n w.new.out) l (drop c.args.at l) w.result w.ensures.0 c.in-Some.len c.in-Some.ensures) c.delete.ensures

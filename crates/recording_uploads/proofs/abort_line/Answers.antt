@@ -1,4 +1,5 @@
 -- `recording_uploads::abort_line` meets its contract. Assumes nothing.
+use Rattle.call_types.specs.Numbers.{number_of}
 use Prim.Native.Nat.{ℕ}
 use native.Mathlib.Omega.{arith}
 use lib.ListN.{drop}
@@ -15,7 +16,7 @@ unfolding abort_rest
 returns-in_default c =
     let l = c.args.line.now in
     let w = c.number_field-read in
-    λ x y. no_line x y no_buffers c.refusal.result (no-plain entry.abort number (λ (n : ℕ). n) l (drop c.args.at l) w.result w.ensures c.in_default.ensures) c.refusal.ensures
+    λ x y. no_line x y no_buffers (number_of c.refusal.result) (no-plain entry.abort number (λ (n : ℕ). n) l (drop c.args.at l) w.result w.ensures c.in_default.ensures) c.refusal.ensures
 
 pub returns-in_default-try_from : goal.returns-in_default-try_from
 unfolding abort_rest
@@ -35,4 +36,4 @@ returns c =
     let l = a.line.now in
     let w = c.number_field-read in
     let n = c.in-Some.abort in
-    λ x y. a-line x y no_buffers (entry.abort n) (a-plain entry.abort number (λ (n : ℕ). n) l (drop a.at l) w.result w.ensures n c.in-Some.ensures) (rw (← c.in-Ok.ensures.1) c.abort.ensures.0)
+    λ x y. a-line x y no_buffers (entry.abort n) (a-plain entry.abort number (λ (n : ℕ). n) l (drop a.at l) w.result w.ensures n c.in-Some.ensures) (rw (← c.in-Ok.ensures.1) c.abort.ensures)

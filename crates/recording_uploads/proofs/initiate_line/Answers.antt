@@ -1,4 +1,5 @@
 -- `recording_uploads::initiate_line` meets its contract. Assumes nothing.
+use Rattle.call_types.specs.Numbers.{number_of}
 use lib.ListN.{drop}
 use Rattle.machine.specs.Calls.{no_buffers}
 use Rattle.recording_line.proofs.Lines.{no_line}
@@ -9,7 +10,7 @@ pub returns-in_default : goal.returns-in_default
 returns-in_default c =
     let l = c.args.line.now in
     let w = c.read_initiate-read in
-    λ b q. no_line b q no_buffers c.refusal.result
+    λ b q. no_line b q no_buffers (number_of c.refusal.result)
     (no-initiate l w.new.path w.new.pairs (drop c.args.at l) w.result w.ensures.0 c.in_default.ensures) c.refusal.ensures
 
 pub returns : goal.returns

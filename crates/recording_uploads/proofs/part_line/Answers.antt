@@ -1,4 +1,5 @@
 -- `recording_uploads::part_line` meets its contract. Assumes nothing.
+use Rattle.call_types.specs.Numbers.{number_of}
 use Prim.Native.Nat.{ℕ}
 use native.Mathlib.Omega.{arith}
 use lib.ListN.{take, drop}
@@ -25,7 +26,7 @@ unfolding part_rest
 returns-in_default c =
     let l = c.args.line.now in
     let w = c.read_part-read in
-    λ b q. no_line b q no_buffers c.refusal.result
+    λ b q. no_line b q no_buffers (number_of c.refusal.result)
     (no-plain part_entry (both number (both number string)) (said w.new.content) l (drop c.args.at l) w.result w.ensures.0 c.in_default.ensures) c.refusal.ensures
 
 pub returns-in_default-try_from : goal.returns-in_default-try_from

@@ -6,6 +6,7 @@ pub mod counts;
 pub mod memory;
 pub mod objects;
 pub mod row_pairs;
+pub mod rows;
 
 ghost use Rattle.std.specs.Prelude.{◌≡◌};
 ghost use Rattle.mem_find.specs.Places.{lookup_of, place_of};

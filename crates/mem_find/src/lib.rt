@@ -1,5 +1,5 @@
-// Readers of whole memory: where an object stands, how many rows there are, and the lengths of a row's pairs; and what
-// the readers of uploads answer.
+// Readers of whole memory: where an object stands, how many rows there are, a row's head, and the lengths of its pairs;
+// and what the readers of uploads answer.
 #![tactic(auto)]
 
 pub mod counts;

@@ -9,8 +9,8 @@ pub returns-then-key_ok : goal.returns-then-key_ok
 returns-then-key_ok c =
     let rest = c.args.rest.now in
     elim c.if-fits.branch [
-      then-fits w ↦ ok-value rest c.value_ok.result (sym c.fits.ensures ∙ w.if-fits.true)
-        (sym (w.key_ok.ensures ∙ ap key_ok w.key.ensures) ∙ sym w.value-is ∙ c.if-key_ok.true) (c.value_ok.ensures ∙ ap value_ok c.value.ensures)
+      | then-fits w ↦ ok-value rest c.value_ok.result (sym c.fits.ensures ∙ w.if-fits.true)
+          (sym (w.key_ok.ensures ∙ ap key_ok w.key.ensures) ∙ sym w.value-is ∙ c.if-key_ok.true) (c.value_ok.ensures ∙ ap value_ok c.value.ensures)
       | else-fits w ↦ let e = w.value-is in let f = c.if-key_ok.true in cc
     ]
 
@@ -18,6 +18,6 @@ pub returns-else-key_ok : goal.returns-else-key_ok
 returns-else-key_ok c =
     let rest = c.args.rest.now in
     rw c.if-key_ok.false (elim c.if-fits.branch [
-      then-fits w ↦ ok-key rest (sym c.fits.ensures ∙ w.if-fits.true) (sym (w.key_ok.ensures ∙ ap key_ok w.key.ensures) ∙ sym w.value-is ∙ c.if-key_ok.false)
+      | then-fits w ↦ ok-key rest (sym c.fits.ensures ∙ w.if-fits.true) (sym (w.key_ok.ensures ∙ ap key_ok w.key.ensures) ∙ sym w.value-is ∙ c.if-key_ok.false)
       | else-fits w ↦ ok-cut rest (sym c.fits.ensures ∙ w.if-fits.false)
     ])

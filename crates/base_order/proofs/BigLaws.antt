@@ -2,7 +2,7 @@
 use Prim.Native.Nat.{ℕ, suc, ◌+◌, ◌*◌, ◌/◌, ◌%◌, ◌^◌, ◌≤◌, ◌<◌, compare, Ordering}
 use mathlib.Core.Path.{◌≡◌, sym, ap, ap₂, ◌∙◌}
 use mathlib.Core.List.{List, [], ◌∷◌, ◌++◌}
-use native.Mathlib.Nat.{mod-eq_of_lt, pow-zero, pow-succ', mul_assoc, mul_comm, mul-add, mul-le-mul_left, one-mul}
+use native.Mathlib.Nat.{pow-zero, pow-succ', mul_assoc, mul_comm, mul-add, mul-le-mul_left, one-mul}
 use native.Mathlib.Omega.{arith}
 use lib.Dec.{lit<}
 use lib.Pow.{pow-add}
@@ -10,7 +10,7 @@ use lib.ListN.{length, take, drop, length-append, length-drop, take-append-drop}
 use lib.Seq.{length-take-le}
 use Rattle.std.specs.Int.{w32, w64, swap_bytes}
 use Rattle.base_number.specs.Number.{le, from_le, AreBytes}
-use Rattle.base_number.proofs.NumberLaws.{bytes_take, bytes_drop, length-le, le-from_le, le-append, le-mod}
+use Rattle.base_number.proofs.NumberLaws.{bytes_take, bytes_drop, le-from_le}
 use Rattle.base_order.specs.Order.{by_bytes}
 use Rattle.base_order.specs.Big.{from_be}
 use Rattle.base_order.proofs.OrderLaws.{cases, alike, below, bytes-alike, bytes-over, bytes-skip}

@@ -1,6 +1,6 @@
 -- What the code's comparisons answer. Assumes nothing.
 use Prim.Native.Nat.{ℕ, ◌+◌, Ordering, ◌≤◌, ◌<◌}
-use Rattle.std.specs.Prelude.{◌≡◌, List, length, take, drop, get_or}
+use Rattle.std.specs.Prelude.{◌≡◌, List, take, drop, get_or}
 use Rattle.base_order.specs.Order.{by_bytes}
 use Rattle.std.specs.declared.cmp.Ordering as cmp
 use Rattle.std.specs.declared.cmp.Ordering.TheVariants.{Less, Equal, Greater}

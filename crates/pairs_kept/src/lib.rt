@@ -123,6 +123,7 @@ pub fn judge(pairs: &[u8]) -> bool
     if !formed(pairs) {
         return false;
     }
-    let few = count(pairs) <= pairs::PAIRS_MOST;
+    let n = count(pairs);
+    let few = n <= pairs::PAIRS_MOST;
     few && all_distinct(pairs)
 }

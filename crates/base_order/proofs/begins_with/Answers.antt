@@ -1,6 +1,4 @@
 -- `base_order::begins_with` meets its contract: by `equal`, where the string is long enough. Assumes nothing.
-use mathlib.Core.Path.{sym}
-use lib.ListN.{length, length-take}
 use native.Mathlib.Omega.{arith}
 use Rattle.base_order.specs.Order.{begins}
 use Rattle.base_order.proofs.AffixLaws.{begins-short}

@@ -1,5 +1,4 @@
 -- `base_order::ends_with` meets its contract: by `equal`, where the string is long enough. Assumes nothing.
-use mathlib.Core.Path.{sym}
 use native.Mathlib.Omega.{arith}
 use Rattle.std.proofs.lemmas.Grind.{common_steps}
 use Rattle.base_order.specs.Order.{ends}

@@ -1,5 +1,5 @@
 -- `base_text::put_hex` meets its contract. The invariant: `dst` is what it was with the digits of the first i bytes pasted in from `at`. Assumes nothing.
-use lib.ListN.{length, length-set}
+use lib.ListN.{length-set}
 use Rattle.base_text.proofs.Hexes.{hex-step, hex-all}
 use native.Mathlib.Omega.{arith}
 use Rattle.base_text.proofs.put_hex.Goals as goal

@@ -1,6 +1,5 @@
 -- `names_utf8::path` meets its contract. The invariant: what is left, after `before`, is well formed and parted just where all is.
 -- Assumes nothing.
-use Prim.Native.Nat.{◌-◌}
 use mathlib.Core.Path.{refl, sym, ◌∙◌}
 use native.Mathlib.Omega.{arith}
 use Rattle.names_utf8.proofs.PathLaws.{by_parts, letter-none, letter-doubled, letter-passed, letters-end}

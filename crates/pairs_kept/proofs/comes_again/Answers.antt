@@ -1,7 +1,4 @@
 -- `pairs_kept::comes_again` meets its contract. Assumes nothing.
-use lib.ListN.{drop}
-use Rattle.machine.specs.Pairs.{pair_list, front_size}
-use Rattle.pairs_kept.proofs.Keeping.{again-system, again-own}
 use Rattle.pairs.proofs.Passing.{front_fits_lem, tail-formed, after_front}
 use Rattle.pairs_kept.proofs.comes_again.Goals as goal
 

@@ -14,8 +14,8 @@ returns-then-not-formed c = judge-form (pair_list c.args.pairs.now) (said-no c.f
 pub returns-then-few : goal.returns-then-few
 returns-then-few c =
     judge-keys (pair_list c.args.pairs.now) (said-yes c.formed.ensures (ap not c.if-not-formed.false))
-    (omega (arith, c.count-few.ensures)) c.all_distinct.result c.all_distinct.ensures
+    (omega (arith, c.count-n.ensures)) c.all_distinct.result c.all_distinct.ensures
 
 pub returns-else-few : goal.returns-else-few
 returns-else-few c =
-    rw (lt-leb c.count-few.result 8 (omega arith)) (judge-many (pair_list c.args.pairs.now) (said-yes c.formed.ensures (ap not c.if-not-formed.false)) (omega (arith, c.count-few.ensures)))
+    rw (lt-leb c.count-n.result 8 (omega arith)) (judge-many (pair_list c.args.pairs.now) (said-yes c.formed.ensures (ap not c.if-not-formed.false)) (omega (arith, c.count-n.ensures)))

@@ -1,5 +1,5 @@
 -- `base_md5::block::blocks` meets its contract. The loop's invariant: v is the chain over the first i blocks. Assumes nothing.
-use Rattle.std.proofs.Common.{◌≡◌, refl, ap, ◌∙◌, arith}
+use Rattle.std.proofs.Common.{refl}
 use Rattle.base_md5.specs.Md5.{chain}
 use Rattle.base_md5.proofs.Chain.{chain_more}
 use Rattle.base_md5.proofs.block.blocks.Goals as goal

@@ -17,15 +17,16 @@ impl WholeMemory<'_> {
         let mut at: usize = mem_layout::HEADER_LENGTH;
         let mut base: usize = 0;
         for i in 0..objects {
-            let h = mem_row::read_head(tables, at);
+            let here = RowPlace { row: i, at, base };
+            let h = self.row_head(here);
             if h.pairs != 0 {
-                return self.find_from(path, RowPlace { row: i, at, base });
+                return self.find_from(path, here);
             }
             let from = at + mem_row::HEAD_LENGTH;
             let to = from + h.pathlen as usize;
             if !base_order::is_below(&tables[from..to], path) {
                 let found = base_order::equal(path, &tables[from..to]);
-                return lookup_at(found, RowPlace { row: i, at, base });
+                return lookup_at(found, here);
             }
             at = to;
             base += h.size as usize;
@@ -50,12 +51,13 @@ impl WholeMemory<'_> {
         let mut at = start.at;
         let mut base = start.base;
         for i in start.row..objects {
-            let h = mem_row::read_head(tables, at);
+            let here = RowPlace { row: i, at, base };
+            let h = self.row_head(here);
             let from = at + mem_row::HEAD_LENGTH;
             let to = from + h.pathlen as usize;
             if !base_order::is_below(&tables[from..to], path) {
                 let found = base_order::equal(path, &tables[from..to]);
-                return lookup_at(found, RowPlace { row: i, at, base });
+                return lookup_at(found, here);
             }
             at += mem_row::span(h);
             base += h.size as usize;

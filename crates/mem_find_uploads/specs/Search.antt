@@ -1,17 +1,10 @@
 -- Searches along the rows. Assumes nothing.
-use Rattle.std.specs.Prelude.{ℕ, suc, ◌+◌, ◌≡◌, Bool, false, ◌&&◌, ◌||◌, cond, List, [], ◌∷◌, leb, ltb, eqb, drop}
+use Rattle.std.specs.Prelude.{ℕ, suc, ◌+◌, Bool, false, ◌&&◌, ◌||◌, cond, List, [], ◌∷◌, leb, ltb, eqb, drop}
 use Rattle.mem_row.specs.declared.Head.{Head}
-use Rattle.mem_row.specs.Row.{Row, head_of, span}
+use Rattle.mem_row.specs.Row.{Row, head_of}
 use Rattle.mem_layout.specs.Rules.{upload_kind}
 use Rattle.mem_find.specs.declared.RowPlace.{RowPlace}
 use Rattle.mem_find.specs.RowPlaces.{row_place_at}
-
--- h is the head of the row of rs at p, and tells where the next one stands
-pub record HeadAt (rs : List Row) (p : RowPlace) (h : Head) : Type 0 where
-  pub row : Row
-  pub here : drop p.row rs ≡ row ∷ drop (p.row + 1) rs
-  pub same : h ≡ head_of row
-  pub next : record { row = p.row + 1; at = p.at + span h; base = p.base + h.size } ≡ row_place_at rs (p.row + 1)
 
 -- how many rows stand before the first that passes a test
 unfoldable pub reach : (Row → Bool) → List Row → ℕ

@@ -6,7 +6,7 @@ mod search;
 pub mod uploads;
 
 pub use memory::ScannedMemory;
-pub use search::{first_upload, next_row, row_head};
+pub use search::{first_upload, next_row};
 pub use uploads::{
     find_due, find_part_after, find_part_from, find_upload, pass_parts, pass_parts_from, rows_end,
     rows_end_from,

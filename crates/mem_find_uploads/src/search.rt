@@ -1,10 +1,9 @@
 // A search along the rows.
 ghost use Rattle.std.specs.Prelude.{◌≡◌, Bool, ◌+◌, ◌≤◌, length, drop};
 ghost use Rattle.mem_row.specs.declared.Head.{Head};
-ghost use Rattle.mem_row.specs.Row.{span};
 ghost use Rattle.mem_layout.specs.Memory.{state_of, object_rows};
 ghost use Rattle.mem_find.specs.RowPlaces.{IsRow, IsRowPlace, row_place_at};
-ghost use Rattle.mem_find_uploads.specs.Search.{HeadAt, Goal, stops_at, sought, leads};
+ghost use Rattle.mem_find_uploads.specs.Search.{Goal, stops_at, sought, leads};
 ghost use Rattle.mem_find.specs.Places.{first_upload_row};
 ghost use Rattle.mem_find.specs.Known.{rows_in};
 
@@ -12,22 +11,12 @@ use crate::memory::ScannedMemory;
 use mem_find::{RowPlace, WholeMemory};
 use mem_row::Head;
 
-// The head of the row at a place.
-pub fn row_head(memory: WholeMemory, here: RowPlace) -> Head
-    requires { IsRow (rows_in memory.tables.now memory.arena.now) here }
-    ensures row { HeadAt (rows_in memory.entry.tables.now memory.entry.arena.now) here result }
-    ensures inside { (here.at + span result ≤ length memory.entry.tables.now)
-        × (here.base + result.size ≤ length memory.entry.arena.now) }
-{
-    mem_row::read_head(memory.tables, here.at)
-}
-
 // The row after a row.
 pub fn next_row(memory: WholeMemory, from: RowPlace) -> RowPlace
     requires { IsRow (rows_in memory.tables.now memory.arena.now) from }
     ensures { result ≡ row_place_at (rows_in memory.entry.tables.now memory.entry.arena.now) (from.row + 1) }
 {
-    let h = row_head(memory, from);
+    let h = memory.row_head(from);
     RowPlace {
         row: from.row + 1,
         at: from.at + mem_row::span(h),
@@ -48,7 +37,7 @@ fn pass_rows<F: Fn(Head) -> bool>(memory: WholeMemory, from: RowPlace, stops: &F
     let rows = memory.counts().rows;
     let mut here = from;
     while here.row < rows {
-        let h = row_head(memory, here);
+        let h = memory.row_head(here);
         if h.pairs != 0 || stops(h) {
             return here;
         }
@@ -71,7 +60,7 @@ pub(crate) fn seek<F: Fn(Head) -> bool>(memory: WholeMemory, from: RowPlace, sto
     let rows = memory.counts().rows;
     let mut here = pass_rows(memory, from, stops);
     while here.row < rows {
-        if stops(row_head(memory, here)) {
+        if stops(memory.row_head(here)) {
             return here;
         }
         let next = next_row(memory, here);
@@ -112,6 +101,6 @@ pub(crate) fn stands(memory: WholeMemory, here: RowPlace, kind: u8, number: u32)
     if memory.counts().rows <= here.row {
         return false;
     }
-    let h = row_head(memory, here);
+    let h = memory.row_head(here);
     h.kind == kind && h.number == number
 }

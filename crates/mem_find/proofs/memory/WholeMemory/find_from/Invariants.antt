@@ -1,5 +1,4 @@
 -- `mem_find::objects::WholeMemory::find_from` meets its contract. The invariant: the paths of the rows passed are below the path. Assumes nothing.
-use Prim.Native.Nat.{◌-◌}
 use Rattle.mem_layout.specs.Memory.{state_of}
 use Rattle.mem_find.specs.Places.{Passed}
 use Rattle.mem_find.proofs.memory.WholeMemory.find_from.Given as goal

@@ -9,58 +9,53 @@ ghost use Rattle.mem_scan.specs.Scanned.{Scanned};
 ghost use Rattle.mem_find.specs.Known.{rows_in};
 ghost use Rattle.call_types.specs.Numbers.{result_number};
 ghost use Rattle.call_contract.specs.Answers.{initiate_reply};
-ghost use Rattle.call_contract.specs.Made.{memory, outcome, result_of, Made, MadeWhole};
+ghost use Rattle.call_contract.specs.Made as made;
+ghost use Rattle.call_contract.specs.Made.{outcome, result_of, Made, MadeWhole};
 ghost use Rattle.call_initiate.specs.Initiate.{OpenResult};
 
 use call_types::{Refusal, Stamp, UploadNumber};
 use mem_find::RowPlace;
+use mem_find_uploads::ScannedMemory;
 use mem_scan::Offsets;
 
 // The end of the rows, where an upload with pairs that are taken goes: or table full, arena full, numbers used up.
-fn initiate_room(
-    tables: &[u8],
-    arena: &[u8],
-    offsets: Offsets,
-    pairs: &[u8],
-) -> Result<RowPlace, Refusal>
-    requires { Scanned tables.now arena.now offsets × (pairs_ok (pair_list pairs.now) ≡ true) }
-    ensures judged { OpenResult tables.now arena.now (pair_map (pair_list pairs.now)) (result_number result) }
-    ensures placed { IfOk result (λ end. end ≡ place_after (rows_in tables.now arena.now)) }
+fn initiate_room(memory: ScannedMemory, pairs: &[u8]) -> Result<RowPlace, Refusal>
+    requires { pairs_ok (pair_list pairs.now) ≡ true }
+    ensures judged { OpenResult memory.entry.whole.tables.now memory.entry.whole.arena.now (pair_map (pair_list pairs.now))
+        (result_number result) }
+    ensures placed { IfOk result (λ end. end ≡ place_after (rows_in memory.entry.whole.tables.now memory.entry.whole.arena.now)) }
 {
-    let counts = mem_find::read_counts(tables, arena);
-    let open = counts.uploads;
+    let whole = memory.whole;
+    let open = whole.counts().uploads;
     if mem_layout::UPLOADS_MOST <= open {
         return Err(Refusal::TableFull);
     }
-    let end = mem_find_uploads::rows_end(tables, arena, offsets);
+    let end = mem_find_uploads::rows_end(memory);
     let held = end.base;
     let n = pairs_kept::held(pairs);
-    call_room::arena_judge(held, n, arena.len())?;
-    let header = mem_layout::headers::read_header(tables);
+    call_room::arena_judge(held, n, whole.arena.len())?;
+    let header = mem_layout::headers::read_header(whole.tables);
     if 4294967295 < header.next {
         return Err(Refusal::NumbersUsedUp);
     }
     Ok(end)
 }
 
-// The end of the rows, where INITIATE's upload goes, in whole memory whose rows stand at `offsets`, or why it is refused.
+// The end of the rows, where INITIATE's upload goes, or why it is refused.
 fn initiate_judge(
-    tables: &[u8],
-    arena: &[u8],
-    offsets: Offsets,
+    memory: ScannedMemory,
     stamp: Stamp,
     path: &[u8],
     pairs: &[u8],
 ) -> Result<RowPlace, Refusal>
-    requires { Scanned tables.now arena.now offsets }
     ensures judged { result_number result ≡ result_of (outcome (INITIATE stamp.0 path.now (pair_list pairs.now))
-        (memory tables.now arena.now)) }
-    ensures placed { IfOk result (λ end. end ≡ place_after (rows_in tables.now arena.now)) }
+        (made.memory memory.entry.whole.tables.now memory.entry.whole.arena.now)) }
+    ensures placed { IfOk result (λ end. end ≡ place_after (rows_in memory.entry.whole.tables.now memory.entry.whole.arena.now)) }
 {
     if !names::stamp_ok(stamp.0) || !names::new_path_ok(path) || !pairs_kept::judge(pairs) {
         return Err(Refusal::BadRequest);
     }
-    initiate_room(tables, arena, offsets, pairs)
+    initiate_room(memory, pairs)
 }
 
 // INITIATE over whole memory whose rows stand at `offsets`.
@@ -74,10 +69,11 @@ pub fn initiate_whole(
 ) -> Result<UploadNumber, Refusal>
     requires { Scanned tables.old arena.old offsets }
     ensures { MadeWhole (INITIATE stamp.0 path.now (pair_list pairs.now))
-        (memory tables.old arena.old) (initiate_reply result)
-        (memory tables.new arena.new) }
+        (made.memory tables.old arena.old) (initiate_reply result)
+        (made.memory tables.new arena.new) }
 {
-    let end = initiate_judge(tables, arena, offsets, stamp, path, pairs)?;
+    let memory = ScannedMemory::of(tables, arena, offsets);
+    let end = initiate_judge(memory, stamp, path, pairs)?;
     let header = mem_layout::headers::read_header(tables);
     mem_edit_uploads::uploads::open_upload(tables, arena, end, stamp.0, path, pairs);
     Ok(UploadNumber(header.next as u32))
@@ -92,8 +88,8 @@ pub fn initiate(
     pairs: &[u8],
 ) -> Result<UploadNumber, Refusal>
     ensures { Made (INITIATE stamp.0 path.now (pair_list pairs.now))
-        (memory tables.old arena.old) (initiate_reply result)
-        (memory tables.new arena.new) }
+        (made.memory tables.old arena.old) (initiate_reply result)
+        (made.memory tables.new arena.new) }
 {
     let offsets = call_contract::offsets_of(tables, arena)?;
     initiate_whole(tables, arena, offsets, stamp, path, pairs)

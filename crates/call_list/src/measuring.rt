@@ -1,12 +1,13 @@
 // What LIST writes, measured.
-ghost use Rattle.std.specs.Prelude.{◌≡◌, true, ℕ, ◌+◌, ◌≤◌, List, length, drop};
+ghost use Rattle.std.specs.Prelude.{◌≡◌, ℕ, ◌+◌, ◌≤◌, List, length, drop};
 ghost use Rattle.machine.specs.Etags.{text};
 ghost use Rattle.machine.specs.Steps.{listed};
 ghost use Rattle.mem_row.specs.Row.{head_at, span};
-ghost use Rattle.mem_layout.specs.Memory.{whole, state_of, row_etag};
+ghost use Rattle.mem_layout.specs.Memory.{state_of, row_etag};
 ghost use Rattle.call_list.specs.Rows.{record_at, list_bytes, AllListed};
 
 use call_types::Counts;
+use mem_find::WholeMemory;
 
 // How long the text of an etag is.
 pub(crate) fn text_length(kind: u8, count: u16) -> u32
@@ -30,20 +31,19 @@ fn record_length(tables: &[u8], at: usize) -> u32
 
 // How many records and bytes it writes in all, and where the rows stand that have a record.
 pub(crate) fn measure_rows(
-    tables: &[u8],
-    arena: &[u8],
+    memory: WholeMemory,
     prefix: &[u8],
     suffix: &[u8],
     places: &mut [u8],
 ) -> Counts
-    requires { (whole tables.now arena.now ≡ true) × (length places.old ≡ 512) }
-    ensures counted { result.records ≡ length (listed prefix.now suffix.now (state_of tables.now arena.now).O) }
-    ensures sized { result.bytes ≡ length (list_bytes prefix.now suffix.now (state_of tables.now arena.now)) }
-    ensures placed { AllListed (state_of tables.now arena.now) prefix.now suffix.now places.new result.records }
+    requires { length places.old ≡ 512 }
+    ensures counted { result.records ≡ length (listed prefix.now suffix.now (state_of memory.entry.tables.now memory.entry.arena.now).O) }
+    ensures sized { result.bytes ≡ length (list_bytes prefix.now suffix.now (state_of memory.entry.tables.now memory.entry.arena.now)) }
+    ensures placed { AllListed (state_of memory.entry.tables.now memory.entry.arena.now) prefix.now suffix.now places.new result.records }
     ensures few { result.records ≤ 256 }
 {
-    let counts = mem_find::read_counts(tables, arena);
-    let objects = counts.objects;
+    let tables = memory.tables;
+    let objects = memory.counts().objects;
     let mut at: usize = mem_layout::HEADER_LENGTH;
     let mut records: u32 = 0;
     let mut bytes: u32 = 0;

@@ -1,13 +1,12 @@
 // UPLOADS' records, counted and measured, and their uploads noted: where the row stands, and how many parts there are.
-ghost use Rattle.std.specs.Prelude.{◌≡◌, true, ◌+◌, ◌*◌, ◌≤◌, ◌<◌, length};
+ghost use Rattle.std.specs.Prelude.{◌≡◌, ◌+◌, ◌*◌, ◌≤◌, ◌<◌, length};
 ghost use Rattle.machine.specs.Steps.{open_under};
-ghost use Rattle.mem_layout.specs.Memory.{whole, state_of};
-ghost use Rattle.mem_find.specs.Places.{first_upload_row};
+ghost use Rattle.mem_layout.specs.Memory.{state_of};
 ghost use Rattle.call_uploads.specs.Records.{records_under};
 ghost use Rattle.call_uploads.specs.Notes.{noted, AllNoted};
 
 use call_types::Counts;
-use mem_find::RowPlace;
+use mem_find_uploads::ScannedMemory;
 
 // Note k: where an upload's row stands, and how many parts it has.
 fn put_note(notes: &mut [u8], k: u32, at: usize, parts: u16)
@@ -19,29 +18,22 @@ fn put_note(notes: &mut [u8], k: u32, at: usize, parts: u16)
     base_number::put_u16(notes, to + 2, parts);
 }
 
-// How many records and bytes UPLOADS has, and its uploads noted, `first` being the first upload's row, or where it would
-// stand.
-pub(crate) fn measure(
-    tables: &[u8],
-    arena: &[u8],
-    first: RowPlace,
-    prefix: &[u8],
-    notes: &mut [u8],
-) -> Counts
-    requires { (whole tables.now arena.now ≡ true) × (first ≡ first_upload_row (state_of tables.now arena.now))
-        × (length notes.old ≡ 64) }
-    ensures counted { result.records ≡ length (open_under prefix.now (state_of tables.now arena.now).U) }
-    ensures sized { result.bytes ≡ length (records_under prefix.now (state_of tables.now arena.now)) }
-    ensures noted { AllNoted (state_of tables.now arena.now) prefix.now notes.new result.records }
+// How many records and bytes UPLOADS has, and its uploads noted.
+pub(crate) fn measure(memory: ScannedMemory, prefix: &[u8], notes: &mut [u8]) -> Counts
+    requires { length notes.old ≡ 64 }
+    ensures counted { result.records ≡ length (open_under prefix.now (state_of memory.entry.whole.tables.now memory.entry.whole.arena.now).U) }
+    ensures sized { result.bytes ≡ length (records_under prefix.now (state_of memory.entry.whole.tables.now memory.entry.whole.arena.now)) }
+    ensures noted { AllNoted (state_of memory.entry.whole.tables.now memory.entry.whole.arena.now) prefix.now notes.new result.records }
     ensures few { result.records ≤ 16 }
 {
-    let counts = mem_find::read_counts(tables, arena);
-    let uploads = counts.uploads;
-    let mut here = first;
+    let whole = memory.whole;
+    let tables = whole.tables;
+    let uploads = whole.counts().uploads;
+    let mut here = mem_find_uploads::first_upload(memory);
     let mut records: u32 = 0;
     let mut bytes: u32 = 0;
     for i in 0..uploads {
-        let u = crate::rows::read_upload(tables, arena, here);
+        let u = crate::rows::read_upload(whole, here);
         let path = &tables[u.from..u.to];
         if base_order::begins_with(path, prefix) {
             put_note(notes, records, here.at, u.parts);

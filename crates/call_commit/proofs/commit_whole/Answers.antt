@@ -9,13 +9,17 @@ pub join-requires : goal.join-requires
 join-requires c =
     let room = c.in_ok-room.room in
     let told = c.in_ok-room.ensures in
-    commit-ready _ _ _ _ c.requires.0 (sym told.judged) (λ i. (c.slice_known-1.given i).fits) room.bounds room.place room.ascends told.placed
+    let judged = rw (c.of-memory.ensures.tables, c.of-memory.ensures.arena) at told.judged in
+    let placed = rw (c.of-memory.ensures.tables, c.of-memory.ensures.arena) at told.placed in
+    commit-ready c.args.tables.now c.args.arena.now c.args.upload.0 c.args.list.now c.requires.0 (sym judged) (λ i. (c.slice_known-1.given i).fits) room.bounds room.place room.ascends placed
 
 pub returns : goal.returns
 returns c =
     let room = c.in_ok-room.room in
     let told = c.in_ok-room.ensures in
-    let ready = commit-ready c.args.tables.now c.args.arena.now c.args.upload.0 c.args.list.now c.requires.0 (sym told.judged) (λ i. (c.slice_known-1.given i).fits) room.bounds room.place room.ascends told.placed in
-    let accepted = commit-done _ _ _ _ c.requires.0 (sym told.judged) (λ i. (c.slice_known-1.given i).fits) room.bounds room.place room.ascends told.placed in
+    let judged = rw (c.of-memory.ensures.tables, c.of-memory.ensures.arena) at told.judged in
+    let placed = rw (c.of-memory.ensures.tables, c.of-memory.ensures.arena) at told.placed in
+    let ready = commit-ready c.args.tables.now c.args.arena.now c.args.upload.0 c.args.list.now c.requires.0 (sym judged) (λ i. (c.slice_known-1.given i).fits) room.bounds room.place room.ascends placed in
+    let accepted = commit-done c.args.tables.now c.args.arena.now c.args.upload.0 c.args.list.now c.requires.0 (sym judged) (λ i. (c.slice_known-1.given i).fits) room.bounds room.place room.ascends placed in
     let o = c.join in
     done nothing no_buffers _ accepted refl (o.ensures ready) o.auto.tables o.auto.arena

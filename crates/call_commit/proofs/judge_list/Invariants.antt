@@ -4,4 +4,4 @@ use Rattle.call_commit.proofs.Fitting.{Passed}
 use Rattle.call_commit.proofs.judge_list.Given as goal
 
 abbrev pub invariant-loop-i : goal.invariant-loop-i
-invariant-loop-i l = OfOpenBefore l.tables l.arena l.first (λ s u x. Passed x.parts l.list l.i)
+invariant-loop-i l = OfOpenBefore l.memory.tables.now l.memory.arena.now l.first (λ s u x. Passed x.parts l.list l.i)

@@ -10,11 +10,11 @@ returns-then-place c =
     let g = c.get_u16-number in
     let f = c.find_part_from-place in
     let l = c.is_listed_before in
-    λ u x p e. number-there (state_of a.tables.now a.arena.now) u x a.list.now a.i g.result g.ensures f.result (f.ensures u x p e) c.if-place.true l.result l.ensures
+    λ u x p e. number-there (state_of a.memory.tables.now a.memory.arena.now) u x a.list.now a.i g.result g.ensures f.result (f.ensures u x p e) c.if-place.true l.result l.ensures
 
 pub returns-else-place : goal.returns-else-place
 returns-else-place c =
     let a = c.args in
     let g = c.get_u16-number in
     let f = c.find_part_from-place in
-    λ u x p e. c.if-place.false ∙ number-absent (state_of a.tables.now a.arena.now) u x a.list.now a.i g.result g.ensures f.result (f.ensures u x p e) c.if-place.false
+    λ u x p e. c.if-place.false ∙ number-absent (state_of a.memory.tables.now a.memory.arena.now) u x a.list.now a.i g.result g.ensures f.result (f.ensures u x p e) c.if-place.false

@@ -7,16 +7,16 @@ use Rattle.call_get.proofs.get_whole.Goals as goal
 pub returns-in_err-look_up : goal.returns-in_err-look_up
 returns-in_err-look_up c =
     let told : c.from_residual.result ≡ Err c.in_err-look_up.field-0.0 = search rules in
-    rw told (get_refused c.args.tables.now c.args.arena.now c.args.path.now c.look_up.result c.look_up.ensures c.args.answer.now c.args.pairs.now _ c.in_err-look_up.was)
+    rw told (get_refused c.args.memory.tables.now c.args.memory.arena.now c.args.path.now c.look_up.result c.look_up.ensures c.args.answer.now c.args.pairs.now _ c.in_err-look_up.was)
 
 pub get_object-requires : goal.get_object-requires
 get_object-requires c =
-    holds c.args.tables.now c.args.arena.now c.args.path.now c.look_up.result c.look_up.ensures (λ j. (c.type_inv.tables j).fits) c.requires _ _ (c.in_ok-look_up.was ∙ ap Ok c.in-Object.is)
+    holds c.args.memory.tables.now c.args.memory.arena.now c.args.path.now c.look_up.result c.look_up.ensures c.args.memory.bytes c.args.memory.is_whole _ _ (c.in_ok-look_up.was ∙ ap Ok c.in-Object.is)
 
 pub returns-in-Root : goal.returns-in-Root
 returns-in-Root c =
-    get-root c.args.tables.now c.args.arena.now c.args.path.now c.look_up.result c.look_up.ensures c.root.result c.root.ensures (c.in_ok-look_up.was ∙ ap Ok c.in-Root.is) c.args.answer.now c.args.pairs.now
+    get-root c.args.memory.tables.now c.args.memory.arena.now c.args.path.now c.look_up.result c.look_up.ensures c.root.result c.root.ensures (c.in_ok-look_up.was ∙ ap Ok c.in-Root.is) c.args.answer.now c.args.pairs.now
 
 pub returns-in-Object : goal.returns-in-Object
 returns-in-Object c =
-    get-found c.args.tables.now c.args.arena.now c.args.path.now c.look_up.result c.look_up.ensures (λ j. (c.type_inv.tables j).fits) c.requires _ _ (c.in_ok-look_up.was ∙ ap Ok c.in-Object.is) c.args.answer.now c.args.pairs.now _ c.get_object.ensures
+    get-found c.args.memory.tables.now c.args.memory.arena.now c.args.path.now c.look_up.result c.look_up.ensures c.args.memory.bytes c.args.memory.is_whole _ _ (c.in_ok-look_up.was ∙ ap Ok c.in-Object.is) c.args.answer.now c.args.pairs.now _ c.get_object.ensures

@@ -12,4 +12,4 @@ returns-in_err-offsets_of c =
     rw told (not-whole c.in_err-offsets_of.ensures.not_whole.1)
 
 pub returns : goal.returns
-returns c = made-head _ _ (λ j. (c.type_inv.tables j).fits) c.in_ok-offsets_of.ensures.is_whole.0 _ _ _ c.head_whole.ensures
+returns c = made-head _ _ (λ j. (c.type_inv.tables j).fits) c.in_ok-offsets_of.ensures.is_whole.0 _ _ _ (rw (c.of.ensures.tables, c.of.ensures.arena) at c.head_whole.ensures)

@@ -7,16 +7,16 @@ use Rattle.call_get.proofs.head_whole.Goals as goal
 pub returns-in_err-look_up : goal.returns-in_err-look_up
 returns-in_err-look_up c =
     let told : c.from_residual.result ≡ Err c.in_err-look_up.field-0.0 = search rules in
-    rw told (head-refused c.args.tables.now c.args.arena.now c.args.path.now c.look_up.result c.look_up.ensures c.args.pairs.now _ c.in_err-look_up.was)
+    rw told (head-refused c.args.memory.tables.now c.args.memory.arena.now c.args.path.now c.look_up.result c.look_up.ensures c.args.pairs.now _ c.in_err-look_up.was)
 
 pub head_object-requires : goal.head_object-requires
 head_object-requires c =
-    holds c.args.tables.now c.args.arena.now c.args.path.now c.look_up.result c.look_up.ensures (λ j. (c.type_inv.tables j).fits) c.requires _ _ (c.in_ok-look_up.was ∙ ap Ok c.in-Object.is)
+    holds c.args.memory.tables.now c.args.memory.arena.now c.args.path.now c.look_up.result c.look_up.ensures c.args.memory.bytes c.args.memory.is_whole _ _ (c.in_ok-look_up.was ∙ ap Ok c.in-Object.is)
 
 pub returns-in-Root : goal.returns-in-Root
 returns-in-Root c =
-    head-root c.args.tables.now c.args.arena.now c.args.path.now c.look_up.result c.look_up.ensures c.root.result c.root.ensures (c.in_ok-look_up.was ∙ ap Ok c.in-Root.is) c.args.pairs.now
+    head-root c.args.memory.tables.now c.args.memory.arena.now c.args.path.now c.look_up.result c.look_up.ensures c.root.result c.root.ensures (c.in_ok-look_up.was ∙ ap Ok c.in-Root.is) c.args.pairs.now
 
 pub returns-in-Object : goal.returns-in-Object
 returns-in-Object c =
-    head-found c.args.tables.now c.args.arena.now c.args.path.now c.look_up.result c.look_up.ensures (λ j. (c.type_inv.tables j).fits) c.requires _ _ (c.in_ok-look_up.was ∙ ap Ok c.in-Object.is) c.args.pairs.now _ c.head_object.ensures
+    head-found c.args.memory.tables.now c.args.memory.arena.now c.args.path.now c.look_up.result c.look_up.ensures c.args.memory.bytes c.args.memory.is_whole _ _ (c.in_ok-look_up.was ∙ ap Ok c.in-Object.is) c.args.pairs.now _ c.head_object.ensures

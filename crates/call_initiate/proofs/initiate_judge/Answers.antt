@@ -17,13 +17,13 @@ returns-then-not-stamp_ok-clause-judged c =
       | then-not-stamp_ok-via-else-not-stamp_ok+then-not-new_path_ok w ↦ rw (said-yes c.stamp_ok.ensures (ap not w.if-not-stamp_ok.false), said-no w.new_path_ok.ensures (ap not w.if-not-new_path_ok.true))
       | then-not-stamp_ok-via-else-not-stamp_ok+else-not-new_path_ok+then-not-judge w ↦ rw (said-yes c.stamp_ok.ensures (ap not w.if-not-stamp_ok.false), said-yes w.new_path_ok.ensures (ap not w.if-not-new_path_ok.false), said-no w.judge.ensures (ap not w.if-not-judge.true))
     ] in
-    bad (memory a.tables.now a.arena.now) a.stamp.0 a.path.now (pair_list a.pairs.now) not-taken
+    bad (memory a.memory.whole.tables.now a.memory.whole.arena.now) a.stamp.0 a.path.now (pair_list a.pairs.now) not-taken
 
 pub initiate_room-requires : goal.initiate_room-requires
-initiate_room-requires c = (c.requires, said-yes c.judge.ensures (ap not c.if-not-judge.false))
+initiate_room-requires c = said-yes c.judge.ensures (ap not c.if-not-judge.false)
 
 pub returns-clause-judged : goal.returns-clause-judged
 returns-clause-judged c =
     let a = c.args in
-    initiate-judged (memory a.tables.now a.arena.now) a.stamp.0 a.path.now (pair_list a.pairs.now) (said-yes c.stamp_ok.ensures (ap not c.if-not-stamp_ok.false)) (said-yes c.new_path_ok.ensures (ap not c.if-not-new_path_ok.false)) (said-yes c.judge.ensures (ap not c.if-not-judge.false)) _
+    initiate-judged (memory a.memory.whole.tables.now a.memory.whole.arena.now) a.stamp.0 a.path.now (pair_list a.pairs.now) (said-yes c.stamp_ok.ensures (ap not c.if-not-stamp_ok.false)) (said-yes c.new_path_ok.ensures (ap not c.if-not-new_path_ok.false)) (said-yes c.judge.ensures (ap not c.if-not-judge.false)) _
     (c.initiate_room.ensures.judged a.stamp.0 a.path.now)

@@ -19,15 +19,15 @@ open_upload-requires c =
     let a = c.args in
     let m = memory a.tables.now a.arena.now in
     let ps = pair_list a.pairs.now in
-    let e = sym c.in_ok-end.ensures.judged in
+    let e = sym (rw (c.of-memory.ensures.tables, c.of-memory.ensures.arena) at c.in_ok-end.ensures.judged) in
     let valid = target-valid m a.stamp.0 a.path.now ps e (whole-stands a.tables.now a.arena.now (λ j. (c.slice_known-1.given j).fits) c.requires.0).valid in
-    (pairs-taken m a.stamp.0 a.path.now ps e, c.in_ok-end.ensures.placed, (c.requires.0, valid))
+    (pairs-taken m a.stamp.0 a.path.now ps e, (rw (c.of-memory.ensures.tables, c.of-memory.ensures.arena) at c.in_ok-end.ensures.placed), (c.requires.0, valid))
 
 pub overflow_cast-result : goal.overflow_cast-result
 overflow_cast-result c =
     let a = c.args in
     let h = c.read_header-header in
-    let last = last-number (memory a.tables.now a.arena.now) a.stamp.0 a.path.now (pair_list a.pairs.now) (sym c.in_ok-end.ensures.judged) in
+    let last = last-number (memory a.tables.now a.arena.now) a.stamp.0 a.path.now (pair_list a.pairs.now) (sym (rw (c.of-memory.ensures.tables, c.of-memory.ensures.arena) at c.in_ok-end.ensures.judged)) in
     omega (arith, last, next-is a.tables.now a.arena.now (λ j. (c.slice_known-1.given j).fits) c.requires.0 h.result h.ensures)
 
 pub returns : goal.returns
@@ -36,5 +36,5 @@ returns c =
     let h = c.read_header-header in
     let o = c.open_upload in
     let n = next-is a.tables.now a.arena.now (λ j. (c.slice_known-1.given j).fits) c.requires.0 h.result h.ensures in
-    let accepted = initiate-accepted (memory a.tables.now a.arena.now) a.stamp.0 a.path.now (pair_list a.pairs.now) (sym c.in_ok-end.ensures.judged) in
+    let accepted = initiate-accepted (memory a.tables.now a.arena.now) a.stamp.0 a.path.now (pair_list a.pairs.now) (sym (rw (c.of-memory.ensures.tables, c.of-memory.ensures.arena) at c.in_ok-end.ensures.judged)) in
     done _ no_buffers _ accepted (ap (λ (i : ℕ). success (number i) no_buffers) n) o.ensures o.auto.tables o.auto.arena

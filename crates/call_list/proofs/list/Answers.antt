@@ -12,4 +12,4 @@ returns-in_err-offsets_of c =
     rw told (not-whole c.in_err-offsets_of.ensures.not_whole.1)
 
 pub returns : goal.returns
-returns c = made_list _ _ _ _ _ (λ j. (c.type_inv.tables j).fits) c.in_ok-offsets_of.ensures.is_whole.0 _ c.list_whole.ensures
+returns c = made_list _ _ _ _ _ (λ j. (c.type_inv.tables j).fits) c.in_ok-offsets_of.ensures.is_whole.0 _ (rw (c.of.ensures.tables, c.of.ensures.arena) at c.list_whole.ensures)

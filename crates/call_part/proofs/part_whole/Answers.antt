@@ -14,13 +14,14 @@ pub put_part-requires : goal.put_part-requires
 put_part-requires c =
     let a = c.args in
     let d = c.digest-digest in
-    let r = c.in_ok-room.ensures in
-    (r.placed, part-ready a.tables.now a.arena.now a.content.now a.upload.0 a.number.0 d.result (sym r.judged) d.ensures (λ j. (c.slice_known-1.given j).fits) c.requires.0)
+    let judged = rw (c.of-memory.ensures.tables, c.of-memory.ensures.arena) at c.in_ok-room.ensures.judged in
+    let placed = rw (c.of-memory.ensures.tables, c.of-memory.ensures.arena) at c.in_ok-room.ensures.placed in
+    (placed, part-ready a.tables.now a.arena.now a.content.now a.upload.0 a.number.0 d.result (sym judged) d.ensures (λ j. (c.slice_known-1.given j).fits) c.requires.0)
 
 pub returns : goal.returns
 returns c =
     let a = c.args in
-    let z = sym c.in_ok-room.ensures.judged in
+    let z = sym (rw (c.of-memory.ensures.tables, c.of-memory.ensures.arena) at c.in_ok-room.ensures.judged) in
     let d = c.digest-digest in
     let o = c.put_part in
     let accepted = part-accepted (memory a.tables.now a.arena.now) a.upload.0 a.number.0 a.content.now z in

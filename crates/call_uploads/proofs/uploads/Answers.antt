@@ -12,4 +12,4 @@ returns-in_err-offsets c =
     rw told (not-whole c.in_err-offsets.ensures.not_whole.1)
 
 pub returns : goal.returns
-returns c = made-uploads _ _ _ _ (λ j. (c.type_inv.tables j).fits) c.in_ok-offsets.ensures.is_whole.0 _ c.uploads_whole.ensures
+returns c = made-uploads _ _ _ _ (λ j. (c.type_inv.tables j).fits) c.in_ok-offsets.ensures.is_whole.0 _ (rw (c.of-memory.ensures.tables, c.of-memory.ensures.arena) at c.uploads_whole.ensures)

@@ -16,16 +16,16 @@ use Rattle.call_uploads.proofs.uploads_whole.Goals as goal
 pub returns-then-answer-counts : goal.returns-then-answer-counts
 returns-then-answer-counts c =
     let a = c.args in
-    refused-short a.tables.now a.arena.now a.prefix.now a.answer.now c.measure-counts.result.bytes c.measure-counts.ensures.sized c.if-answer-counts.true
+    refused-short a.memory.whole.tables.now a.memory.whole.arena.now a.prefix.now a.answer.now c.measure-counts.result.bytes c.measure-counts.ensures.sized c.if-answer-counts.true
 
 pub write-requires : goal.write-requires
 write-requires c =
-    let t : List ℕ = c.args.tables.now in
-    let a : List ℕ = c.args.arena.now in
+    let t : List ℕ = c.args.memory.whole.tables.now in
+    let a : List ℕ = c.args.memory.whole.arena.now in
     let p : List ℕ = c.args.prefix.now in
     let s : State = state_of t a in
     let notes : List ℕ = c.measure-counts.new.notes in
-    let stands : Stands t a s = whole-stands t a (λ j. (c.type_inv.tables j).fits) c.requires.0 in
+    let stands : Stands t a s = whole-stands t a c.args.memory.whole.bytes c.args.memory.whole.is_whole in
     let told : records_noted t notes c.measure-counts.result.records ≡ records_under p s = records-noted t a s stands p notes c.measure-counts.result.records c.measure-counts.ensures.noted c.measure-counts.ensures.counted in
     let n = c.measure-counts.ensures.sized in
     let few = c.measure-counts.ensures.few in
@@ -34,12 +34,12 @@ write-requires c =
 
 pub returns : goal.returns
 returns c =
-    let t : List ℕ = c.args.tables.now in
-    let a : List ℕ = c.args.arena.now in
+    let t : List ℕ = c.args.memory.whole.tables.now in
+    let a : List ℕ = c.args.memory.whole.arena.now in
     let p : List ℕ = c.args.prefix.now in
     let s : State = state_of t a in
     let notes : List ℕ = c.measure-counts.new.notes in
-    let stands : Stands t a s = whole-stands t a (λ j. (c.type_inv.tables j).fits) c.requires.0 in
+    let stands : Stands t a s = whole-stands t a c.args.memory.whole.bytes c.args.memory.whole.is_whole in
     let told : records_noted t notes c.measure-counts.result.records ≡ records_under p s = records-noted t a s stands p notes c.measure-counts.result.records c.measure-counts.ensures.noted c.measure-counts.ensures.counted in
     let e = c.measure-counts.ensures in
     all-written (t) (a) (p) c.args.answer.now c.measure-counts.result _ _ (e.counted, e.sized) c.if-answer-counts.false (told) c.write.ensures

@@ -8,6 +8,6 @@ use Rattle.call_list.proofs.measuring.measure_rows.Given as goal
 
 abbrev pub invariant-loop-i : goal.invariant-loop-i
 invariant-loop-i l =
-    Walked (state_of l.tables l.arena) l.prefix l.suffix l.i l.at l.records l.bytes
-    × AllListed (state_of l.tables l.arena) l.prefix l.suffix l.places l.records
+    Walked (state_of l.memory.tables.now l.memory.arena.now) l.prefix l.suffix l.i l.at l.records l.bytes
+    × AllListed (state_of l.memory.tables.now l.memory.arena.now) l.prefix l.suffix l.places l.records
     × (length l.places ≡ length l.initial.places)

@@ -11,21 +11,21 @@ use Rattle.call_list.proofs.Places.{put-none, put-room, put_next, put_all, place
 use Rattle.call_list.proofs.writing.write_rows.Goals as goal
 
 pub loop-i-init : goal.loop-i-init
-loop-i-init c = let x = c.args in put-none (state_of x.tables.now x.arena.now) x.prefix.now x.suffix.now x.answer.now
+loop-i-init c = let x = c.args in put-none (state_of x.memory.tables.now x.memory.arena.now) x.prefix.now x.suffix.now x.answer.now
 
 pub overflow_mul-i : goal.overflow_mul-i
-overflow_mul-i c = let n = c.requires.2 in omega arith
+overflow_mul-i c = let n = c.requires.few in omega arith
 
 pub get_u16-at-requires : goal.get_u16-at-requires
-get_u16-at-requires c = let n = c.requires.2 in let m = c.requires.1 in omega arith
+get_u16-at-requires c = let n = c.requires.few in let m = c.requires.long in omega arith
 
 pub write_record-to-requires : goal.write_record-to-requires
 write_record-to-requires c =
-    let t : List ℕ = c.args.tables.now in
-    let a : List ℕ = c.args.arena.now in
+    let t : List ℕ = c.args.memory.tables.now in
+    let a : List ℕ = c.args.memory.arena.now in
     let s : State = state_of t a in
-    let stands : Stands t a s = whole-stands t a (λ j. (c.type_inv.tables j).fits) c.requires.0 in
-    let here : ListedAt (s) c.args.prefix.now c.args.suffix.now c.args.places.now c.loop-i.i = c.requires.4 c.loop-i.i c.loop-i-test.true in
+    let stands : Stands t a s = whole-stands t a c.args.memory.bytes c.args.memory.is_whole in
+    let here : ListedAt (s) c.args.prefix.now c.args.suffix.now c.args.places.now c.loop-i.i = c.requires.placed c.loop-i.i c.loop-i-test.true in
     let g = c.get_u16-at in
     let x = here in
     let e = g.ensures ∙ x.place in
@@ -34,21 +34,21 @@ write_record-to-requires c =
     let places = c.args.places.now in
     let b₀ = c.args.answer.now in (
       place_inside (t) (a) (s) (stands) p q places b₀ c.loop-i.answer c.loop-i.i c.loop-i.to g.result c.loop-i.invariant x e,
-      put-room (t) (a) (s) (stands) p q places b₀ c.loop-i.answer c.loop-i.i c.loop-i.to g.result c.loop-i.invariant x e c.requires.5,
+      put-room (t) (a) (s) (stands) p q places b₀ c.loop-i.answer c.loop-i.i c.loop-i.to g.result c.loop-i.invariant x e c.requires.fits,
       place-pairs (t) (a) (s) (stands) p q places b₀ c.loop-i.answer c.loop-i.i c.loop-i.to g.result c.loop-i.invariant x e,
     )
 
 pub loop-i-preserved : goal.loop-i-preserved
 loop-i-preserved c =
-    let t : List ℕ = c.args.tables.now in
-    let a : List ℕ = c.args.arena.now in
+    let t : List ℕ = c.args.memory.tables.now in
+    let a : List ℕ = c.args.memory.arena.now in
     let s : State = state_of t a in
-    let stands : Stands t a s = whole-stands t a (λ j. (c.type_inv.tables j).fits) c.requires.0 in
-    let here : ListedAt (s) c.args.prefix.now c.args.suffix.now c.args.places.now c.loop-i.i = c.requires.4 c.loop-i.i c.loop-i-test.true in
+    let stands : Stands t a s = whole-stands t a c.args.memory.bytes c.args.memory.is_whole in
+    let here : ListedAt (s) c.args.prefix.now c.args.suffix.now c.args.places.now c.loop-i.i = c.requires.placed c.loop-i.i c.loop-i-test.true in
     let g = c.get_u16-at in
     let w = c.write_record-to in
     let x = here in
-    let n = c.requires.3 in
+    let n = c.requires.counted in
     put_next (t) (a) (s) (stands) c.args.prefix.now c.args.suffix.now c.args.places.now c.args.answer.now c.loop-i.answer c.loop-i.i c.loop-i.to
     g.result c.loop-i.invariant x (g.ensures ∙ x.place) _ _ (let l = c.loop-i-test.true in omega arith) w.ensures w.auto.answer
 
@@ -57,9 +57,9 @@ shape_of-answer c = c.loop-i.invariant.same
 
 pub returns : goal.returns
 returns c =
-    let t : List ℕ = c.args.tables.now in
-    let a : List ℕ = c.args.arena.now in
+    let t : List ℕ = c.args.memory.tables.now in
+    let a : List ℕ = c.args.memory.arena.now in
     let s : State = state_of t a in
     let n = c.loop-i-test.false in
-    let m = c.requires.3 in
+    let m = c.requires.counted in
     put_all (s) c.args.prefix.now c.args.suffix.now c.args.answer.now c.loop-i.answer c.loop-i.i c.loop-i.to c.loop-i.invariant (omega arith)

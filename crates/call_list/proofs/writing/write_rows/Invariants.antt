@@ -4,4 +4,4 @@ use Rattle.call_list.proofs.Places.{Put}
 use Rattle.call_list.proofs.writing.write_rows.Given as goal
 
 abbrev pub invariant-loop-i : goal.invariant-loop-i
-invariant-loop-i l = Put (state_of l.tables l.arena) l.prefix l.suffix l.initial.answer l.answer l.i l.to
+invariant-loop-i l = Put (state_of l.memory.tables.now l.memory.arena.now) l.prefix l.suffix l.initial.answer l.answer l.i l.to

@@ -12,21 +12,21 @@ use Rattle.call_uploads.proofs.measuring.measure.Goals.{then-begins_with, else-b
 
 pub loop-i-init : goal.loop-i-init
 loop-i-init c =
-    let s = state_of c.args.tables.now c.args.arena.now in
-    (measured-none s c.args.prefix.now c.args.first (c.requires.1 ∙ first-place s), no_note s c.args.prefix.now c.args.notes.now, refl)
+    let s = state_of c.args.memory.whole.tables.now c.args.memory.whole.arena.now in
+    (measured-none s c.args.prefix.now c.first_upload-here.result (c.first_upload-here.ensures ∙ first-place s), no_note s c.args.prefix.now c.args.notes.now, refl)
 
 pub read_upload-u-requires : goal.read_upload-u-requires
 read_upload-u-requires c =
     let a = c.args in
     let l = c.loop-i in
-    let r = upload-here a.tables.now a.arena.now (λ j. (c.type_inv.tables j).fits) c.requires.0 _ _ _ _ _ l.invariant.0 _ c.read_counts-counts.ensures.uploads c.loop-i-test.true in
-    (c.requires.0, r.open_here, r.place)
+    let r = upload-here a.memory.whole.tables.now a.memory.whole.arena.now c.args.memory.whole.bytes c.args.memory.whole.is_whole _ _ _ _ _ l.invariant.0 _ c.counts-uploads.ensures.uploads c.loop-i-test.true in
+    (r.open_here, r.place)
 
 pub slice_bounds-path-count : goal.slice_bounds-path-count
 slice_bounds-path-count c =
     let a = c.args in
     let l = c.loop-i in
-    let r = upload-here a.tables.now a.arena.now (λ j. (c.type_inv.tables j).fits) c.requires.0 _ _ _ _ _ l.invariant.0 _ c.read_counts-counts.ensures.uploads c.loop-i-test.true in
+    let r = upload-here a.memory.whole.tables.now a.memory.whole.arena.now c.args.memory.whole.bytes c.args.memory.whole.is_whole _ _ _ _ _ l.invariant.0 _ c.counts-uploads.ensures.uploads c.loop-i-test.true in
     let u = c.read_upload-u in
     let it = r.read u.result u.ensures in
     omega arith
@@ -35,7 +35,7 @@ pub slice_bounds-path-start : goal.slice_bounds-path-start
 slice_bounds-path-start c =
     let a = c.args in
     let l = c.loop-i in
-    let r = upload-here a.tables.now a.arena.now (λ j. (c.type_inv.tables j).fits) c.requires.0 _ _ _ _ _ l.invariant.0 _ c.read_counts-counts.ensures.uploads c.loop-i-test.true in
+    let r = upload-here a.memory.whole.tables.now a.memory.whole.arena.now c.args.memory.whole.bytes c.args.memory.whole.is_whole _ _ _ _ _ l.invariant.0 _ c.counts-uploads.ensures.uploads c.loop-i-test.true in
     let u = c.read_upload-u in
     let it = r.read u.result u.ensures in
     omega arith
@@ -44,7 +44,7 @@ pub slice_bounds-path-end : goal.slice_bounds-path-end
 slice_bounds-path-end c =
     let a = c.args in
     let l = c.loop-i in
-    let r = upload-here a.tables.now a.arena.now (λ j. (c.type_inv.tables j).fits) c.requires.0 _ _ _ _ _ l.invariant.0 _ c.read_counts-counts.ensures.uploads c.loop-i-test.true in
+    let r = upload-here a.memory.whole.tables.now a.memory.whole.arena.now c.args.memory.whole.bytes c.args.memory.whole.is_whole _ _ _ _ _ l.invariant.0 _ c.counts-uploads.ensures.uploads c.loop-i-test.true in
     let u = c.read_upload-u in
     let it = r.read u.result u.ensures in
     omega arith
@@ -53,22 +53,22 @@ pub put_note-requires : goal.put_note-requires
 put_note-requires c =
     let a = c.args in
     let l = c.loop-i in
-    let r = upload-here a.tables.now a.arena.now (λ j. (c.type_inv.tables j).fits) c.requires.0 _ _ _ _ _ l.invariant.0 _ c.read_counts-counts.ensures.uploads c.loop-i-test.true in
+    let r = upload-here a.memory.whole.tables.now a.memory.whole.arena.now c.args.memory.whole.bytes c.args.memory.whole.is_whole _ _ _ _ _ l.invariant.0 _ c.counts-uploads.ensures.uploads c.loop-i-test.true in
     let few = l.invariant.0.few in
-    (omega (arith, l.invariant.2, c.requires.2), r.low)
+    (omega (arith, l.invariant.2, c.requires), r.low)
 
 pub overflow_add-records : goal.overflow_add-records
 overflow_add-records c =
     let a = c.args in
     let l = c.loop-i in
-    let r = upload-here a.tables.now a.arena.now (λ j. (c.type_inv.tables j).fits) c.requires.0 _ _ _ _ _ l.invariant.0 _ c.read_counts-counts.ensures.uploads c.loop-i-test.true in
+    let r = upload-here a.memory.whole.tables.now a.memory.whole.arena.now c.args.memory.whole.bytes c.args.memory.whole.is_whole _ _ _ _ _ l.invariant.0 _ c.counts-uploads.ensures.uploads c.loop-i-test.true in
     omega (arith, l.invariant.0.few)
 
 pub overflow_cast-bytes : goal.overflow_cast-bytes
 overflow_cast-bytes c =
     let a = c.args in
     let l = c.loop-i in
-    let r = upload-here a.tables.now a.arena.now (λ j. (c.type_inv.tables j).fits) c.requires.0 _ _ _ _ _ l.invariant.0 _ c.read_counts-counts.ensures.uploads c.loop-i-test.true in
+    let r = upload-here a.memory.whole.tables.now a.memory.whole.arena.now c.args.memory.whole.bytes c.args.memory.whole.is_whole _ _ _ _ _ l.invariant.0 _ c.counts-uploads.ensures.uploads c.loop-i-test.true in
     let u = c.read_upload-u in
     let it = r.read u.result u.ensures in
     omega (arith, l.invariant.0.small, it.short, ap length it.path)
@@ -77,7 +77,7 @@ pub overflow_add-bytes : goal.overflow_add-bytes
 overflow_add-bytes c =
     let a = c.args in
     let l = c.loop-i in
-    let r = upload-here a.tables.now a.arena.now (λ j. (c.type_inv.tables j).fits) c.requires.0 _ _ _ _ _ l.invariant.0 _ c.read_counts-counts.ensures.uploads c.loop-i-test.true in
+    let r = upload-here a.memory.whole.tables.now a.memory.whole.arena.now c.args.memory.whole.bytes c.args.memory.whole.is_whole _ _ _ _ _ l.invariant.0 _ c.counts-uploads.ensures.uploads c.loop-i-test.true in
     let u = c.read_upload-u in
     let it = r.read u.result u.ensures in
     omega (arith, l.invariant.0.small, it.short, ap length it.path)
@@ -86,7 +86,7 @@ pub overflow_add-bytes-then-begins_with : goal.overflow_add-bytes-then-begins_wi
 overflow_add-bytes-then-begins_with c =
     let a = c.args in
     let l = c.loop-i in
-    let r = upload-here a.tables.now a.arena.now (λ j. (c.type_inv.tables j).fits) c.requires.0 _ _ _ _ _ l.invariant.0 _ c.read_counts-counts.ensures.uploads c.loop-i-test.true in
+    let r = upload-here a.memory.whole.tables.now a.memory.whole.arena.now c.args.memory.whole.bytes c.args.memory.whole.is_whole _ _ _ _ _ l.invariant.0 _ c.counts-uploads.ensures.uploads c.loop-i-test.true in
     let u = c.read_upload-u in
     let it = r.read u.result u.ensures in
     omega (arith, l.invariant.0.small, it.short, ap length it.path)
@@ -95,19 +95,19 @@ pub loop-i-preserved : goal.loop-i-preserved
 loop-i-preserved c =
     let a = c.args in
     let l = c.loop-i in
-    let r = upload-here a.tables.now a.arena.now (λ j. (c.type_inv.tables j).fits) c.requires.0 _ _ _ _ _ l.invariant.0 _ c.read_counts-counts.ensures.uploads c.loop-i-test.true in
+    let r = upload-here a.memory.whole.tables.now a.memory.whole.arena.now c.args.memory.whole.bytes c.args.memory.whole.is_whole _ _ _ _ _ l.invariant.0 _ c.counts-uploads.ensures.uploads c.loop-i-test.true in
     let u = c.read_upload-u in
     let it = r.read u.result u.ensures in
     let few = l.invariant.0.few in
     elim c.if-begins_with.branch [
       | then-begins_with w ↦ rw (w.records-is, w.bytes-is, w.notes-is, w.put_note.ensures) (
-        measured-listed a.tables.now a.arena.now (λ j. (c.type_inv.tables j).fits) c.requires.0 a.prefix.now l.i l.here l.records l.bytes l.invariant.0 _ c.read_counts-counts.ensures.uploads c.loop-i-test.true u.result it _ (sym c.begins_with.ensures ∙ w.if-begins_with.true) refl,
-        noted-next a.tables.now a.arena.now (state_of a.tables.now a.arena.now) (whole-stands a.tables.now a.arena.now (λ j. (c.type_inv.tables j).fits) c.requires.0) a.prefix.now l.notes l.i l.here l.records l.bytes l.invariant.0 r.more
-            l.invariant.1 (omega (arith, l.invariant.2, c.requires.2)) u.result it (sym c.begins_with.ensures ∙ w.if-begins_with.true),
+        measured-listed a.memory.whole.tables.now a.memory.whole.arena.now c.args.memory.whole.bytes c.args.memory.whole.is_whole a.prefix.now l.i l.here l.records l.bytes l.invariant.0 _ c.counts-uploads.ensures.uploads c.loop-i-test.true u.result it _ (sym c.begins_with.ensures ∙ w.if-begins_with.true) refl,
+        noted-next a.memory.whole.tables.now a.memory.whole.arena.now (state_of a.memory.whole.tables.now a.memory.whole.arena.now) (whole-stands a.memory.whole.tables.now a.memory.whole.arena.now c.args.memory.whole.bytes c.args.memory.whole.is_whole) a.prefix.now l.notes l.i l.here l.records l.bytes l.invariant.0 r.more
+            l.invariant.1 (omega (arith, l.invariant.2, c.requires)) u.result it (sym c.begins_with.ensures ∙ w.if-begins_with.true),
         ap length (sym w.put_note.ensures) ∙ w.put_note.auto.notes ∙ l.invariant.2,
       )
       | else-begins_with w ↦ rw (w.records-is, w.bytes-is, w.notes-is) (
-        measured-passed a.tables.now a.arena.now (λ j. (c.type_inv.tables j).fits) c.requires.0 a.prefix.now l.i l.here l.records l.bytes l.invariant.0 _ c.read_counts-counts.ensures.uploads c.loop-i-test.true u.result it (sym c.begins_with.ensures ∙ w.if-begins_with.false),
+        measured-passed a.memory.whole.tables.now a.memory.whole.arena.now c.args.memory.whole.bytes c.args.memory.whole.is_whole a.prefix.now l.i l.here l.records l.bytes l.invariant.0 _ c.counts-uploads.ensures.uploads c.loop-i-test.true u.result it (sym c.begins_with.ensures ∙ w.if-begins_with.false),
         l.invariant.1,
         l.invariant.2,
       )
@@ -120,9 +120,9 @@ pub returns : goal.returns
 returns c =
     let a = c.args in
     let l = c.loop-i in
-    let n = c.read_counts-counts.ensures.uploads in
-    let e = measured-all (state_of a.tables.now a.arena.now) a.prefix.now l.i l.here l.records l.bytes l.invariant.0 (omega (arith, n, c.loop-i-test.false)) in
-    let stands = whole-stands a.tables.now a.arena.now (λ j. (c.type_inv.tables j).fits) c.requires.0 in
+    let n = c.counts-uploads.ensures.uploads in
+    let e = measured-all (state_of a.memory.whole.tables.now a.memory.whole.arena.now) a.prefix.now l.i l.here l.records l.bytes l.invariant.0 (omega (arith, n, c.loop-i-test.false)) in
+    let stands = whole-stands a.memory.whole.tables.now a.memory.whole.arena.now c.args.memory.whole.bytes c.args.memory.whole.is_whole in
     record {
       counted = e.0;
       sized = e.1;

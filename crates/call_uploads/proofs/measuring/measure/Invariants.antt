@@ -8,6 +8,6 @@ use Rattle.call_uploads.proofs.measuring.measure.Given as goal
 
 abbrev pub invariant-loop-i : goal.invariant-loop-i
 invariant-loop-i l =
-    Measured (state_of l.tables l.arena) l.prefix l.i l.here l.records l.bytes
-    × AllNoted (state_of l.tables l.arena) l.prefix l.notes l.records
+    Measured (state_of l.memory.whole.tables.now l.memory.whole.arena.now) l.prefix l.i l.here l.records l.bytes
+    × AllNoted (state_of l.memory.whole.tables.now l.memory.whole.arena.now) l.prefix l.notes l.records
     × (length l.notes ≡ length l.initial.notes)

@@ -8,25 +8,21 @@ ghost use Rattle.mem_find.specs.Places.{upload_row_of};
 ghost use Rattle.mem_scan.specs.Scanned.{Scanned};
 ghost use Rattle.call_types.specs.Numbers.{result_number};
 ghost use Rattle.call_contract.specs.Answers.{done_reply};
-ghost use Rattle.call_contract.specs.Made.{memory, outcome, result_of, Made, MadeWhole};
+ghost use Rattle.call_contract.specs.Made.{memory as memory_of, outcome, result_of, Made, MadeWhole};
 
 use call_types::{Refusal, UploadNumber};
 use mem_find::RowPlace;
+use mem_find_uploads::ScannedMemory;
 use mem_scan::Offsets;
 
-// Where the row of the upload stands that ABORT takes out, in whole memory whose rows stand at `offsets`, or why ABORT is
-// refused.
-fn abort_judge(
-    tables: &[u8],
-    arena: &[u8],
-    offsets: Offsets,
-    upload: UploadNumber,
-) -> Result<RowPlace, Refusal>
-    requires { Scanned tables.now arena.now offsets }
-    ensures judged { result_number result ≡ result_of (outcome (ABORT upload.0) (memory tables.now arena.now)) }
-    ensures placed { IfOk result (λ here. here ≡ upload_row_of (state_of tables.now arena.now) upload.0) }
+// Where the row of the upload stands that ABORT takes out, or why ABORT is refused.
+fn abort_judge(memory: ScannedMemory, upload: UploadNumber) -> Result<RowPlace, Refusal>
+    ensures judged { result_number result ≡ result_of (outcome (ABORT upload.0)
+        (memory_of memory.entry.whole.tables.now memory.entry.whole.arena.now)) }
+    ensures placed { IfOk result (λ here. here
+        ≡ upload_row_of (state_of memory.entry.whole.tables.now memory.entry.whole.arena.now) upload.0) }
 {
-    let place = mem_find_uploads::find_upload(tables, arena, offsets, upload.0);
+    let place = mem_find_uploads::find_upload(memory, upload.0);
     if place.found {
         return Ok(mem_find::place_of(place));
     }
@@ -41,17 +37,18 @@ pub fn abort_whole(
     upload: UploadNumber,
 ) -> Result<(), Refusal>
     requires { Scanned tables.old arena.old offsets }
-    ensures { MadeWhole (ABORT upload.0) (memory tables.old arena.old) (done_reply result) (memory tables.new arena.new) }
+    ensures { MadeWhole (ABORT upload.0) (memory_of tables.old arena.old) (done_reply result) (memory_of tables.new arena.new) }
 {
-    let here = abort_judge(tables, arena, offsets, upload)?;
-    let end = mem_find_uploads::rows_end(tables, arena, offsets);
+    let memory = ScannedMemory::of(tables, arena, offsets);
+    let here = abort_judge(memory, upload)?;
+    let end = mem_find_uploads::rows_end(memory);
     mem_edit_uploads::uploads::remove_upload(tables, arena, here, end);
     Ok(())
 }
 
 // ABORT: an open upload and its parts are removed.
 pub fn abort(tables: &mut [u8], arena: &mut [u8], upload: UploadNumber) -> Result<(), Refusal>
-    ensures { Made (ABORT upload.0) (memory tables.old arena.old) (done_reply result) (memory tables.new arena.new) }
+    ensures { Made (ABORT upload.0) (memory_of tables.old arena.old) (done_reply result) (memory_of tables.new arena.new) }
 {
     let offsets = call_contract::offsets_of(tables, arena)?;
     abort_whole(tables, arena, offsets, upload)

@@ -8,6 +8,8 @@ ghost use Rattle.call_contract.specs.Made.{memory, Made};
 ghost use Rattle.call_sweep.specs.Swept.{Swept};
 
 use call_types::{Refusal, Stamp, Sweep};
+use mem_find::WholeMemory;
+use mem_find_uploads::ScannedMemory;
 use mem_scan::Offsets;
 
 // The sweep over whole memory whose rows stand at `offsets`, in one pass over their rows: where an upload is taken out
@@ -25,9 +27,10 @@ fn sweep_whole(
         result
         (memory tables.new arena.new) }
 {
-    let first = mem_find_uploads::first_upload(tables, arena, offsets);
-    let mut here = mem_find_uploads::find_due(tables, arena, first, stamp);
-    let mut end = mem_find_uploads::rows_end(tables, arena, offsets);
+    let memory = ScannedMemory::of(tables, arena, offsets);
+    let first = mem_find_uploads::first_upload(memory);
+    let mut here = mem_find_uploads::find_due(memory.whole, first, stamp);
+    let mut end = mem_find_uploads::rows_end(memory);
     let mut count: u32 = 0;
     // each turn moves the rows, so that no iterator can hold them
     while here.row < end.row {
@@ -35,7 +38,7 @@ fn sweep_whole(
             return Sweep { count, more: true };
         }
         end = mem_edit_uploads::uploads::remove_upload(tables, arena, here, end);
-        here = mem_find_uploads::find_due(tables, arena, here, stamp);
+        here = mem_find_uploads::find_due(WholeMemory::of(tables, arena), here, stamp);
         count += 1;
     }
     Sweep { count, more: false }

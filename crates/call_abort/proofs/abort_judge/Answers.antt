@@ -9,16 +9,16 @@ pub returns-then-place-clause-judged : goal.returns-then-place-clause-judged
 returns-then-place-clause-judged c =
     let a = c.args in
     let f = c.find_upload-place in
-    abort-open (memory a.tables.now a.arena.now) a.upload.0 f.result f.ensures c.if-place.true
+    abort-open (memory a.memory.whole.tables.now a.memory.whole.arena.now) a.upload.0 f.result f.ensures c.if-place.true
 
 pub returns-then-place-clause-placed : goal.returns-then-place-clause-placed
 returns-then-place-clause-placed c =
     let a = c.args in
     let f = c.find_upload-place in
-    c.place_of.ensures ∙ upload-lookup (state_in (memory a.tables.now a.arena.now)) a.upload.0 f.result f.ensures
+    c.place_of.ensures ∙ upload-lookup (state_in (memory a.memory.whole.tables.now a.memory.whole.arena.now)) a.upload.0 f.result f.ensures
 
 pub returns-clause-judged : goal.returns-clause-judged
 returns-clause-judged c =
     let a = c.args in
     let f = c.find_upload-place in
-    abort-closed (memory a.tables.now a.arena.now) a.upload.0 f.result f.ensures c.if-place.false
+    abort-closed (memory a.memory.whole.tables.now a.memory.whole.arena.now) a.upload.0 f.result f.ensures c.if-place.false

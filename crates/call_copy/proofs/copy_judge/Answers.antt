@@ -16,10 +16,10 @@ returns-then-not-stamp_ok-clause-judged c =
       | then-not-stamp_ok-via-else-not-stamp_ok+then-not-request_path_ok w ↦ rw (said-yes c.stamp_ok.ensures (ap not w.if-not-stamp_ok.false), said-no w.request_path_ok.ensures (ap not w.if-not-request_path_ok.true))
       | then-not-stamp_ok-via-else-not-stamp_ok+else-not-request_path_ok+then-not-new_path_ok w ↦ rw (said-yes c.stamp_ok.ensures (ap not w.if-not-stamp_ok.false), said-yes w.request_path_ok.ensures (ap not w.if-not-request_path_ok.false), said-no w.new_path_ok.ensures (ap not w.if-not-new_path_ok.true))
     ] in
-    copy-bad (memory a.tables.now a.arena.now) a.stamp.0 a.source.now a.destination.now bad
+    copy-bad (memory a.memory.whole.tables.now a.memory.whole.arena.now) a.stamp.0 a.source.now a.destination.now bad
 
 pub returns-clause-judged : goal.returns-clause-judged
 returns-clause-judged c =
     let a = c.args in
-    copy-judged (memory a.tables.now a.arena.now) a.stamp.0 a.source.now a.destination.now (said-yes c.stamp_ok.ensures (ap not c.if-not-stamp_ok.false)) (said-yes c.request_path_ok.ensures (ap not c.if-not-request_path_ok.false)) (said-yes c.new_path_ok.ensures (ap not c.if-not-new_path_ok.false)) _
+    copy-judged (memory a.memory.whole.tables.now a.memory.whole.arena.now) a.stamp.0 a.source.now a.destination.now (said-yes c.stamp_ok.ensures (ap not c.if-not-stamp_ok.false)) (said-yes c.request_path_ok.ensures (ap not c.if-not-request_path_ok.false)) (said-yes c.new_path_ok.ensures (ap not c.if-not-new_path_ok.false)) _
     c.source_judge.ensures.judged

@@ -15,28 +15,28 @@ use Rattle.call_copy.proofs.source_judge.Goals as goal
 pub returns-then-not-from-clause-judged : goal.returns-then-not-from-clause-judged
 returns-then-not-from-clause-judged c =
     let a = c.args in
-    let s = state_of a.tables.now a.arena.now in
+    let s = state_of a.memory.whole.tables.now a.memory.whole.arena.now in
     let f = c.find_two-looked_up in
-    judged-missing (length a.arena.now) s a.stamp.0 a.source.now a.destination.now
-    (place_found s a.source.now f.result.first false f.ensures.0 (not-true _ c.if-not-from.true))
+    judged-missing (length a.memory.whole.arena.now) s a.stamp.0 a.source.now a.destination.now
+    (place_found s a.source.now f.result.first false f.ensures.first (not-true _ c.if-not-from.true))
 
 pub read_head-h-requires : goal.read_head-h-requires
 read_head-h-requires c =
     let f = c.find_two-looked_up in
-    let o = source-there _ _ f.result.first (λ j. (c.type_inv.tables j).fits) (c.requires.0, (c.args.source.now, f.ensures.0)) (not-false _ c.if-not-from.false) in
+    let o = source-there _ _ _ f.result.first c.args.memory.whole.bytes c.args.memory.whole.is_whole f.ensures.first (not-false _ c.if-not-from.false) in
     omega (arith, front-inside _ _ _ _ o)
 
 pub returns-in_err-room-clause-judged : goal.returns-in_err-room-clause-judged
 returns-in_err-room-clause-judged c =
     let a = c.args in
     let f = c.find_two-looked_up in
-    let o = source-there _ _ f.result.first (λ j. (c.type_inv.tables j).fits) (c.requires.0, (a.source.now, f.ensures.0)) (not-false _ c.if-not-from.false) in
+    let o = source-there _ _ _ f.result.first c.args.memory.whole.bytes c.args.memory.whole.is_whole f.ensures.first (not-false _ c.if-not-from.false) in
     let told : result_number c.from_residual.result ≡ number_of c.in_err-room.field-0.0 = search rules in
-    told ∙ judged-source _ _ _ _ o _ c.read_head-h.ensures _ a.stamp.0 a.destination.now (c.in_err-room.ensures.judged a.destination.now f.ensures.1)
+    told ∙ judged-source _ _ _ _ o _ c.read_head-h.ensures _ a.stamp.0 a.destination.now (c.in_err-room.ensures.judged a.destination.now f.ensures.second)
 
 pub returns-clause-judged : goal.returns-clause-judged
 returns-clause-judged c =
     let a = c.args in
     let f = c.find_two-looked_up in
-    let o = source-there _ _ f.result.first (λ j. (c.type_inv.tables j).fits) (c.requires.0, (a.source.now, f.ensures.0)) (not-false _ c.if-not-from.false) in
-    judged-source _ _ _ _ o _ c.read_head-h.ensures _ a.stamp.0 a.destination.now (c.in_ok-room.ensures.judged a.destination.now f.ensures.1)
+    let o = source-there _ _ _ f.result.first c.args.memory.whole.bytes c.args.memory.whole.is_whole f.ensures.first (not-false _ c.if-not-from.false) in
+    judged-source _ _ _ _ o _ c.read_head-h.ensures _ a.stamp.0 a.destination.now (c.in_ok-room.ensures.judged a.destination.now f.ensures.second)

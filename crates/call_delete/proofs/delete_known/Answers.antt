@@ -8,11 +8,14 @@ use Rattle.call_delete.proofs.delete_known.Goals as goal
 
 pub rows_end_from-end-requires : goal.rows_end_from-end-requires
 rows_end_from-end-requires c =
-    (c.requires.is_whole, object-row-place (state_of c.args.tables.now c.args.arena.now) c.args.path.now c.in_ok-place.place c.in_ok-place.ensures.placed.1)
+    let m = c.of-memory.result in
+    object-row-place (state_of m.tables.now m.arena.now) c.args.path.now c.in_ok-place.place c.in_ok-place.ensures.placed.1
 
 pub returns : goal.returns
 returns c =
     let a = c.args in
-    let e = c.in_ok-place.ensures in
-    delete-made (memory a.tables.now a.arena.now) a.path.now (sym e.judged) _
-    (c.remove_object.ensures a.path.now e.placed.1) c.remove_object.auto.tables c.remove_object.auto.arena
+    let m = c.of-memory.ensures in
+    let judged = rw (m.tables, m.arena) at c.in_ok-place.ensures.judged in
+    let placed = rw (m.tables, m.arena) at c.in_ok-place.ensures.placed.1 in
+    delete-made (memory a.tables.now a.arena.now) a.path.now (sym judged) _
+    (c.remove_object.ensures a.path.now placed) c.remove_object.auto.tables c.remove_object.auto.arena

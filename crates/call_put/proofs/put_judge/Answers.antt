@@ -1,7 +1,7 @@
 -- `call_put::put_judge` meets its contract: stamp, path and pairs, then the ceilings. Assumes nothing.
 use Prim.Native.Nat.{ℕ, ◌+◌}
 use mathlib.Core.Path.{◌≡◌, sym, ap, ◌∙◌}
-use mathlib.Core.Bool.{not, true, false, ◌&&◌}
+use mathlib.Core.Bool.{not, false, ◌&&◌}
 use native.Mathlib.Omega.{arith}
 use lib.ListN.{length}
 use Rattle.machine.specs.Names.{stamp_ok, new_path_ok}
@@ -21,7 +21,7 @@ returns-then-not-stamp_ok-clause-judged c =
       | then-not-stamp_ok-via-else-not-stamp_ok+then-not-new_path_ok w ↦ rw (said-yes c.stamp_ok.ensures (ap not w.if-not-stamp_ok.false), said-no w.new_path_ok.ensures (ap not w.if-not-new_path_ok.true))
       | then-not-stamp_ok-via-else-not-stamp_ok+else-not-new_path_ok+then-not-judge w ↦ rw (said-yes c.stamp_ok.ensures (ap not w.if-not-stamp_ok.false), said-yes w.new_path_ok.ensures (ap not w.if-not-new_path_ok.false), said-no w.judge.ensures (ap not w.if-not-judge.true))
     ] in
-    put-bad (memory a.tables.now a.arena.now) a.stamp.0 a.path.now a.content.now (pair_list a.pairs.now) bad
+    put-bad (memory a.memory.whole.tables.now a.memory.whole.arena.now) a.stamp.0 a.path.now a.content.now (pair_list a.pairs.now) bad
 
 pub held-requires : goal.held-requires
 held-requires c = formed-is _ (said-yes c.judge.ensures (ap not c.if-not-judge.false))
@@ -38,5 +38,5 @@ returns-clause-judged c =
     let ps = pair_list a.pairs.now in
     let taken = said-yes c.judge.ensures (ap not c.if-not-judge.false) in
     let held-there : c.held.result ≡ pairs_held (pair_map ps) = c.held.ensures ∙ sym (held-is ps taken) in
-    put-judged (memory a.tables.now a.arena.now) a.stamp.0 a.path.now a.content.now ps (said-yes c.stamp_ok.ensures (ap not c.if-not-stamp_ok.false)) (said-yes c.new_path_ok.ensures (ap not c.if-not-new_path_ok.false)) taken _
+    put-judged (memory a.memory.whole.tables.now a.memory.whole.arena.now) a.stamp.0 a.path.now a.content.now ps (said-yes c.stamp_ok.ensures (ap not c.if-not-stamp_ok.false)) (said-yes c.new_path_ok.ensures (ap not c.if-not-new_path_ok.false)) taken _
     (c.object_judge.ensures.judged a.stamp.0 a.content.now (pair_map ps) (ap (λ (n : ℕ). n + length a.content.now) (sym held-there)))

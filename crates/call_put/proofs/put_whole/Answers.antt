@@ -13,10 +13,11 @@ put_object-requires c =
     let a = c.args in
     let d = c.digest-digest in
     let ps = pair_list a.pairs.now in
-    let accepted = sym c.in_ok-room.ensures.judged in (
-      c.in_ok-room.ensures.placed,
+    let o = c.of-memory.ensures in
+    let accepted = sym (rw (o.tables, o.arena) at c.in_ok-room.ensures.judged) in (
+      rw (o.tables, o.arena) at c.in_ok-room.ensures.placed,
       pairs-taken a.stamp.0 a.path.now a.content.now ps d.result d.ensures a.tables.now a.arena.now accepted,
-      (c.requires.0, put-ready a.stamp.0 a.path.now a.content.now ps d.result d.ensures a.tables.now a.arena.now (λ j. (c.slice_known-1.given j).fits) c.requires.0 accepted),
+      (c.requires.0, put-ready a.stamp.0 a.path.now a.content.now ps d.result d.ensures a.tables.now a.arena.now (rw o.tables at c.of-memory.result.whole.bytes) c.requires.0 accepted),
     )
 
 pub returns : goal.returns
@@ -24,7 +25,8 @@ returns c =
     let a = c.args in
     let d = c.digest-digest in
     let o = c.put_object in
+    let m = c.of-memory.ensures in
     let ps = pair_list a.pairs.now in
-    let accepted = put-accepted (memory a.tables.now a.arena.now) a.stamp.0 a.path.now a.content.now ps (sym c.in_ok-room.ensures.judged) in
+    let accepted = put-accepted (memory a.tables.now a.arena.now) a.stamp.0 a.path.now a.content.now ps (sym (rw (m.tables, m.arena) at c.in_ok-room.ensures.judged)) in
     let stands = put-stands a.stamp.0 a.path.now a.content.now ps d.result d.ensures (state_of a.tables.now a.arena.now) o.new.tables o.new.arena o.ensures in
     done nothing no_buffers _ accepted refl stands o.auto.tables o.auto.arena

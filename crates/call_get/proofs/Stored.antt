@@ -136,16 +136,19 @@ module _ (t a : List ℕ) (at base : ℕ) (k : Holds t a at base) where
       record { all = q; size = cc; written = cc }
 
   -- the lengths and the slices of the block that the code takes, where the pairs have n bytes
-  module _ (l : List ℕ) (same : l ≡ ls) (n : ℕ) (e : n ≡ sum_of ls) where
+  module _ (l : List ℕ) (same : l ≡ ls) (n : ℕ) (summed : n ≡ sum_of l) where
+    e : n ≡ sum_of ls
+    e = summed ∙ ap sum_of same
+
     pub pairs_end : base + n ≤ length a
-    pairs_end = let r = k.block in let q = pairs-inside in omega arith
+    pairs_end = omega (arith, k.block, pairs-inside, e)
 
     abbrev front : List ℕ
     front = take (base + n - base) (drop base a)
 
     front-is : front ≡ take (sum_of ls) block
     front-is =
-        let i : base + n - base ≡ sum_of ls = omega arith in
+        let i : base + n - base ≡ sum_of ls = omega (arith, e) in
         ap (λ (j : ℕ). take j (drop base a)) i ∙ sym (take-take (sum_of ls) h.size (drop base a) pairs-inside)
 
     pub front-ok : stored_ok l front ≡ true
@@ -166,7 +169,7 @@ module _ (t a : List ℕ) (at base : ℕ) (k : Holds t a at base) where
 
     -- the data
     pub data-end : base + n + length x.content ≤ length a
-    data-end = let r = k.block in let q = pairs-inside in omega (arith, stored-length)
+    data-end = omega (arith, k.block, pairs-inside, e, stored-length)
 
     data-read : (m : ℕ) → m ≡ length x.content → take (base + n + m - (base + n)) (drop (base + n) a) ≡ x.content
     unfolding stored_at row_at

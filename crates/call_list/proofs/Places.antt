@@ -90,10 +90,10 @@ module _ (t a : List ℕ) (s : State) (h : Stands t a s) (prefix suffix : Bytes)
   abbrev j : ℕ
   j = x.object
 
-  pub place_inside : at + span (head_at (drop at t)) ≤ length t
+  place_inside : at + span (head_at (drop at t)) ≤ length t
   place_inside = row_inside t a s h j at e x.within
 
-  pub place-pairs : sum_of (lengths_at (drop at t)) ≤ (head_at (drop at t)).size
+  place-pairs : sum_of (lengths_at (drop at t)) ≤ (head_at (drop at t)).size
   place-pairs = pairs-inside t a s h j at e x.within
 
   is-listed : is_listed prefix suffix (path_at (drop at t)) ≡ true
@@ -113,8 +113,13 @@ module _ (t a : List ℕ) (s : State) (h : Stands t a s) (prefix suffix : Bytes)
   next-length : length (first_records s prefix suffix (k + 1)) ≡ to + length (record_at (drop at t))
   next-length = let p = w.place in omega (arith, ap length next-records, length-append (first_records s prefix suffix k) (record_at (drop at t)))
 
-  pub put-room : length (list_bytes prefix suffix s) ≤ length b₀ → to + length (record_at (drop at t)) ≤ length b
+  put-room : length (list_bytes prefix suffix s) ≤ length b₀ → to + length (record_at (drop at t)) ≤ length b
   put-room room = let p = w.same in omega (arith, next-length, records-fewer s prefix suffix (k + 1))
+
+  -- what the record's writing asks
+  pub record-fits : length (list_bytes prefix suffix s) ≤ length b₀
+      → (at + span (head_at (drop at t)) ≤ length t) × (to + length (record_at (drop at t)) ≤ length b) × (sum_of (lengths_at (drop at t)) ≤ (head_at (drop at t)).size)
+  record-fits room = (place_inside, put-room room, place-pairs)
 
   pub put_next : (r : ℕ) (b₁ : List ℕ) → k < length (listed prefix suffix s.O)
       → (r ≡ to + length (record_at (drop at t))) × (b₁ ≡ written b to (record_at (drop at t))) → length b₁ ≡ length b → Put s prefix suffix b₀ b₁ (k + 1) r

@@ -29,7 +29,7 @@ fn record_length(tables: &[u8], at: usize) -> u32
     14 + base_number::wide(h.pathlen) as u32 + text_length(h.kind, h.count)
 }
 
-// How many records and bytes it writes in all, and where the rows stand that have a record.
+// How many records and bytes LIST writes in all, and where the rows stand that have a record.
 pub(crate) fn measure_rows(
     memory: WholeMemory,
     prefix: &[u8],

@@ -38,7 +38,7 @@ pub returns-then-objects-ge-OBJECTS_MOST-clause-judged : goal.returns-then-objec
 returns-then-objects-ge-OBJECTS_MOST-clause-judged c u x q is = let a = c.args in room-full a.memory.tables.now a.memory.arena.now c.args.memory.bytes c.args.memory.is_whole u a.here q _ c.read_head-h.ensures _ c.find_object-place.ensures x is c.if-place.false _ c.counts-objects.ensures.objects c.if-objects-ge-OBJECTS_MOST.true
 
 pub returns-clause-judged : goal.returns-clause-judged
-returns-clause-judged c u x q is = let a = c.args in room-new a.memory.tables.now a.memory.arena.now c.args.memory.bytes c.args.memory.is_whole u a.here q _ c.read_head-h.ensures _ c.find_object-place.ensures x is c.if-place.false _ c.counts-objects.ensures.objects (omega (arith, c.if-objects-ge-OBJECTS_MOST.false))
+returns-clause-judged c u x q is = let a = c.args in room-new a.memory.tables.now a.memory.arena.now c.args.memory.bytes c.args.memory.is_whole u a.here q _ c.read_head-h.ensures _ c.find_object-place.ensures x is c.if-place.false _ c.counts-objects.ensures.objects (omega arith)
 
 pub returns-clause-placed : goal.returns-clause-placed
 returns-clause-placed c u x q is = let a = c.args in path-place a.memory.tables.now a.memory.arena.now c.args.memory.bytes c.args.memory.is_whole u a.here q _ c.read_head-h.ensures _ c.find_object-place.ensures x is

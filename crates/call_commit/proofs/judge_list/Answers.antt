@@ -56,7 +56,7 @@ returns-then-reached-next-clause-fits c v x q e =
     let s = state_of a.memory.tables.now a.memory.arena.now in
     let r = c.pass_listed-reached in
     let p = c.pass_parts_from-parts in
-    sym (ordered-list a.memory.tables.now a.memory.arena.now c.args.memory.bytes c.args.memory.is_whole v p.result.count x e (parts-counted a.memory.tables.now a.memory.arena.now a.here c.next_row-first.result c.next_row-first.ensures a.list.now r.result r.ensures p.result p.ensures v x q e) c.next_row-first.result (first-is a.memory.tables.now a.memory.arena.now a.here c.next_row-first.result c.next_row-first.ensures a.list.now r.result r.ensures v q) a.list.now r.result r.ensures p.result (parts_are a.memory.tables.now a.memory.arena.now a.here c.next_row-first.result c.next_row-first.ensures a.list.now r.result r.ensures p.result p.ensures v x q e) c.if-reached-next.true (omega (arith, c.if-list-count.false)))
+    sym (ordered-list a.memory.tables.now a.memory.arena.now c.args.memory.bytes c.args.memory.is_whole v p.result.count x e (parts-counted a.memory.tables.now a.memory.arena.now a.here c.next_row-first.result c.next_row-first.ensures a.list.now r.result r.ensures p.result p.ensures v x q e) c.next_row-first.result (first-is a.memory.tables.now a.memory.arena.now a.here c.next_row-first.result c.next_row-first.ensures a.list.now r.result r.ensures v q) a.list.now r.result r.ensures p.result (parts_are a.memory.tables.now a.memory.arena.now a.here c.next_row-first.result c.next_row-first.ensures a.list.now r.result r.ensures p.result p.ensures v x q e) c.if-reached-next.true (omega arith))
 
 pub returns-then-reached-next-clause-ordered : goal.returns-then-reached-next-clause-ordered
 returns-then-reached-next-clause-ordered c v x q e =
@@ -65,7 +65,7 @@ returns-then-reached-next-clause-ordered c v x q e =
     let r = c.pass_listed-reached in
     let p = c.pass_parts_from-parts in
     let counted = parts-counted a.memory.tables.now a.memory.arena.now a.here c.next_row-first.result c.next_row-first.ensures a.list.now r.result r.ensures p.result p.ensures v x q e in
-    λ z. ordered-numbers s v x e c.next_row-first.result (first-is a.memory.tables.now a.memory.arena.now a.here c.next_row-first.result c.next_row-first.ensures a.list.now r.result r.ensures v q) a.list.now r.result r.ensures p.result (parts_are a.memory.tables.now a.memory.arena.now a.here c.next_row-first.result c.next_row-first.ensures a.list.now r.result r.ensures p.result p.ensures v x q e) c.if-reached-next.true (omega (arith, c.if-list-count.false, counted))
+    λ z. ordered-numbers s v x e c.next_row-first.result (first-is a.memory.tables.now a.memory.arena.now a.here c.next_row-first.result c.next_row-first.ensures a.list.now r.result r.ensures v q) a.list.now r.result r.ensures p.result (parts_are a.memory.tables.now a.memory.arena.now a.here c.next_row-first.result c.next_row-first.ensures a.list.now r.result r.ensures p.result p.ensures v x q e) c.if-reached-next.true (omega (arith, counted))
 
 pub returns-then-reached-next-clause-passed : goal.returns-then-reached-next-clause-passed
 returns-then-reached-next-clause-passed c v x q e =
@@ -84,7 +84,7 @@ number_fits-requires c =
     let s = state_of a.memory.tables.now a.memory.arena.now in
     let o = c.requires.1 in (
       parts-row-place s o.0 c.next_row-first.result (first-part-row s o.0 a.here c.next_row-first.result o.1 c.next_row-first.ensures) o.2,
-      omega (arith, c.if-list-count.false, c.loop-i-test.true),
+      omega arith,
     )
 
 pub returns-then-not-number_fits-clause-unfit : goal.returns-then-not-number_fits-clause-unfit
@@ -92,11 +92,11 @@ returns-then-not-number_fits-clause-unfit c v x q e =
     let a = c.args in
     let s = state_of a.memory.tables.now a.memory.arena.now in
     let r = c.pass_listed-reached in
-    sym (unfit-number x.parts a.list.now c.loop-i.i (omega (arith, c.if-list-count.false, c.loop-i-test.true)) (sym (c.number_fits.ensures v x (first-is a.memory.tables.now a.memory.arena.now a.here c.next_row-first.result c.next_row-first.ensures a.list.now r.result r.ensures v q) e) ∙ not-true _ (ap not c.if-not-number_fits.true)))
+    sym (unfit-number x.parts a.list.now c.loop-i.i (omega arith) (sym (c.number_fits.ensures v x (first-is a.memory.tables.now a.memory.arena.now a.here c.next_row-first.result c.next_row-first.ensures a.list.now r.result r.ensures v q) e) ∙ not-true _ (ap not c.if-not-number_fits.true)))
 
 pub loop-i-preserved : goal.loop-i-preserved
 loop-i-preserved c v x q e =
-    passed-next x.parts c.args.list.now c.loop-i.i (omega (arith, c.if-list-count.false, c.loop-i-test.true)) (c.loop-i.invariant v x q e) (sym (c.number_fits.ensures v x q e) ∙ not-false _ (ap not c.if-not-number_fits.false))
+    passed-next x.parts c.args.list.now c.loop-i.i (omega arith) (c.loop-i.invariant v x q e) (sym (c.number_fits.ensures v x q e) ∙ not-false _ (ap not c.if-not-number_fits.false))
 
 pub returns-clause-fits : goal.returns-clause-fits
 returns-clause-fits c v x q e =
@@ -105,7 +105,7 @@ returns-clause-fits c v x q e =
     let r = c.pass_listed-reached in
     let p = c.pass_parts_from-parts in
     let end : c.loop-i.i ≡ p.result.count = omega arith in
-    sym (fit-list a.memory.tables.now a.memory.arena.now c.args.memory.bytes c.args.memory.is_whole v p.result.count x e (parts-counted a.memory.tables.now a.memory.arena.now a.here c.next_row-first.result c.next_row-first.ensures a.list.now r.result r.ensures p.result p.ensures v x q e) a.list.now (omega (arith, c.if-list-count.false)) (subst (Passed x.parts a.list.now) end (c.loop-i.invariant v x (first-is a.memory.tables.now a.memory.arena.now a.here c.next_row-first.result c.next_row-first.ensures a.list.now r.result r.ensures v q) e)))
+    sym (fit-list a.memory.tables.now a.memory.arena.now c.args.memory.bytes c.args.memory.is_whole v p.result.count x e (parts-counted a.memory.tables.now a.memory.arena.now a.here c.next_row-first.result c.next_row-first.ensures a.list.now r.result r.ensures p.result p.ensures v x q e) a.list.now (omega arith) (subst (Passed x.parts a.list.now) end (c.loop-i.invariant v x (first-is a.memory.tables.now a.memory.arena.now a.here c.next_row-first.result c.next_row-first.ensures a.list.now r.result r.ensures v q) e)))
 
 pub returns-clause-ordered : goal.returns-clause-ordered
 returns-clause-ordered c v x q e = λ z. absurd (false≢true z)

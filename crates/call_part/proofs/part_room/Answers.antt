@@ -88,7 +88,7 @@ returns-in_err-arena_judge-2-clause-judged c =
     let k = c.counts-parts in
     let x = c.in_err-arena_judge-2.field-0.0 in
     let is : c.from_residual-in_err-arena_judge-2.result ≡ Err x = search rules in
-    rw is (judged-new a.memory.whole.tables.now a.memory.whole.arena.now a.content.now a.memory.whole.bytes a.memory.whole.is_whole a.upload.0 a.number.0 c.requires.is_open c.find_part_after-place.result told c.rows_end-end.result c.rows_end-end.ensures c.if-place.false k.result.parts k.ensures.parts c.if-parts-ge-PARTS_MOST.false (number_of x) c.in_err-arena_judge-2.ensures)
+    rw is (judged-new a.memory.whole.tables.now a.memory.whole.arena.now a.content.now a.memory.whole.bytes a.memory.whole.is_whole a.upload.0 a.number.0 c.requires.is_open c.find_part_after-place.result told c.rows_end-end.result c.rows_end-end.ensures c.if-place.false k.result.parts k.ensures.parts (omega arith) (number_of x) c.in_err-arena_judge-2.ensures)
 
 pub returns-clause-judged : goal.returns-clause-judged
 returns-clause-judged c =
@@ -96,7 +96,7 @@ returns-clause-judged c =
     let s = state_of a.memory.whole.tables.now a.memory.whole.arena.now in
     let told : (x : Upload) → lookup by_number a.upload.0 s.U ≡ some x → c.find_part_after-place.result ≡ part_place s a.upload.0 x a.number.0 = λ x is_open. c.find_part_after-place.ensures a.upload.0 x (upload-lookup s a.upload.0 a.opened c.requires.opened) is_open in
     let k = c.counts-parts in
-    judged-new a.memory.whole.tables.now a.memory.whole.arena.now a.content.now a.memory.whole.bytes a.memory.whole.is_whole a.upload.0 a.number.0 c.requires.is_open c.find_part_after-place.result told c.rows_end-end.result c.rows_end-end.ensures c.if-place.false k.result.parts k.ensures.parts c.if-parts-ge-PARTS_MOST.false 0 c.in_ok-arena_judge-2.ensures
+    judged-new a.memory.whole.tables.now a.memory.whole.arena.now a.content.now a.memory.whole.bytes a.memory.whole.is_whole a.upload.0 a.number.0 c.requires.is_open c.find_part_after-place.result told c.rows_end-end.result c.rows_end-end.ensures c.if-place.false k.result.parts k.ensures.parts (omega arith) 0 c.in_ok-arena_judge-2.ensures
 
 pub returns-clause-placed : goal.returns-clause-placed
 returns-clause-placed c =

@@ -13,8 +13,8 @@ pub struct RowCounts {
     pub rows: usize,
 }
 
-// The counts, as the header has them.
 impl WholeMemory<'_> {
+    // The counts, as the header has them.
     pub fn counts(self) -> RowCounts
         ensures { CountsOf (state_of self.entry.tables.now self.entry.arena.now) result }
     {

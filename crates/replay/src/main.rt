@@ -99,7 +99,7 @@ fn main(rt: HostRuntime) -> io::Result<()> {
     // the results of a piece's lines, two bytes each, have room in `out`
     let mut piece = room::<32768>();
     let mut out = room::<65536>();
-    call_fresh::fresh(&mut tables, &mut arena);
+    let _ = call_fresh::fresh(&mut tables, &mut arena);
     each_piece(
         &rt,
         &mut tables,

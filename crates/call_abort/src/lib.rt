@@ -37,7 +37,8 @@ pub fn abort_whole(
     upload: UploadNumber,
 ) -> Result<(), Refusal>
     requires { Scanned tables.old arena.old offsets }
-    ensures { MadeWhole (ABORT upload.0) (memory_of tables.old arena.old) (done_reply result) (memory_of tables.new arena.new) }
+    ensures { MadeWhole (ABORT upload.0) (memory_of tables.old arena.old) (done_reply result)
+        (memory_of tables.new arena.new) }
 {
     let memory = ScannedMemory::of(tables, arena, offsets);
     let here = abort_judge(memory, upload)?;
@@ -48,7 +49,8 @@ pub fn abort_whole(
 
 // ABORT: an open upload and its parts are removed.
 pub fn abort(tables: &mut [u8], arena: &mut [u8], upload: UploadNumber) -> Result<(), Refusal>
-    ensures { Made (ABORT upload.0) (memory_of tables.old arena.old) (done_reply result) (memory_of tables.new arena.new) }
+    ensures { Made (ABORT upload.0) (memory_of tables.old arena.old) (done_reply result)
+        (memory_of tables.new arena.new) }
 {
     let offsets = call_contract::offsets_of(tables, arena)?;
     abort_whole(tables, arena, offsets, upload)

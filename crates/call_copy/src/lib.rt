@@ -29,8 +29,8 @@ struct CopyRoom {
     end: RowPlace,
 }
 
-// Where source and copy stand of a COPY whose arguments keep their rules, or why it is refused: not found, table full or
-// arena full.
+// Where source and copy stand of a COPY whose arguments keep their rules, or why it is refused: not found, table full
+// or arena full.
 fn source_judge(
     memory: ScannedMemory,
     stamp: Stamp,
@@ -39,8 +39,8 @@ fn source_judge(
 ) -> Result<CopyRoom, Refusal>
     ensures judged { result_number result ≡ result_of (source_outcome (length memory.entry.whole.arena.now)
         (state_of memory.entry.whole.tables.now memory.entry.whole.arena.now) stamp.0 source.now destination.now) }
-    ensures placed { IfOk result (λ room. CopyPlaced memory.entry.whole.tables.now memory.entry.whole.arena.now source.now
-        destination.now room.source room.place room.end) }
+    ensures placed { IfOk result (λ room. CopyPlaced memory.entry.whole.tables.now memory.entry.whole.arena.now
+        source.now destination.now room.source room.place room.end) }
 {
     let looked_up = memory.whole.find_two(source, destination);
     let from = looked_up.first;
@@ -67,8 +67,8 @@ fn copy_judge(
 ) -> Result<CopyRoom, Refusal>
     ensures judged { result_number result ≡ result_of (outcome (COPY stamp.0 source.now destination.now)
         (memory_of memory.entry.whole.tables.now memory.entry.whole.arena.now)) }
-    ensures placed { IfOk result (λ room. CopyPlaced memory.entry.whole.tables.now memory.entry.whole.arena.now source.now
-        destination.now room.source room.place room.end) }
+    ensures placed { IfOk result (λ room. CopyPlaced memory.entry.whole.tables.now memory.entry.whole.arena.now
+        source.now destination.now room.source room.place room.end) }
 {
     if !names::stamp_ok(stamp.0)
         || !names::request_path_ok(source)
@@ -103,7 +103,8 @@ pub fn copy_whole(
     destination: &[u8],
 ) -> Result<(), Refusal>
     requires { Scanned tables.old arena.old offsets }
-    ensures { MadeWhole (COPY stamp.0 source.now destination.now) (memory_of tables.old arena.old) (done_reply result) (memory_of tables.new arena.new) }
+    ensures { MadeWhole (COPY stamp.0 source.now destination.now) (memory_of tables.old arena.old) (done_reply result)
+        (memory_of tables.new arena.new) }
 {
     let memory = ScannedMemory::of(tables, arena, offsets);
     let room = copy_judge(memory, stamp, source, destination)?;
@@ -130,7 +131,8 @@ pub fn copy(
     source: &[u8],
     destination: &[u8],
 ) -> Result<(), Refusal>
-    ensures { Made (COPY stamp.0 source.now destination.now) (memory_of tables.old arena.old) (done_reply result) (memory_of tables.new arena.new) }
+    ensures { Made (COPY stamp.0 source.now destination.now) (memory_of tables.old arena.old) (done_reply result)
+        (memory_of tables.new arena.new) }
 {
     let offsets = call_contract::offsets_of(tables, arena)?;
     copy_whole(tables, arena, offsets, stamp, source, destination)

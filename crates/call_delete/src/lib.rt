@@ -32,8 +32,8 @@ fn delete_judge(memory: WholeMemory, path: &[u8]) -> Result<Lookup, Refusal>
     Ok(place)
 }
 
-// DELETE over whole memory. The end of the rows is known where they stand at `offsets`; else it is searched for from the
-// object on.
+// DELETE over whole memory. The end of the rows is known where they stand at `offsets`; else it is searched for from
+// the object on.
 fn delete_known(
     tables: &mut [u8],
     arena: &mut [u8],
@@ -42,7 +42,8 @@ fn delete_known(
 ) -> Result<(), Refusal>
     requires is_whole { whole tables.old arena.old ≡ true }
     requires scanned { IfSome offsets (λ o. Scanned tables.old arena.old o) }
-    ensures { MadeWhole (Call.DELETE path.now) (memory_of tables.old arena.old) (done_reply result) (memory_of tables.new arena.new) }
+    ensures { MadeWhole (Call.DELETE path.now) (memory_of tables.old arena.old) (done_reply result)
+        (memory_of tables.new arena.new) }
 {
     let memory = WholeMemory::of(tables, arena);
     let place = delete_judge(memory, path)?;
@@ -57,14 +58,16 @@ fn delete_known(
 // DELETE over whole memory that was not scanned.
 pub fn delete_whole(tables: &mut [u8], arena: &mut [u8], path: &[u8]) -> Result<(), Refusal>
     requires { whole tables.old arena.old ≡ true }
-    ensures { MadeWhole (Call.DELETE path.now) (memory_of tables.old arena.old) (done_reply result) (memory_of tables.new arena.new) }
+    ensures { MadeWhole (Call.DELETE path.now) (memory_of tables.old arena.old) (done_reply result)
+        (memory_of tables.new arena.new) }
 {
     delete_known(tables, arena, None, path)
 }
 
 // DELETE: the object at path is taken out.
 pub fn delete(tables: &mut [u8], arena: &mut [u8], path: &[u8]) -> Result<(), Refusal>
-    ensures { Made (Call.DELETE path.now) (memory_of tables.old arena.old) (done_reply result) (memory_of tables.new arena.new) }
+    ensures { Made (Call.DELETE path.now) (memory_of tables.old arena.old) (done_reply result)
+        (memory_of tables.new arena.new) }
 {
     let offsets = call_contract::offsets_of(tables, arena)?;
     delete_known(tables, arena, Some(offsets), path)

@@ -26,8 +26,8 @@ fn put_judge(
     ensures judged { result_number result
         ≡ result_of (outcome (Call.PUT stamp.0 path.now content.now (pair_list pairs.now))
         (memory_of memory.entry.whole.tables.now memory.entry.whole.arena.now)) }
-    ensures placed { IfOk result (λ room. ObjectPlaced memory.entry.whole.tables.now memory.entry.whole.arena.now path.now
-        room.place room.end) }
+    ensures placed { IfOk result (λ room. ObjectPlaced memory.entry.whole.tables.now memory.entry.whole.arena.now
+        path.now room.place room.end) }
 {
     if !names::stamp_ok(stamp.0) || !names::new_path_ok(path) || !pairs_kept::judge(pairs) {
         return Err(Refusal::BadRequest);

@@ -32,8 +32,8 @@ pub struct Room {
     pub end: RowPlace,
 }
 
-// An object of n bytes at the path whose lookup answered `place`, as PUT and COPY put it: table full, arena full, or where it
-// goes. The rows end at `end`; the bytes of the old object are free.
+// An object of n bytes at the path whose lookup answered `place`, as PUT and COPY put it: table full, arena full, or
+// where it goes. The rows end at `end`; the bytes of the old object are free.
 pub fn object_room(
     memory: WholeMemory,
     place: Lookup,
@@ -64,9 +64,10 @@ pub fn object_room(
 
 // The same of a path, in scanned memory.
 pub fn object_judge(memory: ScannedMemory, path: &[u8], n: usize) -> Result<Room, Refusal>
-    ensures judged { PutResult memory.entry.whole.tables.now memory.entry.whole.arena.now path.now n (result_number result) }
-    ensures placed { IfOk result (λ room. ObjectPlaced memory.entry.whole.tables.now memory.entry.whole.arena.now path.now
-        room.place room.end) }
+    ensures judged { PutResult memory.entry.whole.tables.now memory.entry.whole.arena.now path.now n
+        (result_number result) }
+    ensures placed { IfOk result (λ room. ObjectPlaced memory.entry.whole.tables.now memory.entry.whole.arena.now
+        path.now room.place room.end) }
 {
     let place = memory.whole.find_object(path);
     let end = mem_find_uploads::rows_end(memory);

@@ -19,7 +19,7 @@ pub(crate) fn read_upload(memory: WholeMemory, here: RowPlace) -> OpenUpload
     ensures { OfOpen memory.entry.tables.now memory.entry.arena.now (number_at memory.entry.tables.now here)
         (λ s x. RowRead memory.entry.tables.now s here x result) }
 {
-    let h = mem_row::read_head(memory.tables, here.at);
+    let h = memory.row_head(here);
     let parts = mem_find_uploads::pass_parts(memory, here);
     let next = parts.next;
     let from = here.at + mem_row::HEAD_LENGTH;

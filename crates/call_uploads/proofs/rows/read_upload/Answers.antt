@@ -20,8 +20,8 @@ overflow_cast-result-2 c =
     let stands = whole-stands m.tables.now m.arena.now m.bytes m.is_whole in
     omega (arith, parts-fit m.tables.now m.arena.now _ stands number c.requires.0 c.pass_parts-parts.result (λ x. c.pass_parts-parts.ensures number x c.requires.1))
 
-pub returns : goal.returns
-returns c x f =
+pub returns-clause-read : goal.returns-clause-read
+returns-clause-read c x f =
     let m = c.args.memory in
     let number = number_at m.tables.now c.args.here in
     row_read m.tables.now (state_of m.tables.now m.arena.now) c.args.here x c.row_head-h.result c.pass_parts-parts.result c.row_head-h.ensures.read (c.pass_parts-parts.ensures number x c.requires.1 f)

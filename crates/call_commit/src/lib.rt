@@ -64,25 +64,24 @@ fn pass_listed(memory: WholeMemory, first: RowPlace, list: &[u8]) -> RowPlace
     requires { IsRowPlace (rows_in memory.tables.now memory.arena.now) first }
     ensures { result ≡ after_listed list.now (rows_in memory.entry.tables.now memory.entry.arena.now) first.row }
 {
-    let tables = memory.tables;
     let rows = memory.counts().rows;
     let numbers = list.len() / 2;
-    let mut row = first.row;
-    let mut at = first.at;
-    let mut base = first.base;
+    let mut here = first;
     for i in 0..numbers {
-        if rows <= row {
-            return RowPlace { row, at, base };
+        if rows <= here.row {
+            return here;
         }
-        let h = mem_row::read_head(tables, at);
+        let h = memory.row_head(here);
         if !is_part(h, base_number::get_u16(list, 2 * i)) {
-            return RowPlace { row, at, base };
+            return here;
         }
-        at += mem_row::HEAD_LENGTH;
-        base += h.size as usize;
-        row += 1;
+        here = RowPlace {
+            row: here.row + 1,
+            at: here.at + mem_row::HEAD_LENGTH,
+            base: here.base + h.size as usize,
+        };
     }
-    RowPlace { row, at, base }
+    here
 }
 
 // What an accepted list has: whether the parts' numbers stand in their order, and the pass over the parts.
@@ -139,12 +138,10 @@ fn commit_room(memory: WholeMemory, here: RowPlace) -> Result<Lookup, Refusal>
         (y : Object) → result_number result ≡ cond (counted (without_upload (with_object s x.path y) u)) 0 (code tableFull)) }
     ensures placed { OfOpenAt memory.entry.tables.now memory.entry.arena.now here (λ s u x. IfOk result (λ place. place ≡ object_place s x.path)) }
 {
-    let tables = memory.tables;
-    let at = here.at;
-    let h = mem_row::read_head(tables, at);
-    let from = at + mem_row::HEAD_LENGTH;
+    let h = memory.row_head(here);
+    let from = here.at + mem_row::HEAD_LENGTH;
     let to = from + h.pathlen as usize;
-    let place = memory.find_object(&tables[from..to]);
+    let place = memory.find_object(&memory.tables[from..to]);
     if place.found {
         return Ok(place);
     }

@@ -31,8 +31,9 @@ use Rattle.mem_layout.proofs.WholeLaws.{whole-stands}
 use Rattle.mem_find.specs.declared.Lookup.{Lookup}
 use Rattle.mem_layout.proofs.RowCounts.{length-contents}
 use Rattle.mem_find.specs.declared.RowPlace.{RowPlace}
-use Rattle.mem_find.specs.Places.{place_after, before_part, after_part, part_place, upload_place}
-use Rattle.mem_find.specs.Known.{rows_in}
+use Rattle.mem_find.specs.Places.{place_of, place_after, before_part, after_part, part_place, upload_place}
+use Rattle.mem_find.specs.Known.{rows_in, OfOpenAt}
+use Rattle.mem_find_uploads.proofs.Answers.{upload-lookup}
 use Rattle.mem_find.proofs.Splits.{part-found}
 use Rattle.mem_find.proofs.RowsAt.{At, row-at}
 use Rattle.mem_find.proofs.Found.{is-some, is_none}
@@ -90,7 +91,7 @@ module _ (A : ℕ) (s : State) (v : Valid A s) (u n : ℕ) (d : Bytes) (x : Uplo
 
 -- the same over whole memory, by what the readers give
 module _ (t a d : List ℕ) (b : AreBytes t) (w : whole t a ≡ true) (u n : ℕ) (is_open : is_some (lookup by_number u (state_of t a).U) ≡ true)
-    (place : Lookup) (place_is : (x : Upload) → lookup by_number u (state_of t a).U ≡ some x → place ≡ part_place (state_of t a) u x n)
+    (opened : Lookup) (opened-is : opened ≡ upload_place (state_of t a) u) (place : Lookup) (place-there : OfOpenAt t a (place_of opened) (λ s v x. place ≡ part_place s v x n))
     (end : RowPlace) (end-is : end ≡ place_after (rows_in t a)) where
   abbrev m : State
   m = state_of t a
@@ -110,6 +111,10 @@ module _ (t a d : List ℕ) (b : AreBytes t) (w : whole t a ≡ true) (u n : ℕ
 
   pub held-inside : end.base ≤ length a
   held-inside = let r = h.valid.room in omega (arith, bytes-are)
+
+  -- where the part of the open upload goes
+  pub place_is : (x : Upload) → lookup by_number u m.U ≡ some x → place ≡ part_place m u x n
+  place_is x f = place-there u x (upload-lookup m u opened opened-is) f
 
   place_at : place ≡ part_place m u x₀ n
   place_at = place_is x₀ open₀

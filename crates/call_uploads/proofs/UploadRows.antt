@@ -20,22 +20,17 @@ use Rattle.machine.proofs.MapSums.{total-share}
 use Rattle.mem_row.specs.declared.Head.{Head}
 use Rattle.mem_row.specs.Row.{Row, encode_rows, head_at, head_of, head_length, span}
 use Rattle.mem_layout.specs.Header.{header_length}
-use Rattle.mem_layout.specs.Memory.{object_rows, upload_row, part_rows, upload_rows, rows_of, Stands, whole, state_of}
-use Rattle.mem_layout.proofs.WholeLaws.{whole-stands}
-use Rattle.base_number.specs.Number.{AreBytes}
+use Rattle.mem_layout.specs.Memory.{object_rows, upload_row, part_rows, upload_rows, rows_of, Stands}
 use Rattle.mem_layout.proofs.TestLaws.{stored-path-length}
 use Rattle.mem_find.specs.declared.RowPlace.{RowPlace}
 use Rattle.mem_find.specs.declared.PassedParts.{PassedParts}
 use Rattle.mem_find.specs.Places.{before_upload, upload_row_of, first_upload_row, before_parts, through_parts, after_upload, passed_parts}
-use Rattle.mem_find.specs.RowPlaces.{row_place_at, IsRow}
-use Rattle.mem_find.specs.Known.{OfOpenAt}
-use Rattle.mem_find_uploads.proofs.Walk as walk
-use Rattle.mem_find_uploads.proofs.Walk.{Reached, place-reached, row-turn}
+use Rattle.mem_find.specs.RowPlaces.{row_place_at}
 use Rattle.mem_find.proofs.RowsAt.{At, row-at}
 use Rattle.mem_find.proofs.Splits.{upload-rows-append, upload-found, parts-after}
-use Rattle.mem_find_uploads.proofs.Answers.{place_after_lem, placed-after, open-row-place}
+use Rattle.mem_find_uploads.proofs.Answers.{place_after_lem, placed-after}
 use Rattle.call_uploads.specs.declared.rows.OpenUpload.{OpenUpload}
-use Rattle.call_uploads.specs.Rows.{upload_row_place, number_at, IsUpload, RowRead}
+use Rattle.call_uploads.specs.Rows.{upload_row_place, RowRead}
 use Rattle.call_uploads.specs.Records.{path_from, record_of, record_at}
 
 abbrev pub blank : ℕ × Upload
@@ -57,29 +52,6 @@ parts-fit t a s h u e r passed = go (lookup by_number u s.U) refl e
     go : (o : Option Upload) → lookup by_number u s.U ≡ o → is_some o ≡ true → r.count ≤ 256
     go none f is = absurd (false≢true is)
     go (some x) f is = omega (arith, ap (λ (p : PassedParts). p.count) (passed x f), few-parts t a s h u x f)
-
--- the row of an open upload in whole memory
-module _ (t a : List ℕ) (b : AreBytes t) (here : RowPlace) (z : whole t a ≡ true) (w : IsUpload t a here) where
-  abbrev s₀ : State
-  s₀ = state_of t a
-
-  abbrev stands : Stands t a s₀
-  stands = whole-stands t a b z
-
-  pub a-row : IsRow (rows_of s₀) here
-  a-row = open-row-place s₀ (number_at t here) here w.1 w.0
-
-  reached : Reached s₀ here.row here.at here.base
-  reached = place-reached s₀ here a-row.0 (let l = a-row.1 in omega arith)
-
-  pub head-stands : here.at + head_length ≤ length t
-  head-stands = walk.row_inside t a s₀ stands here.row here.at here.base reached a-row.1
-
-  pub row-ends : (h : Head) → h ≡ head_at (drop here.at t) → here.at + span h ≤ length t
-  row-ends h e = (row-turn t a s₀ stands here.row here.at here.base reached a-row.1 h e).inside
-
-  pub parts-few : (r : PassedParts) → OfOpenAt t a here (λ s u x. r ≡ passed_parts s u x) → r.count ≤ 256
-  parts-few r e = parts-fit t a s₀ stands (number_at t here) w.0 r (λ x. e (number_at t here) x w.1)
 
 -- what is read of an upload's row, and of its parts'
 pub row_read : (t : List ℕ) (s : State) (here : RowPlace) (x : Upload) (h : Head) (p : PassedParts) → h ≡ head_at (drop here.at t) → p ≡ passed_parts s (head_at (drop here.at t)).number x
@@ -127,8 +99,6 @@ module _ (t a : List ℕ) (s : State) (h : Stands t a s) (u : ℕ) (x : Upload) 
 
 -- r is the upload at i, as its row and its parts' rows tell it
 pub record Entry (t : List ℕ) (s : State) (i : ℕ) (r : OpenUpload) : Type 0 where
-  pub ordered : r.from ≤ r.to
-  pub inside : r.to ≤ length t
   pub path : take (r.to - r.from) (drop r.from t) ≡ (get_or s.U i blank).1.path
   pub short : length (get_or s.U i blank).1.path ≤ 128
   pub parts : r.parts ≡ length (get_or s.U i blank).1.parts
@@ -193,8 +163,6 @@ module _ (t a : List ℕ) (s : State) (h : Stands t a s) (i : ℕ) (here : RowPl
       let n = k.to in
       let f = k.from in
       record {
-        ordered = omega arith;
-        inside = omega (arith, row_inside t a s h u x found at at_place);
         path = ap₂ (λ (m j : ℕ). take (m - j) (drop j t)) n f ∙ ap (λ (m : ℕ). take m (drop (at + head_length) t)) (add-sub_cancel_left (at + head_length) (head_at (drop at t)).pathlen) ∙ path-here t a s h u x found at at_place;
         short = path-short t a s h u x found at at_place;
         parts = k.parts;

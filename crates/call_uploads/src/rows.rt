@@ -1,4 +1,5 @@
 // The rows of uploads, in order.
+ghost use Rattle.std.specs.Prelude.{◌≤◌, length};
 ghost use Rattle.mem_find.specs.Known.{OfOpen};
 ghost use Rattle.call_uploads.specs.Rows.{number_at, IsUpload, RowRead};
 
@@ -16,10 +17,11 @@ pub struct OpenUpload {
 // The upload whose row stands there.
 pub(crate) fn read_upload(memory: WholeMemory, here: RowPlace) -> OpenUpload
     requires { IsUpload memory.tables.now memory.arena.now here }
-    ensures { OfOpen memory.entry.tables.now memory.entry.arena.now (number_at memory.entry.tables.now here)
+    ensures inside { (result.from ≤ result.to) × (result.to ≤ length memory.entry.tables.now) }
+    ensures read { OfOpen memory.entry.tables.now memory.entry.arena.now (number_at memory.entry.tables.now here)
         (λ s x. RowRead memory.entry.tables.now s here x result) }
 {
-    let h = mem_row::read_head(memory.tables, here.at);
+    let h = memory.row_head(here);
     let parts = mem_find_uploads::pass_parts(memory, here);
     let next = parts.next;
     let from = here.at + mem_row::HEAD_LENGTH;

@@ -4,4 +4,4 @@ use Rattle.call_commit.proofs.Ordered.{Walked}
 use Rattle.call_commit.proofs.pass_listed.Given as goal
 
 abbrev pub invariant-loop-i : goal.invariant-loop-i
-invariant-loop-i l = Walked (state_of l.memory.tables.now l.memory.arena.now) l.initial.row l.list l.i l.row l.at l.base
+invariant-loop-i l = Walked (state_of l.memory.tables.now l.memory.arena.now) l.initial.here.row l.list l.i l.here

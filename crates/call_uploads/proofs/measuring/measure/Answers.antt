@@ -22,33 +22,6 @@ read_upload-u-requires c =
     let r = upload-here a.memory.whole.tables.now a.memory.whole.arena.now c.args.memory.whole.bytes c.args.memory.whole.is_whole _ _ _ _ _ l.invariant.0 _ c.counts-uploads.ensures.uploads c.loop-i-test.true in
     (r.open_here, r.place)
 
-pub slice_bounds-path-count : goal.slice_bounds-path-count
-slice_bounds-path-count c =
-    let a = c.args in
-    let l = c.loop-i in
-    let r = upload-here a.memory.whole.tables.now a.memory.whole.arena.now c.args.memory.whole.bytes c.args.memory.whole.is_whole _ _ _ _ _ l.invariant.0 _ c.counts-uploads.ensures.uploads c.loop-i-test.true in
-    let u = c.read_upload-u in
-    let it = r.read u.result u.ensures in
-    omega arith
-
-pub slice_bounds-path-start : goal.slice_bounds-path-start
-slice_bounds-path-start c =
-    let a = c.args in
-    let l = c.loop-i in
-    let r = upload-here a.memory.whole.tables.now a.memory.whole.arena.now c.args.memory.whole.bytes c.args.memory.whole.is_whole _ _ _ _ _ l.invariant.0 _ c.counts-uploads.ensures.uploads c.loop-i-test.true in
-    let u = c.read_upload-u in
-    let it = r.read u.result u.ensures in
-    omega arith
-
-pub slice_bounds-path-end : goal.slice_bounds-path-end
-slice_bounds-path-end c =
-    let a = c.args in
-    let l = c.loop-i in
-    let r = upload-here a.memory.whole.tables.now a.memory.whole.arena.now c.args.memory.whole.bytes c.args.memory.whole.is_whole _ _ _ _ _ l.invariant.0 _ c.counts-uploads.ensures.uploads c.loop-i-test.true in
-    let u = c.read_upload-u in
-    let it = r.read u.result u.ensures in
-    omega arith
-
 pub put_note-requires : goal.put_note-requires
 put_note-requires c =
     let a = c.args in
@@ -70,7 +43,7 @@ overflow_cast-bytes c =
     let l = c.loop-i in
     let r = upload-here a.memory.whole.tables.now a.memory.whole.arena.now c.args.memory.whole.bytes c.args.memory.whole.is_whole _ _ _ _ _ l.invariant.0 _ c.counts-uploads.ensures.uploads c.loop-i-test.true in
     let u = c.read_upload-u in
-    let it = r.read u.result u.ensures in
+    let it = r.read u.result u.ensures.read in
     omega (arith, l.invariant.0.small, it.short, ap length it.path)
 
 pub overflow_add-bytes : goal.overflow_add-bytes
@@ -79,7 +52,7 @@ overflow_add-bytes c =
     let l = c.loop-i in
     let r = upload-here a.memory.whole.tables.now a.memory.whole.arena.now c.args.memory.whole.bytes c.args.memory.whole.is_whole _ _ _ _ _ l.invariant.0 _ c.counts-uploads.ensures.uploads c.loop-i-test.true in
     let u = c.read_upload-u in
-    let it = r.read u.result u.ensures in
+    let it = r.read u.result u.ensures.read in
     omega (arith, l.invariant.0.small, it.short, ap length it.path)
 
 pub overflow_add-bytes-then-begins_with : goal.overflow_add-bytes-then-begins_with
@@ -88,7 +61,7 @@ overflow_add-bytes-then-begins_with c =
     let l = c.loop-i in
     let r = upload-here a.memory.whole.tables.now a.memory.whole.arena.now c.args.memory.whole.bytes c.args.memory.whole.is_whole _ _ _ _ _ l.invariant.0 _ c.counts-uploads.ensures.uploads c.loop-i-test.true in
     let u = c.read_upload-u in
-    let it = r.read u.result u.ensures in
+    let it = r.read u.result u.ensures.read in
     omega (arith, l.invariant.0.small, it.short, ap length it.path)
 
 pub loop-i-preserved : goal.loop-i-preserved
@@ -97,7 +70,7 @@ loop-i-preserved c =
     let l = c.loop-i in
     let r = upload-here a.memory.whole.tables.now a.memory.whole.arena.now c.args.memory.whole.bytes c.args.memory.whole.is_whole _ _ _ _ _ l.invariant.0 _ c.counts-uploads.ensures.uploads c.loop-i-test.true in
     let u = c.read_upload-u in
-    let it = r.read u.result u.ensures in
+    let it = r.read u.result u.ensures.read in
     let few = l.invariant.0.few in
     elim c.if-begins_with.branch [
       | then-begins_with w ↦ rw (w.records-is, w.bytes-is, w.notes-is, w.put_note.ensures) (

@@ -20,6 +20,7 @@ use Rattle.pairs_stored.specs.Stored.{lengths_of, bytes_of, pair_lengths, pair_b
 use Rattle.pairs_write.specs.Picking.{next_above, picked_at, IsPick, Next}
 use Rattle.pairs_write.proofs.Picking.{first, above, next-first, above-all, above-middle}
 
+-- no pair is not a pair
 none-some : {X : Type 0} {x : X} → None ≡ Some x → ⊥
 none-some h = let z : ◌≡◌ {A = ℕ} 0 1 = cc in omega arith
 

@@ -1,7 +1,7 @@
 -- The kept pairs written to memory in the map's order. Assumes nothing.
 use Prim.Native.Nat.{ℕ, ◌+◌, ◌≤◌, ◌<◌}
 use mathlib.Core.Path.{◌≡◌, refl, sym, ap, ap₂, ◌∙◌, subst}
-use mathlib.Core.Bool.{Bool, true, false}
+use mathlib.Core.Bool.{Bool, true}
 use mathlib.Core.List.{List, [], ◌∷◌, ◌++◌, append_assoc, append-nil}
 use Rattle.std.specs.Prelude.{Option, Some, None}
 use native.Mathlib.Omega.{arith}
@@ -20,6 +20,7 @@ use Rattle.pairs_stored.specs.Stored.{lengths_of, bytes_of, pair_lengths, pair_b
 use Rattle.pairs_write.specs.Picking.{next_above, picked_at, IsPick, Next}
 use Rattle.pairs_write.proofs.Picking.{first, above, next-first, above-all, above-middle}
 
+-- no pair is not a pair
 none-some : {X : Type 0} {x : X} → None ≡ Some x → ⊥
 none-some h = let z : ◌≡◌ {A = ℕ} 0 1 = cc in omega arith
 

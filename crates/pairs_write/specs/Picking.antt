@@ -33,7 +33,9 @@ IsPick bs pick = IfSome pick (λ at. (at ≤ length bs) × (front_fits (drop at 
 
 -- the better of the pair at `at` and the one that is picked
 pub record Better (bs last : Bytes) (pick : Option ℕ) (at : ℕ) (r : Option ℕ) : Type 0 where
-  pub picked : picked_at bs r ≡ cond (is_better last (drop at bs) (picked_at bs pick)) (Some (front_pair (drop at bs))) (picked_at bs pick)
+  pub picked :
+      picked_at bs r
+      ≡ cond (is_better last (drop at bs) (picked_at bs pick)) (Some (front_pair (drop at bs))) (picked_at bs pick)
   pub is : IsPick bs r
 
 -- the kept pair with the smallest key above the last, if there is one

@@ -5,7 +5,7 @@ ghost use Rattle.machine.specs.Pairs.{every, pair_ok, pair_map, front_fits, pair
 ghost use Rattle.pairs_stored.specs.Stored.{pair_lengths, pair_bytes};
 ghost use Rattle.pairs_write.specs.Picking.{IsPick, Better, Next};
 
-// The pair at `at`, if it is kept, with a key above `last` and not above that of the pair at `pick`; else the one at `pick`.
+// The pair at `at` if it is kept, its key above `last` and not above that of the one at `pick`; else the one at `pick`.
 fn better(pairs: &[u8], last: &[u8], pick: Option<usize>, at: usize) -> Option<usize>
     requires { (at < length pairs.now) × (front_fits (drop at pairs.now) ≡ true) × IsPick pairs.now pick }
     ensures { Better pairs.now last.now pick at result }

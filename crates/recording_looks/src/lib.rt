@@ -38,7 +38,13 @@ pub fn get_line(
 }
 
 // The rest of a line that begins with "(head", which ends at `at`; b is an answer buffer that it does not have.
-pub fn head_line(tables: &[u8], arena: &[u8], line: &[u8], at: usize, pairs: &mut [u8]) -> Result<Metadata, Refusal>
+pub fn head_line(
+    tables: &[u8],
+    arena: &[u8],
+    line: &[u8],
+    at: usize,
+    pairs: &mut [u8],
+) -> Result<Metadata, Refusal>
     requires { length line.now ≤ 4096 }
     ensures { (b : Bytes) → Replayed (whole (path_rest entry.head (drop at line.now)))
         b pairs.old

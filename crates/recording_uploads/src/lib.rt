@@ -10,7 +10,12 @@ ghost use Rattle.recording_line.specs.Replayed.{ReplayedAlone};
 use call_types::{Etag, PartNumber, Refusal, Stamp, UploadNumber};
 
 // The rest of a line that begins with "(initiate", which ends at `at`.
-pub fn initiate_line(tables: &mut [u8], arena: &mut [u8], line: &[u8], at: usize) -> Result<UploadNumber, Refusal>
+pub fn initiate_line(
+    tables: &mut [u8],
+    arena: &mut [u8],
+    line: &[u8],
+    at: usize,
+) -> Result<UploadNumber, Refusal>
     requires { length line.now ≤ 4096 }
     ensures { ReplayedAlone (whole (initiate_rest (drop at line.now)))
         (memory tables.old arena.old)
@@ -33,7 +38,12 @@ pub fn initiate_line(tables: &mut [u8], arena: &mut [u8], line: &[u8], at: usize
 }
 
 // The rest of a line that begins with "(part", which ends at `at`.
-pub fn part_line(tables: &mut [u8], arena: &mut [u8], line: &[u8], at: usize) -> Result<Etag, Refusal>
+pub fn part_line(
+    tables: &mut [u8],
+    arena: &mut [u8],
+    line: &[u8],
+    at: usize,
+) -> Result<Etag, Refusal>
     requires { length line.now ≤ 4096 }
     ensures { ReplayedAlone (whole (part_rest (drop at line.now)))
         (memory tables.old arena.old)
@@ -61,7 +71,12 @@ pub fn part_line(tables: &mut [u8], arena: &mut [u8], line: &[u8], at: usize) ->
 }
 
 // The rest of a line that begins with "(commit", which ends at `at`.
-pub fn commit_line(tables: &mut [u8], arena: &mut [u8], line: &[u8], at: usize) -> Result<(), Refusal>
+pub fn commit_line(
+    tables: &mut [u8],
+    arena: &mut [u8],
+    line: &[u8],
+    at: usize,
+) -> Result<(), Refusal>
     requires { length line.now ≤ 4096 }
     ensures { ReplayedAlone (whole (commit_rest (drop at line.now)))
         (memory tables.old arena.old)
@@ -80,7 +95,12 @@ pub fn commit_line(tables: &mut [u8], arena: &mut [u8], line: &[u8], at: usize) 
 }
 
 // The rest of a line that begins with "(abort", which ends at `at`.
-pub fn abort_line(tables: &mut [u8], arena: &mut [u8], line: &[u8], at: usize) -> Result<(), Refusal>
+pub fn abort_line(
+    tables: &mut [u8],
+    arena: &mut [u8],
+    line: &[u8],
+    at: usize,
+) -> Result<(), Refusal>
     ensures { ReplayedAlone (whole (abort_rest (drop at line.now)))
         (memory tables.old arena.old)
         (done_reply result)

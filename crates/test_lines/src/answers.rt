@@ -2,95 +2,103 @@
 use crate::words::front_len;
 use base_md5::words::Digest;
 use call_types::{Counts, Etag, Metadata, Refusal, Stamp, Sweep, UploadNumber};
-use std::io;
+use std::{fmt, io};
 
 // Bytes that need not be text.
 pub fn print(rt: &impl Print, bytes: &[u8]) -> io::Result<()> {
     rt.write_all(bytes)
 }
 
-fn print_refusal(rt: &impl Print, refusal: Refusal) -> io::Result<()> {
-    print!(rt; ": {}", u8::from(refusal))
+// What an answer tells, to be printed after the number 0.
+#[derive(Clone, Copy)]
+pub struct Told<T>(pub T);
+
+// What GET and HEAD tell; the counts of pairs where they are asked for.
+#[derive(Clone, Copy)]
+pub struct Found {
+    pub metadata: Metadata,
+    pub paired: bool,
 }
 
-fn print_digest(rt: &impl Print, d: Digest) -> io::Result<()> {
-    let mut text = [0u8; 32];
-    base_text::put_digest(&mut text, 0, d.a, d.b, d.c, d.d);
-    print(rt, &text)
+// The digest's bytes in hexadecimal: each word has its low byte first.
+impl fmt::Display for Told<Digest> {
+    fn fmt<W: fmt::Write>(&self, f: &mut fmt::Formatter<W>) -> fmt::Result {
+        let Digest { a, b, c, d } = self.0;
+        for word in [a, b, c, d] {
+            write!(f, "{:08x}", word.swap_bytes())?;
+        }
+        Ok(())
+    }
 }
 
-fn print_etag(rt: &impl Print, e: Etag) -> io::Result<()> {
-    match e {
-        Etag::Absent => print(rt, b"absent"),
-        Etag::Plain(d) => print_digest(rt, d),
-        Etag::Joined(d, n) => {
-            print_digest(rt, d)?;
-            print!(rt; "-{n}")
+// Nothing but the 0.
+impl fmt::Display for Told<()> {
+    fn fmt<W: fmt::Write>(&self, _f: &mut fmt::Formatter<W>) -> fmt::Result {
+        Ok(())
+    }
+}
+
+// GET and HEAD.
+impl fmt::Display for Told<Found> {
+    fn fmt<W: fmt::Write>(&self, f: &mut fmt::Formatter<W>) -> fmt::Result {
+        let Found { metadata, paired } = self.0;
+        let Stamp(created) = metadata.created;
+        write!(
+            f,
+            ", length {}, created {created}{}",
+            metadata.length,
+            Told(metadata.etag)
+        )?;
+        if paired {
+            write!(f, ", pairs {}, bytes {}", metadata.pairs, metadata.bytes)?;
+        }
+        Ok(())
+    }
+}
+
+// PART.
+impl fmt::Display for Told<Etag> {
+    fn fmt<W: fmt::Write>(&self, f: &mut fmt::Formatter<W>) -> fmt::Result {
+        match self.0 {
+            Etag::Absent => f.write_str(", etag absent"),
+            Etag::Plain(digest) => write!(f, ", etag {}", Told(digest)),
+            Etag::Joined(digest, n) => write!(f, ", etag {}-{n}", Told(digest)),
         }
     }
 }
 
-// The metadata; the counts of pairs where they are asked for.
-fn print_metadata(rt: &impl Print, m: Metadata, pairs: bool) -> io::Result<()> {
-    let Stamp(created) = m.created;
-    print!(rt; ": 0, length {}, created {}, etag ", m.length, created)?;
-    print_etag(rt, m.etag)?;
-    if pairs {
-        print!(rt; ", pairs {}, bytes {}", m.pairs, m.bytes)?;
-    }
-    Ok(())
-}
-
-fn print_counts(rt: &impl Print, c: Counts) -> io::Result<()> {
-    print!(rt; ": 0, records {}, bytes {}", c.records, c.bytes)
-}
-
-pub fn print_done(rt: &impl Print, a: Result<(), Refusal>) -> io::Result<()> {
-    match a {
-        Ok(()) => print(rt, b": 0"),
-        Err(refusal) => print_refusal(rt, refusal),
+// INITIATE.
+impl fmt::Display for Told<UploadNumber> {
+    fn fmt<W: fmt::Write>(&self, f: &mut fmt::Formatter<W>) -> fmt::Result {
+        let UploadNumber(number) = self.0;
+        write!(f, ", upload {number}")
     }
 }
 
-pub fn print_found(rt: &impl Print, a: Result<Metadata, Refusal>, pairs: bool) -> io::Result<()> {
-    match a {
-        Ok(m) => print_metadata(rt, m, pairs),
-        Err(refusal) => print_refusal(rt, refusal),
+// LIST and UPLOADS.
+impl fmt::Display for Told<Counts> {
+    fn fmt<W: fmt::Write>(&self, f: &mut fmt::Formatter<W>) -> fmt::Result {
+        let Counts { records, bytes } = self.0;
+        write!(f, ", records {records}, bytes {bytes}")
     }
 }
 
-pub fn print_stored(rt: &impl Print, a: Result<Etag, Refusal>) -> io::Result<()> {
-    match a {
-        Ok(e) => {
-            print(rt, b": 0, etag ")?;
-            print_etag(rt, e)
-        }
-        Err(refusal) => print_refusal(rt, refusal),
+// SWEEP.
+impl fmt::Display for Told<Sweep> {
+    fn fmt<W: fmt::Write>(&self, f: &mut fmt::Formatter<W>) -> fmt::Result {
+        let Sweep { count, more } = self.0;
+        write!(f, ", swept {count}, more {}", u8::from(more))
     }
 }
 
-pub fn print_opened(rt: &impl Print, a: Result<UploadNumber, Refusal>) -> io::Result<()> {
+// 0 and what the answer tells, or the refusal's number.
+pub fn print_answer<T: Copy>(rt: &impl Print, a: Result<T, Refusal>) -> io::Result<()>
+where
+    Told<T>: fmt::Display,
+{
     match a {
-        Ok(u) => print!(rt; ": 0, upload {}", u.0),
-        Err(refusal) => print_refusal(rt, refusal),
-    }
-}
-
-pub fn print_written(rt: &impl Print, a: Result<Counts, Refusal>) -> io::Result<()> {
-    match a {
-        Ok(c) => print_counts(rt, c),
-        Err(refusal) => print_refusal(rt, refusal),
-    }
-}
-
-fn print_sweep(rt: &impl Print, s: Sweep) -> io::Result<()> {
-    print!(rt; ": 0, swept {}, more {}", s.count, u8::from(s.more))
-}
-
-pub fn print_swept(rt: &impl Print, a: Result<Sweep, Refusal>) -> io::Result<()> {
-    match a {
-        Ok(s) => print_sweep(rt, s),
-        Err(refusal) => print_refusal(rt, refusal),
+        Ok(told) => print!(rt; ": 0{}", Told(told)),
+        Err(refusal) => print!(rt; ": {}", u8::from(refusal)),
     }
 }
 

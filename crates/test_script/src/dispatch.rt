@@ -1,10 +1,7 @@
 // The call that a line says.
 use call_types::{Etag, PartNumber, Refusal, Stamp, Sweep, UploadNumber};
 use std::io;
-use test_lines::answers::{
-    print_buffer, print_done, print_found, print_front, print_opened, print_stored, print_swept,
-    print_written,
-};
+use test_lines::answers::{Found, print_answer, print_buffer, print_front};
 use test_lines::fields::{Kind, field, list_bytes, number, part_number};
 use test_lines::room::room;
 use test_lines::words::{Word, front_len, length_in};
@@ -33,8 +30,9 @@ fn get_and_show(
     answer: &mut [u8],
     pairs: &mut [u8],
 ) -> io::Result<()> {
-    let given = 0 < pairs.len();
-    print_found(rt, store::get(tables, arena, path, answer, pairs), given)?;
+    let paired = 0 < pairs.len();
+    let a = store::get(tables, arena, path, answer, pairs);
+    print_answer(rt, a.map(|metadata| Found { metadata, paired }))?;
     print_buffer(rt, answer, true)?;
     show_pairs(rt, pairs)
 }
@@ -47,8 +45,9 @@ fn head_and_show(
     path: &[u8],
     pairs: &mut [u8],
 ) -> io::Result<()> {
-    let given = 0 < pairs.len();
-    print_found(rt, store::head(tables, arena, path, pairs), given)?;
+    let paired = 0 < pairs.len();
+    let a = store::head(tables, arena, path, pairs);
+    print_answer(rt, a.map(|metadata| Found { metadata, paired }))?;
     show_pairs(rt, pairs)
 }
 
@@ -57,7 +56,7 @@ fn list_and_show(rt: &impl Print, tables: &[u8], arena: &[u8], line: &[u8]) -> i
     let mut space = room::<1024>(b'.');
     let n = front_len(true, line, 0, &space);
     let answer = &mut space[..n];
-    print_written(
+    print_answer(
         rt,
         store::list(tables, arena, field(line, 2), field(line, 3), answer),
     )?;
@@ -69,7 +68,7 @@ fn uploads_and_show(rt: &impl Print, tables: &[u8], arena: &[u8], line: &[u8]) -
     let mut space = room::<1024>(b'.');
     let n = front_len(true, line, 0, &space);
     let answer = &mut space[..n];
-    print_written(rt, store::uploads(tables, arena, field(line, 2), answer))?;
+    print_answer(rt, store::uploads(tables, arena, field(line, 2), answer))?;
     print_buffer(rt, answer, false)
 }
 
@@ -163,7 +162,7 @@ fn delete_and_show(
 ) -> io::Result<()> {
     let mut places = room::<8016>(0);
     let n = list_bytes(text, Kind::Places, &mut places);
-    print_done(
+    print_answer(
         rt,
         store::delete_packed(tables, arena, names, &places[..n], results),
     )?;
@@ -207,15 +206,15 @@ pub(crate) fn run(
         Word::Get => get_with_buffers(rt, tables, arena, line),
         Word::List => list_and_show(rt, tables, arena, line),
         Word::Uploads => uploads_and_show(rt, tables, arena, line),
-        Word::Delete => print_done(rt, store::delete(tables, arena, field(line, 1))),
-        Word::Fresh => print_done(rt, store::fresh(tables, arena)),
-        Word::Put => print_done(rt, put(tables, arena, line)),
-        Word::Copy => print_done(rt, copy(tables, arena, line)),
-        Word::Initiate => print_opened(rt, initiate(tables, arena, line)),
-        Word::Part => print_stored(rt, part(tables, arena, line)),
-        Word::Commit => print_done(rt, commit(tables, arena, line)),
-        Word::Abort => print_done(rt, store::abort(tables, arena, UploadNumber(upload(line)))),
+        Word::Delete => print_answer(rt, store::delete(tables, arena, field(line, 1))),
+        Word::Fresh => print_answer(rt, store::fresh(tables, arena)),
+        Word::Put => print_answer(rt, put(tables, arena, line)),
+        Word::Copy => print_answer(rt, copy(tables, arena, line)),
+        Word::Initiate => print_answer(rt, initiate(tables, arena, line)),
+        Word::Part => print_answer(rt, part(tables, arena, line)),
+        Word::Commit => print_answer(rt, commit(tables, arena, line)),
+        Word::Abort => print_answer(rt, store::abort(tables, arena, UploadNumber(upload(line)))),
         Word::DeleteObjects => delete_objects(rt, tables, arena, line),
-        Word::Sweep => print_swept(rt, sweep(tables, arena, line)),
+        Word::Sweep => print_answer(rt, sweep(tables, arena, line)),
     }
 }

@@ -86,9 +86,6 @@ loop-i-preserved c =
       )
     ]
 
-pub shape_of-notes : goal.shape_of-notes
-shape_of-notes c = c.loop-i.invariant.2
-
 pub returns : goal.returns
 returns c =
     let a = c.args in

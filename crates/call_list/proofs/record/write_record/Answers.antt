@@ -13,9 +13,6 @@ use Rattle.call_list.proofs.RecordBytes.{path_inside, path_room, numbers-room, e
 use native.Mathlib.Omega.{arith}
 use Rattle.call_list.proofs.record.write_record.Goals as goal
 
-pub data_length-size-requires : goal.data_length-size-requires
-data_length-size-requires c = let p = c.requires in (p.0, omega (arith, p.2, ap (λ (x : Head). x.size) c.read_head-h.ensures))
-
 pub write_path-requires : goal.write_path-requires
 write_path-requires c =
     let t : List ℕ = c.args.tables.now in
@@ -43,16 +40,6 @@ write_text-requires c =
     let sized : c.data_length-size.result ≡ (head_at (drop c.args.at t)).size - sum_of (lengths_at (drop c.args.at t)) = c.data_length-size.ensures ∙ ap (λ (x : Head). x.size - sum_of (lengths_at (drop c.args.at t))) c.read_head-h.ensures in
     let p = c.requires.0 in
     (omega arith, etag-room (t) (b) c.args.at c.args.to (h) _ _ c.requires.0 c.read_head-h.ensures (measured) (sized) c.requires.1 c.write_numbers.new.answer (c.write_numbers.auto.answer ∙ c.write_path.auto.answer))
-
-pub overflow_add-result : goal.overflow_add-result
-overflow_add-result c =
-    let t : List ℕ = c.args.tables.now in
-    let b : List ℕ = c.args.answer.now in
-    let h : Head = c.read_head-h.result in
-    let measured : c.text_length-k.result ≡ length (text (row_etag h.kind (digest_at (drop c.args.at t)) h.count)) = c.text_length-k.ensures.1 (digest_at (drop c.args.at t)) (digest-length t c.args.at c.requires.0) in
-    let sized : c.data_length-size.result ≡ (head_at (drop c.args.at t)).size - sum_of (lengths_at (drop c.args.at t)) = c.data_length-size.ensures ∙ ap (λ (x : Head). x.size - sum_of (lengths_at (drop c.args.at t))) c.read_head-h.ensures in
-    let g = c.slice_known-1.given in
-    omega (arith, c.requires.1, record-long (t) (b) c.args.at c.args.to (h) _ _ c.requires.0 c.read_head-h.ensures (measured) (sized))
 
 pub returns : goal.returns
 returns c =

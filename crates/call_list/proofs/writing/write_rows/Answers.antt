@@ -7,17 +7,8 @@ use Rattle.machine.specs.State.{State}
 use Rattle.mem_layout.specs.Memory.{state_of, Stands}
 use Rattle.mem_layout.proofs.WholeLaws.{whole-stands}
 use Rattle.call_list.specs.Rows.{ListedAt}
-use Rattle.call_list.proofs.Places.{put-none, put-room, put_next, put_all, place_inside, place-pairs}
+use Rattle.call_list.proofs.Places.{put-room, put_next, place_inside, place-pairs}
 use Rattle.call_list.proofs.writing.write_rows.Goals as goal
-
-pub loop-i-init : goal.loop-i-init
-loop-i-init c = let x = c.args in put-none (state_of x.memory.tables.now x.memory.arena.now) x.prefix.now x.suffix.now x.answer.now
-
-pub overflow_mul-i : goal.overflow_mul-i
-overflow_mul-i c = let n = c.requires.few in omega arith
-
-pub get_u16-at-requires : goal.get_u16-at-requires
-get_u16-at-requires c = let n = c.requires.few in let m = c.requires.long in omega arith
 
 pub write_record-to-requires : goal.write_record-to-requires
 write_record-to-requires c =
@@ -51,15 +42,3 @@ loop-i-preserved c =
     let n = c.requires.counted in
     put_next (t) (a) (s) (stands) c.args.prefix.now c.args.suffix.now c.args.places.now c.args.answer.now c.loop-i.answer c.loop-i.i c.loop-i.to
     g.result c.loop-i.invariant x (g.ensures ∙ x.place) _ _ (let l = c.loop-i-test.true in omega arith) w.ensures w.auto.answer
-
-pub shape_of-answer : goal.shape_of-answer
-shape_of-answer c = c.loop-i.invariant.same
-
-pub returns : goal.returns
-returns c =
-    let t : List ℕ = c.args.memory.tables.now in
-    let a : List ℕ = c.args.memory.arena.now in
-    let s : State = state_of t a in
-    let n = c.loop-i-test.false in
-    let m = c.requires.counted in
-    put_all (s) c.args.prefix.now c.args.suffix.now c.args.answer.now c.loop-i.answer c.loop-i.i c.loop-i.to c.loop-i.invariant (omega arith)

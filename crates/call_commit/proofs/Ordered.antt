@@ -98,9 +98,6 @@ pub record Walked (s : State) (first : ℕ) (list : Bytes) (i : ℕ) (here : Row
   pub counted : here.row ≡ first + i
   pub left : listed_first list (drop first (rows_of s)) ≡ i + listed_first (drop (2 * i) list) (drop here.row (rows_of s))
 
-pub walked_none : (s : State) (list : Bytes) (first : RowPlace) → IsRowPlace (rows_of s) first → Walked s first.row list 0 first
-walked_none s list first k = record { place = k; counted = omega arith; left = omega arith }
-
 module _ (s : State) (first : ℕ) (list : Bytes) (i : ℕ) (here : RowPlace) (k : Walked s first list i here) where
   stopped : listed_first (drop (2 * i) list) (drop here.row (rows_of s)) ≡ 0 → here ≡ after_listed list (rows_of s) first
   stopped z =

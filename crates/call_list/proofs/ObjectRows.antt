@@ -6,7 +6,6 @@ use mathlib.Core.List.{List, [], ◌∷◌, ◌++◌, append-nil}
 use native.Mathlib.Numerals.{add-one}
 use native.Mathlib.Omega.{arith}
 use lib.ListN.{length, take, drop, length-append}
-use lib.Seq.{take_all}
 use Rattle.base_number.specs.Number.{le, AreBytes}
 use Rattle.base_order.proofs.OrderLaws.{bytes}
 use Rattle.machine.specs.Map.{Map, records}
@@ -188,9 +187,3 @@ module _ (t a : List ℕ) (b : AreBytes t) (whole_is : whole t a ≡ true) (pref
             few = omega arith;
             small = omega arith;
           }
-
-pub walked_all : (s : State) (prefix suffix : Bytes) (i at count size : ℕ) → Walked s prefix suffix i at count size → length s.O ≤ i
-    → (count ≡ length (listed prefix suffix s.O)) × (size ≡ length (records list_record (listed prefix suffix s.O)))
-walked_all s prefix suffix i at count size w l =
-    let e : take i s.O ≡ s.O = take_all i s.O l in
-    (w.counted ∙ ap (λ (o : Map Bytes Object). length (listed prefix suffix o)) e, w.sized ∙ ap (λ (o : Map Bytes Object). length (records list_record (listed prefix suffix o))) e)

@@ -7,7 +7,6 @@ use mathlib.Core.List.{List, ◌++◌}
 use native.Mathlib.Nat.{eq-or-lt_of_le}
 use native.Mathlib.Omega.{arith}
 use lib.ListN.{length, take, drop, length-append, take-append-drop}
-use lib.Seq.{take_all}
 use Rattle.base_number.specs.Number.{le, from_le, replaced_at, written}
 use Rattle.machine.specs.Map.{Map, records}
 use Rattle.machine.specs.Names.{Bytes}
@@ -82,9 +81,6 @@ pub record Put (s : State) (prefix suffix : Bytes) (b₀ b : List ℕ) (k to : �
   pub front : b ≡ first_records s prefix suffix k ++ drop (length (first_records s prefix suffix k)) b₀
   pub same : length b ≡ length b₀
 
-pub put-none : (s : State) (prefix suffix : Bytes) (b : List ℕ) → Put s prefix suffix b b 0 0
-put-none s prefix suffix b = record { within = omega arith; place = refl; front = refl; same = refl }
-
 module _ (t a : List ℕ) (s : State) (h : Stands t a s) (prefix suffix : Bytes) (places b₀ b : List ℕ) (k to at : ℕ) (w : Put s prefix suffix b₀ b k to)
     (x : ListedAt s prefix suffix places k) (e : at ≡ row_of s x.object) where
   abbrev j : ℕ
@@ -132,8 +128,3 @@ module _ (t a : List ℕ) (s : State) (h : Stands t a s) (prefix suffix : Bytes)
             ∙ ap (λ (y : List ℕ). y ++ drop (length y) b₀) (sym next-records);
         same = same ∙ w.same;
       }
-
-pub put_all : (s : State) (prefix suffix : Bytes) (b₀ b : List ℕ) (k to : ℕ) → Put s prefix suffix b₀ b k to → length (listed prefix suffix s.O) ≤ k
-    → b ≡ list_bytes prefix suffix s ++ drop (length (list_bytes prefix suffix s)) b₀
-put_all s prefix suffix b₀ b k to w l =
-    w.front ∙ ap (λ (m : Map Bytes Object). records list_record m ++ drop (length (records list_record m)) b₀) (take_all k (listed prefix suffix s.O) l)

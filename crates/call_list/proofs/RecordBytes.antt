@@ -7,7 +7,7 @@ use native.Mathlib.Nat.{add-sub_cancel_left}
 use native.Mathlib.Omega.{arith}
 use borrow.Author.Tests.{eq-eqb, ne_eqb}
 use lib.Dec.{eqb}
-use lib.ListN.{length, take, drop, set, length-append, length-drop, length-set}
+use lib.ListN.{length, take, drop, set, length-append, length-drop}
 use lib.Seq.{drop-drop, length-take-le}
 use Rattle.base_number.specs.Number.{le}
 use Rattle.base_number.proofs.NumberLaws.{length-le}
@@ -23,27 +23,6 @@ use Rattle.mem_layout.specs.Memory.{row_etag}
 use Rattle.call_list.specs.Rows.{text_at, record_at}
 use Rattle.call_list.proofs.RowLengths.{digest-length, record-length, text-plain, text-joined}
 use Rattle.call_list.proofs.Front.{over-next}
-
--- a byte, then the bytes y
-pub byte_next : (b b₁ y : List ℕ) (to v m : ℕ) → to + (1 + m) ≤ length b → b₁ ≡ replaced_at (set b to v) (to + 1) y m → b₁ ≡ replaced_at b to (v ∷ y) (1 + m)
-byte_next b b₁ y to v m room e = over-next b (set b to v) b₁ (v ∷ []) y to 1 m refl (omega arith) (write_byte b to v (omega arith)) e
-
--- the length of the path, and the path
-module _ (t b : List ℕ) (at n to : ℕ) (inside : at + head_length + n ≤ length t) (room : to + (1 + n) ≤ length b) where
-  abbrev part : List ℕ
-  part = take (at + head_length + n - (at + head_length)) (drop (at + head_length) t)
-
-  part-is : part ≡ take n (drop (at + head_length) t)
-  part-is = ap (λ (k : ℕ). take k (drop (at + head_length) t)) (add-sub_cancel_left (at + head_length) n)
-
-  part_length : length part ≡ n
-  part_length = ap length part-is ∙ length-take-le n (drop (at + head_length) t) (simp length-drop (omega arith))
-
-  pub path-fits : (v : ℕ) → to + 1 + length part ≤ length (set b to v)
-  path-fits v = omega (arith, part_length, length-set b to v)
-
-  pub path-written : (b₁ : List ℕ) → b₁ ≡ replaced_at (set b to n) (to + 1) part (length part) → b₁ ≡ replaced_at b to (n ∷ take n (drop (at + head_length) t)) (1 + n)
-  path-written b₁ e = byte_next b b₁ (take n (drop (at + head_length) t)) to n n room (e ∙ ap₂ (λ (x : List ℕ) (k : ℕ). replaced_at (set b to n) (to + 1) x k) part-is part_length)
 
 -- the length of the data, the stamp, and the length of the text
 pub numbers-written : (b b₁ b₂ : List ℕ) (to size created n : ℕ) → to + 13 ≤ length b → b₁ ≡ replaced_at b to (le 4 size) 4 → b₂ ≡ replaced_at b₁ (to + 4) (le 8 created) 8

@@ -6,13 +6,12 @@ use mathlib.Core.List.{List}
 use mathlib.Core.Option.{some}
 use native.Mathlib.Omega.{arith}
 use lib.ListN.{length, get_or, take, drop}
-use lib.Seq.{take_all}
 use Rattle.base_order.specs.Order.{begins}
 use Rattle.base_number.specs.Number.{AreBytes}
-use Rattle.machine.specs.Map.{is_some, Map, by_number, lookup, records}
+use Rattle.machine.specs.Map.{is_some, by_number, lookup}
 use Rattle.machine.specs.Names.{Bytes}
 use Rattle.machine.specs.State.{Upload, State}
-use Rattle.machine.specs.Steps.{open_under, upload_record}
+use Rattle.machine.specs.Steps.{open_under}
 use Rattle.mem_find.specs.declared.RowPlace.{RowPlace}
 use Rattle.call_uploads.specs.declared.rows.OpenUpload.{OpenUpload}
 use Rattle.mem_find.specs.Places.{upload_row_of}
@@ -101,9 +100,3 @@ module _ (t a : List ℕ) (b : AreBytes t) (whole_is : whole t a ≡ true) (pref
           few = omega (arith, w.few);
           small = omega (arith, w.small);
         }
-
-pub measured-all : (s : State) (prefix : Bytes) (i : ℕ) (here : RowPlace) (count size : ℕ) → Measured s prefix i here count size → length s.U ≤ i
-    → (count ≡ length (open_under prefix s.U)) × (size ≡ length (records upload_record (open_under prefix s.U)))
-measured-all s prefix i here count size w l =
-    let e : take i s.U ≡ s.U = take_all i s.U l in
-    (w.counted ∙ ap (λ (m : Map ℕ Upload). length (open_under prefix m)) e, w.sized ∙ ap (λ (m : Map ℕ Upload). length (records upload_record (open_under prefix m))) e)

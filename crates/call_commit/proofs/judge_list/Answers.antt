@@ -1,6 +1,6 @@
 -- `call_commit::judge_list` meets its contract. In order it fits. The invariant of other lists: the first i numbers fit. Assumes nothing.
 use mathlib.Core.Path.{◌≡◌, sym, ap, ◌∙◌, subst}
-use mathlib.Core.Bool.{not, false≢true}
+use mathlib.Core.Bool.{not}
 use native.Mathlib.Omega.{arith}
 use borrow.Author.Tests.{not-true, not-false}
 use Rattle.machine.specs.Map.{by_number, lookup}
@@ -106,9 +106,6 @@ returns-clause-fits c v x q e =
     let p = c.pass_parts_from-parts in
     let end : c.loop-i.i ≡ p.result.count = omega arith in
     sym (fit-list a.memory.tables.now a.memory.arena.now c.args.memory.bytes c.args.memory.is_whole v p.result.count x e (parts-counted a.memory.tables.now a.memory.arena.now a.here c.next_row-first.result c.next_row-first.ensures a.list.now r.result r.ensures p.result p.ensures v x q e) a.list.now (omega arith) (subst (Passed x.parts a.list.now) end (c.loop-i.invariant v x (first-is a.memory.tables.now a.memory.arena.now a.here c.next_row-first.result c.next_row-first.ensures a.list.now r.result r.ensures v q) e)))
-
-pub returns-clause-ordered : goal.returns-clause-ordered
-returns-clause-ordered c v x q e = λ z. absurd (false≢true z)
 
 pub returns-clause-passed : goal.returns-clause-passed
 returns-clause-passed c v x q e =

@@ -4,13 +4,9 @@ use mathlib.Core.Path.{sym, ap, ◌∙◌}
 use mathlib.Core.Bool.{not}
 use native.Mathlib.Omega.{arith}
 use borrow.Author.Tests.{not-true, not-false}
-use Rattle.mem_layout.specs.Memory.{state_of}
 use Rattle.call_commit.specs.Numbers.{is_part}
-use Rattle.call_commit.proofs.Ordered.{walked_none, walked-list, walked-rows, walked-off, walked_next}
+use Rattle.call_commit.proofs.Ordered.{walked-list, walked-rows, walked-off, walked_next}
 use Rattle.call_commit.proofs.pass_listed.Goals as goal
-
-pub loop-i-init : goal.loop-i-init
-loop-i-init c = walked_none (state_of c.args.memory.tables.now c.args.memory.arena.now) c.args.list.now c.args.first c.requires
 
 pub returns-then-rows-here : goal.returns-then-rows-here
 returns-then-rows-here c = walked-rows _ _ _ _ _ c.loop-i.invariant (omega (arith, c.counts-rows.ensures.rows, c.if-rows-here.true))

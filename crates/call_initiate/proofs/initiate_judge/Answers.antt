@@ -19,9 +19,6 @@ returns-then-not-stamp_ok-clause-judged c =
     ] in
     bad (memory a.memory.whole.tables.now a.memory.whole.arena.now) a.stamp.0 a.path.now (pair_list a.pairs.now) not-taken
 
-pub initiate_room-requires : goal.initiate_room-requires
-initiate_room-requires c = said-yes c.judge.ensures (ap not c.if-not-judge.false)
-
 pub returns-clause-judged : goal.returns-clause-judged
 returns-clause-judged c =
     let a = c.args in

@@ -7,7 +7,7 @@ use Rattle.mem_row.specs.Row.{span}
 use Rattle.mem_layout.specs.Memory.{state_of}
 use Rattle.mem_layout.proofs.WholeLaws.{whole-stands}
 use Rattle.call_list.proofs.Places.{no_place, placed}
-use Rattle.call_list.proofs.ObjectRows.{walked_none, row-here, walked-listed, walked-passed, walked_all}
+use Rattle.call_list.proofs.ObjectRows.{walked_none, row-here, walked-listed, walked-passed}
 use Rattle.call_list.proofs.measuring.measure_rows.Goals as goal
 use Rattle.call_list.proofs.measuring.measure_rows.Goals.{then-has_row, else-has_row}
 
@@ -94,19 +94,9 @@ loop-i-preserved c =
       )
     ]
 
-pub shape_of-places : goal.shape_of-places
-shape_of-places c = c.loop-i.invariant.2
-
-pub returns : goal.returns
-returns c =
-    let a = c.args in
-    let l = c.loop-i in
-    let n = c.counts-objects.ensures.objects in
-    let e = walked_all (state_of a.memory.tables.now a.memory.arena.now) a.prefix.now a.suffix.now l.i l.at l.records l.bytes l.invariant.0 (omega (arith, n, c.loop-i-test.false)) in
-    let stands = whole-stands a.memory.tables.now a.memory.arena.now c.args.memory.bytes c.args.memory.is_whole in
-    record {
-      counted = e.0;
-      sized = e.1;
-      placed = l.invariant.1;
-      few = omega (arith, n, l.invariant.0.few, l.invariant.0.within, stands.valid.paths);
-    }
+pub returns-clause-few : goal.returns-clause-few
+returns-clause-few c =
+    let m = c.args.memory in
+    let w = c.loop-i.invariant.0 in
+    let stands = whole-stands m.tables.now m.arena.now m.bytes m.is_whole in
+    omega (arith, c.counts-objects.ensures.objects, w.few, w.within, stands.valid.paths)

@@ -1,12 +1,8 @@
 -- `call_list::record::write_record` meets its contract: the path, the numbers and the text, one after the other. Assumes nothing.
-use mathlib.Core.Path.{ap, ◌∙◌}
+use mathlib.Core.Path.{◌∙◌}
 use native.Mathlib.Omega.{arith}
-use Rattle.mem_row.specs.declared.Head.{Head}
 use Rattle.call_list.proofs.RecordBytes.{path_inside, path_room, numbers-room, etag-room, record-long, record-written}
 use Rattle.call_list.proofs.record.write_record.Goals as goal
-
-pub data_length-size-requires : goal.data_length-size-requires
-data_length-size-requires c = (c.requires.0, omega (arith, c.requires.2, ap (λ (x : Head). x.size) c.read_head-h.ensures))
 
 pub write_path-requires : goal.write_path-requires
 write_path-requires c = (path_inside c.args.tables.now c.args.answer.now c.args.at c.args.to c.read_head-h.result _ _ c.requires.0 c.read_head-h.ensures c.text_length-k.ensures.1 c.data_length-size.ensures, path_room c.args.tables.now c.args.answer.now c.args.at c.args.to c.read_head-h.result _ _ c.requires.0 c.read_head-h.ensures c.text_length-k.ensures.1 c.data_length-size.ensures c.requires.1)
@@ -18,11 +14,6 @@ pub write_text-requires : goal.write_text-requires
 write_text-requires c =
     let p = c.requires.0 in
     (omega arith, etag-room c.args.tables.now c.args.answer.now c.args.at c.args.to c.read_head-h.result _ _ c.requires.0 c.read_head-h.ensures c.text_length-k.ensures.1 c.data_length-size.ensures c.requires.1 c.write_numbers.new.answer (c.write_numbers.auto.answer ∙ c.write_path.auto.answer))
-
-pub overflow_add-result : goal.overflow_add-result
-overflow_add-result c =
-    let g = c.slice_known-1.given in
-    omega (arith, c.requires.1, record-long c.args.tables.now c.args.answer.now c.args.at c.args.to c.read_head-h.result _ _ c.requires.0 c.read_head-h.ensures c.text_length-k.ensures.1 c.data_length-size.ensures)
 
 pub returns : goal.returns
 returns c = (record-long c.args.tables.now c.args.answer.now c.args.at c.args.to c.read_head-h.result _ _ c.requires.0 c.read_head-h.ensures c.text_length-k.ensures.1 c.data_length-size.ensures, record-written c.args.tables.now c.args.answer.now c.args.at c.args.to c.read_head-h.result _ _ c.requires.0 c.read_head-h.ensures c.text_length-k.ensures.1 c.data_length-size.ensures _ _ _ c.requires.1 c.write_path.ensures c.write_numbers.ensures c.write_text.ensures)

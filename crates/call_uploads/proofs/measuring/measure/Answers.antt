@@ -5,7 +5,7 @@ use lib.ListN.{length}
 use Rattle.mem_layout.specs.Memory.{state_of}
 use Rattle.mem_layout.proofs.WholeLaws.{whole-stands}
 use Rattle.call_uploads.proofs.UploadRows.{first-place}
-use Rattle.call_uploads.proofs.Measured.{measured-none, upload-here, measured-listed, measured-passed, measured-all}
+use Rattle.call_uploads.proofs.Measured.{measured-none, upload-here, measured-listed, measured-passed}
 use Rattle.call_uploads.proofs.Noted.{no_note, noted-next}
 use Rattle.call_uploads.proofs.measuring.measure.Goals as goal
 use Rattle.call_uploads.proofs.measuring.measure.Goals.{then-begins_with, else-begins_with}
@@ -86,19 +86,9 @@ loop-i-preserved c =
       )
     ]
 
-pub shape_of-notes : goal.shape_of-notes
-shape_of-notes c = c.loop-i.invariant.2
-
-pub returns : goal.returns
-returns c =
-    let a = c.args in
-    let l = c.loop-i in
-    let n = c.counts-uploads.ensures.uploads in
-    let e = measured-all (state_of a.memory.whole.tables.now a.memory.whole.arena.now) a.prefix.now l.i l.here l.records l.bytes l.invariant.0 (omega (arith, n, c.loop-i-test.false)) in
-    let stands = whole-stands a.memory.whole.tables.now a.memory.whole.arena.now c.args.memory.whole.bytes c.args.memory.whole.is_whole in
-    record {
-      counted = e.0;
-      sized = e.1;
-      noted = l.invariant.1;
-      few = omega (arith, n, l.invariant.0.few, l.invariant.0.within, stands.valid.opens);
-    }
+pub returns-clause-few : goal.returns-clause-few
+returns-clause-few c =
+    let m = c.args.memory.whole in
+    let w = c.loop-i.invariant.0 in
+    let stands = whole-stands m.tables.now m.arena.now m.bytes m.is_whole in
+    omega (arith, c.counts-uploads.ensures.uploads, w.few, w.within, stands.valid.opens)

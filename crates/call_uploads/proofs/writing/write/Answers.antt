@@ -1,8 +1,7 @@
 -- `call_uploads::writing::write` meets its contract. The invariant: the records of the first i notes stand at the front. Assumes nothing.
 use Prim.Native.Nat.{ℕ}
 use mathlib.Core.List.{List}
-use Rattle.call_uploads.proofs.Written.{written_none, row-stands, written-fits, written_next, written_all}
-use native.Mathlib.Omega.{arith}
+use Rattle.call_uploads.proofs.Written.{written_none, row-stands, written-fits, written_next}
 use Rattle.call_uploads.proofs.writing.write.Goals as goal
 
 pub loop-i-init : goal.loop-i-init
@@ -27,11 +26,3 @@ loop-i-preserved c =
     let w = c.write_row-to in
     let g = c.loop-i in
     written_next (t) (notes) (b₀) g.answer g.i g.to g.invariant c.get_u16-at.result c.get_u16-parts.result c.get_u16-at.ensures c.get_u16-parts.ensures _ _ w.ensures w.auto.answer
-
-pub shape_of-answer : goal.shape_of-answer
-shape_of-answer c = c.loop-i.invariant.same
-
-pub returns : goal.returns
-returns c =
-    let a = c.args in
-    written_all a.tables.now a.notes.now a.answer.now c.loop-i.answer c.loop-i.i a.records c.loop-i.to c.loop-i.invariant (let n = c.loop-i-test.false in omega arith)

@@ -136,7 +136,8 @@ fn commit_room(memory: WholeMemory, here: RowPlace) -> Result<Lookup, Refusal>
     requires { WholeOpenAt memory.tables.now memory.arena.now here }
     ensures judged { OfOpenAt memory.entry.tables.now memory.entry.arena.now here (λ s u x.
         (y : Object) → result_number result ≡ cond (counted (without_upload (with_object s x.path y) u)) 0 (code tableFull)) }
-    ensures placed { OfOpenAt memory.entry.tables.now memory.entry.arena.now here (λ s u x. IfOk result (λ place. place ≡ object_place s x.path)) }
+    ensures placed { OfOpenAt memory.entry.tables.now memory.entry.arena.now here
+        (λ s u x. IfOk result (λ place. place ≡ object_place s x.path)) }
 {
     let h = memory.row_head(here);
     let from = here.at + mem_row::HEAD_LENGTH;
@@ -200,7 +201,8 @@ pub fn commit_whole(
     list: &[u8],
 ) -> Result<(), Refusal>
     requires { Scanned tables.old arena.old offsets }
-    ensures { MadeWhole (COMMIT upload.0 (part_list list.now)) (made.memory tables.old arena.old) (done_reply result) (made.memory tables.new arena.new) }
+    ensures { MadeWhole (COMMIT upload.0 (part_list list.now)) (made.memory tables.old arena.old)
+        (done_reply result) (made.memory tables.new arena.new) }
 {
     let memory = ScannedMemory::of(tables, arena, offsets);
     let room = commit_judge(memory, upload, list)?;
@@ -223,7 +225,8 @@ pub fn commit(
     upload: UploadNumber,
     list: &[u8],
 ) -> Result<(), Refusal>
-    ensures { Made (COMMIT upload.0 (part_list list.now)) (made.memory tables.old arena.old) (done_reply result) (made.memory tables.new arena.new) }
+    ensures { Made (COMMIT upload.0 (part_list list.now)) (made.memory tables.old arena.old)
+        (done_reply result) (made.memory tables.new arena.new) }
 {
     let offsets = call_contract::offsets_of(tables, arena)?;
     commit_whole(tables, arena, offsets, upload, list)

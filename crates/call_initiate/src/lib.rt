@@ -21,9 +21,10 @@ use mem_scan::Offsets;
 // The end of the rows, where an upload with pairs that are taken goes: or table full, arena full, numbers used up.
 fn initiate_room(memory: ScannedMemory, pairs: &[u8]) -> Result<RowPlace, Refusal>
     requires { pairs_ok (pair_list pairs.now) ≡ true }
-    ensures judged { OpenResult memory.entry.whole.tables.now memory.entry.whole.arena.now (pair_map (pair_list pairs.now))
-        (result_number result) }
-    ensures placed { IfOk result (λ end. end ≡ place_after (rows_in memory.entry.whole.tables.now memory.entry.whole.arena.now)) }
+    ensures judged { OpenResult memory.entry.whole.tables.now memory.entry.whole.arena.now
+        (pair_map (pair_list pairs.now)) (result_number result) }
+    ensures placed { IfOk result
+        (λ end. end ≡ place_after (rows_in memory.entry.whole.tables.now memory.entry.whole.arena.now)) }
 {
     let whole = memory.whole;
     let open = whole.counts().uploads;
@@ -50,7 +51,8 @@ fn initiate_judge(
 ) -> Result<RowPlace, Refusal>
     ensures judged { result_number result ≡ result_of (outcome (INITIATE stamp.0 path.now (pair_list pairs.now))
         (made.memory memory.entry.whole.tables.now memory.entry.whole.arena.now)) }
-    ensures placed { IfOk result (λ end. end ≡ place_after (rows_in memory.entry.whole.tables.now memory.entry.whole.arena.now)) }
+    ensures placed { IfOk result
+        (λ end. end ≡ place_after (rows_in memory.entry.whole.tables.now memory.entry.whole.arena.now)) }
 {
     if !names::stamp_ok(stamp.0) || !names::new_path_ok(path) || !pairs_kept::judge(pairs) {
         return Err(Refusal::BadRequest);

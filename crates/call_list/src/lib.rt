@@ -16,8 +16,8 @@ ghost use Rattle.call_contract.specs.Made.{outcome, Made};
 use call_types::{Counts, Refusal};
 use mem_find::WholeMemory;
 
-// LIST over whole memory. Where the rows stand that have a record is handed from the pass that measures to that which writes: two bytes for
-// each of at most 256.
+// LIST over whole memory. Where the rows stand that have a record is handed from the pass that measures to that which
+// writes: two bytes for each of at most 256.
 fn list_whole(
     memory: WholeMemory,
     prefix: &[u8],

@@ -37,9 +37,12 @@ pub(crate) fn measure_rows(
     places: &mut [u8],
 ) -> Counts
     requires { length places.old ≡ 512 }
-    ensures counted { result.records ≡ length (listed prefix.now suffix.now (state_of memory.entry.tables.now memory.entry.arena.now).O) }
-    ensures sized { result.bytes ≡ length (list_bytes prefix.now suffix.now (state_of memory.entry.tables.now memory.entry.arena.now)) }
-    ensures placed { AllListed (state_of memory.entry.tables.now memory.entry.arena.now) prefix.now suffix.now places.new result.records }
+    ensures counted { result.records
+        ≡ length (listed prefix.now suffix.now (state_of memory.entry.tables.now memory.entry.arena.now).O) }
+    ensures sized { result.bytes
+        ≡ length (list_bytes prefix.now suffix.now (state_of memory.entry.tables.now memory.entry.arena.now)) }
+    ensures placed { AllListed (state_of memory.entry.tables.now memory.entry.arena.now)
+        prefix.now suffix.now places.new result.records }
     ensures few { result.records ≤ 256 }
 {
     let tables = memory.tables;

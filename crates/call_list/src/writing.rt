@@ -21,7 +21,8 @@ pub(crate) fn write_rows(
     requires few { records ≤ 256 }
     requires counted { records ≡ length (listed prefix.now suffix.now (state_of memory.tables.now memory.arena.now).O) }
     requires placed { AllListed (state_of memory.tables.now memory.arena.now) prefix.now suffix.now places.now records }
-    requires fits { length (list_bytes prefix.now suffix.now (state_of memory.tables.now memory.arena.now)) ≤ length answer.old }
+    requires fits { length (list_bytes prefix.now suffix.now (state_of memory.tables.now memory.arena.now))
+        ≤ length answer.old }
     ensures { answer.new ≡ fronted answer.old
         (list_bytes prefix.now suffix.now (state_of memory.entry.tables.now memory.entry.arena.now)) }
 {

@@ -29,7 +29,8 @@ fn part_room(
     number: PartNumber,
     content: &[u8],
 ) -> Result<Room, Refusal>
-    requires is_open { is_some (lookup by_number upload.0 (state_of memory.whole.tables.now memory.whole.arena.now).U) ≡ true }
+    requires is_open { is_some (lookup by_number upload.0
+        (state_of memory.whole.tables.now memory.whole.arena.now).U) ≡ true }
     requires opened { opened ≡ upload_place (state_of memory.whole.tables.now memory.whole.arena.now) upload.0 }
     ensures judged { result_number result ≡ result_of (part_at (length memory.entry.whole.arena.now)
         (state_of memory.entry.whole.tables.now memory.entry.whole.arena.now) upload.0 number.0 content.now) }
@@ -86,7 +87,8 @@ pub fn part_whole(
     content: &[u8],
 ) -> Result<Etag, Refusal>
     requires { Scanned tables.old arena.old offsets }
-    ensures { MadeWhole (PART upload.0 number.0 content.now) (made.memory tables.old arena.old) (part_reply result) (made.memory tables.new arena.new) }
+    ensures { MadeWhole (PART upload.0 number.0 content.now) (made.memory tables.old arena.old)
+        (part_reply result) (made.memory tables.new arena.new) }
 {
     let memory = ScannedMemory::of(tables, arena, offsets);
     let room = part_judge(memory, upload, number, content)?;
@@ -105,7 +107,8 @@ pub fn part(
     number: PartNumber,
     content: &[u8],
 ) -> Result<Etag, Refusal>
-    ensures { Made (PART upload.0 number.0 content.now) (made.memory tables.old arena.old) (part_reply result) (made.memory tables.new arena.new) }
+    ensures { Made (PART upload.0 number.0 content.now) (made.memory tables.old arena.old)
+        (part_reply result) (made.memory tables.new arena.new) }
 {
     let offsets = call_contract::offsets_of(tables, arena)?;
     part_whole(tables, arena, offsets, upload, number, content)

@@ -15,8 +15,8 @@ ghost use Rattle.call_contract.specs.Made.{outcome, Made};
 use call_types::{Counts, Refusal};
 use mem_find_uploads::ScannedMemory;
 
-// UPLOADS over scanned memory. The rows are passed once: what the records need of them is noted, four bytes for each of at
-// most 16.
+// UPLOADS over scanned memory. The rows are passed once: what the records need of them is noted, four bytes for each of
+// at most 16.
 fn uploads_whole(memory: ScannedMemory, prefix: &[u8], answer: &mut [u8]) -> Result<Counts, Refusal>
     ensures { list_reply result answer.new ≡ reply_of (buffers answer.old [])
         (outcome (UPLOADS prefix.now answer.old)

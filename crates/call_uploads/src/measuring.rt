@@ -21,9 +21,12 @@ fn put_note(notes: &mut [u8], k: u32, at: usize, parts: u16)
 // How many records and bytes UPLOADS has, and its uploads noted.
 pub(crate) fn measure(memory: ScannedMemory, prefix: &[u8], notes: &mut [u8]) -> Counts
     requires { length notes.old ≡ 64 }
-    ensures counted { result.records ≡ length (open_under prefix.now (state_of memory.entry.whole.tables.now memory.entry.whole.arena.now).U) }
-    ensures sized { result.bytes ≡ length (records_under prefix.now (state_of memory.entry.whole.tables.now memory.entry.whole.arena.now)) }
-    ensures noted { AllNoted (state_of memory.entry.whole.tables.now memory.entry.whole.arena.now) prefix.now notes.new result.records }
+    ensures counted { result.records
+        ≡ length (open_under prefix.now (state_of memory.entry.whole.tables.now memory.entry.whole.arena.now).U) }
+    ensures sized { result.bytes
+        ≡ length (records_under prefix.now (state_of memory.entry.whole.tables.now memory.entry.whole.arena.now)) }
+    ensures noted { AllNoted (state_of memory.entry.whole.tables.now memory.entry.whole.arena.now)
+        prefix.now notes.new result.records }
     ensures few { result.records ≤ 16 }
 {
     let whole = memory.whole;

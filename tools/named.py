@@ -3,8 +3,8 @@
 cites of another; and each crate that a comment of a source names. Where a page says whose a name is ("`crate`: `edit`", "Steps: `act`", "`law`
 (`crate`, proofs/File.antt)"), it is looked up there. Prints each that is not there, with file and line. The last line counts.
 
-docs/CHANGES.md and docs/PORT.md are history, and old names may stand there: only their links and the new names of the former's map (column
-"now") are looked up.
+docs/CHANGES.md, docs/PORT.md and docs/DESIGN-PASS.md are history, and old names may stand there: only their links and the new names of the
+first one's map (column "now") are looked up.
 """
 import glob
 import itertools
@@ -14,14 +14,14 @@ import sys
 
 os.chdir(os.path.dirname(os.path.abspath(__file__)) + "/..")
 PAGES = ["README.md", "CONTRIBUTING.md", "host/README.md"] + sorted(glob.glob("docs/*.md"))
-HISTORY, PORT = "docs/CHANGES.md", "docs/PORT.md"
+HISTORY, PASSES = "docs/CHANGES.md", ("docs/PORT.md", "docs/DESIGN-PASS.md")
 
 # Spans that are no names of this tree: words of the languages, placeholders, names of the kit and of libraries.
 OTHER = set("""
     &mut &[u8] extern static inline requires ensures axiom use pub mod abbrev unfoldable unfolding record data where u8 u16 u32 u64 usize
     x86-64-v2 NAME NAME.. NAME_whole call_NAME BASE PREFIX PKG_CONFIG_PATH RT_JOBS file: old: new: .. io libc std rt cargo gcc g++ clang python3
     pkg-config memmove memcpy memcmp libsqlite3-dev libssl-dev unsupported-associated-item cond true false none some Type Unit UTF8-1
-    librathnodi.a abcd R D P Q A B
+    librathnodi.a abcd R D P Q A B Option Result for while
 """.split())
 # Crates to come, to which CONTRIBUTING.md gives names. One that has landed is taken out here.
 COMING = set("recording_shift recording_convert meter meter_bound contest contest_play".split())
@@ -216,7 +216,7 @@ def look_page(page):
         look_links(block, at, page)
         if block.startswith("|---"):
             head = last
-        elif page not in (HISTORY, PORT):
+        elif page != HISTORY and page not in PASSES:
             look_text(block, at)
             look_cells(cells, head, (page, line))
             for m in re.finditer(r"^    make ([\w-]+)", block, re.M):

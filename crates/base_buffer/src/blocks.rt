@@ -9,14 +9,8 @@ pub(crate) fn swap(b: &mut [u8], i: usize, j: usize, n: usize)
     ensures { b.new
         ≡ paste (paste b.old i (drop j b.old) n) j (drop i b.old) n }
 {
-    let mut k = 0;
-    while k < n {
-        let x = b[i + k];
-        let y = b[j + k];
-        b[i + k] = y;
-        b[j + k] = x;
-        k += 1;
-    }
+    let (left, right) = b.split_at_mut(j);
+    left[i..i + n].swap_with_slice(&mut right[..n]);
 }
 
 // The largest block that is exchanged through a local copy.

@@ -12,22 +12,11 @@ pub fn copy_at(dst: &mut [u8], at: usize, src: &[u8])
     requires { at + length src.now ≤ length dst.old }
     ensures { dst.new ≡ written dst.old at src.now }
 {
-    let mut i = 0;
-    while i < src.len() {
-        dst[at + i] = src[i];
-        i += 1;
-    }
+    dst[at..at + src.len()].copy_from_slice(src);
 }
 
 // The most bytes that are moved at a time.
 const BLOCK: usize = 8192;
-
-// How many of n bytes are moved next.
-fn next_block(n: usize) -> usize
-    ensures { (result ≤ n) × (result ≤ 8192) × (0 < n → 0 < result) }
-{
-    if n < BLOCK { n } else { BLOCK }
-}
 
 // The n bytes from `from` on, over those from `to` on, by way of a copy. The compiler makes one memmove of it, with no copy.
 fn move_block(b: &mut [u8], from: usize, to: usize, n: usize)
@@ -46,7 +35,7 @@ fn move_left(b: &mut [u8], from: usize, to: usize, n: usize)
 {
     let mut i = 0;
     while i < n {
-        let k = next_block(n - i);
+        let k = BLOCK.min(n - i);
         move_block(b, from + i, to + i, k);
         i += k;
     }
@@ -59,7 +48,7 @@ fn move_right(b: &mut [u8], from: usize, to: usize, n: usize)
 {
     let mut i = n;
     while 0 < i {
-        let k = next_block(i);
+        let k = BLOCK.min(i);
         i -= k;
         move_block(b, from + i, to + i, k);
     }
@@ -138,9 +127,7 @@ pub fn rotate(b: &mut [u8], at: usize, left: usize, right: usize)
             l -= r;
         }
     }
-    if 0 < l {
-        if 0 < r {
-            blocks::rotate_small_left(b, from, l, r);
-        }
+    if 0 < l && 0 < r {
+        blocks::rotate_small_left(b, from, l, r);
     }
 }

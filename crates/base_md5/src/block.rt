@@ -62,59 +62,50 @@ fn auxiliary(r: Round, x: u32, y: u32, z: u32) -> Summands
     }
 }
 
-// x <<< s
-fn rotl(x: u32, s: u32) -> u32
-    requires { (0 < s) × (s < 32) }
-    ensures { result ≡ rotl32 x s }
-{
-    (x << s) | (x >> (32 - s))
-}
-
 // One operation of a round, [abcd k s i] with x for X[k] and t for T[i].
 fn operation(r: Round, v: Digest, x: [u32; 16], k: usize, s: u32, t: [u32; 64], i: usize) -> Digest
     requires { (k < 16) × (0 < s) × (s < 32) × (i < 64) }
     ensures { result ≡ step r (slice_index x k) s (slice_index t i) v }
 {
     let f = auxiliary(r, v.b, v.c, v.d);
-    let p = std::num::wrapping_add_u32(v.a, x[k]);
-    let q = std::num::wrapping_add_u32(p, t[i]);
-    let h = std::num::wrapping_add_u32(q, f.early);
-    let w = std::num::wrapping_add_u32(h, f.late);
-    let b = std::num::wrapping_add_u32(v.b, rotl(w, s));
+    let sum = v
+        .a
+        .wrapping_add(x[k])
+        .wrapping_add(t[i])
+        .wrapping_add(f.early)
+        .wrapping_add(f.late);
+    let b = v.b.wrapping_add(sum.rotate_left(s));
     Digest {
         a: v.d,
-        b: b,
+        b,
         c: v.b,
         d: v.c,
     }
 }
 
-// Four operations of a round, a line of its table: the words k1 to k4, the shifts s1 to s4, and T from place i on.
+// Four operations of a round, a line of its table: the words k, the shifts s, and T from place i on.
 fn row(
     r: Round,
     v: Digest,
     x: [u32; 16],
-    k1: usize,
-    k2: usize,
-    k3: usize,
-    k4: usize,
-    s1: u32,
-    s2: u32,
-    s3: u32,
-    s4: u32,
+    k: [usize; 4],
+    s: [u32; 4],
     t: [u32; 64],
     i: usize,
 ) -> Digest
-    requires k1_bound { (k1 < 16) × (k2 < 16) × (k3 < 16) × (k4 < 16) }
-    requires s1_nonzero { (0 < s1) × (s1 < 32) × (0 < s2) × (s2 < 32) × (0 < s3) × (s3 < 32) × (0 < s4) × (s4 < 32) }
+    requires words { (slice_index k 0 < 16) × (slice_index k 1 < 16) × (slice_index k 2 < 16) × (slice_index k 3 < 16) }
+    requires shifts { (0 < slice_index s 0) × (slice_index s 0 < 32) × (0 < slice_index s 1) × (slice_index s 1 < 32)
+        × (0 < slice_index s 2) × (slice_index s 2 < 32) × (0 < slice_index s 3) × (slice_index s 3 < 32) }
     requires i_bound { i < 61 }
-    ensures { result ≡ step r (slice_index x k4) s4 (slice_index t (i + 3)) (step r (slice_index x k3) s3 (slice_index t (i + 2))
-        (step r (slice_index x k2) s2 (slice_index t (i + 1)) (step r (slice_index x k1) s1 (slice_index t i) v))) }
+    ensures { result ≡ step r (slice_index x (slice_index k 3)) (slice_index s 3) (slice_index t (i + 3))
+        (step r (slice_index x (slice_index k 2)) (slice_index s 2) (slice_index t (i + 2))
+        (step r (slice_index x (slice_index k 1)) (slice_index s 1) (slice_index t (i + 1))
+        (step r (slice_index x (slice_index k 0)) (slice_index s 0) (slice_index t i) v))) }
 {
-    let v = operation(r, v, x, k1, s1, t, i);
-    let v = operation(r, v, x, k2, s2, t, i + 1);
-    let v = operation(r, v, x, k3, s3, t, i + 2);
-    operation(r, v, x, k4, s4, t, i + 3)
+    let v = operation(r, v, x, k[0], s[0], t, i);
+    let v = operation(r, v, x, k[1], s[1], t, i + 1);
+    let v = operation(r, v, x, k[2], s[2], t, i + 2);
+    operation(r, v, x, k[3], s[3], t, i + 3)
 }
 
 // The sixteen words of the block m.
@@ -148,22 +139,22 @@ fn rounds(v: Digest, x: [u32; 16], t: [u32; 64]) -> Digest
     ensures { (m : List ℕ) → x ≡ words_of m
         → result ≡ round Round.Fourth m (round Round.Third m (round Round.Second m (round Round.First m v))) }
 {
-    let v = row(Round::First, v, x, 0, 1, 2, 3, 7, 12, 17, 22, t, 0);
-    let v = row(Round::First, v, x, 4, 5, 6, 7, 7, 12, 17, 22, t, 4);
-    let v = row(Round::First, v, x, 8, 9, 10, 11, 7, 12, 17, 22, t, 8);
-    let v = row(Round::First, v, x, 12, 13, 14, 15, 7, 12, 17, 22, t, 12);
-    let v = row(Round::Second, v, x, 1, 6, 11, 0, 5, 9, 14, 20, t, 16);
-    let v = row(Round::Second, v, x, 5, 10, 15, 4, 5, 9, 14, 20, t, 20);
-    let v = row(Round::Second, v, x, 9, 14, 3, 8, 5, 9, 14, 20, t, 24);
-    let v = row(Round::Second, v, x, 13, 2, 7, 12, 5, 9, 14, 20, t, 28);
-    let v = row(Round::Third, v, x, 5, 8, 11, 14, 4, 11, 16, 23, t, 32);
-    let v = row(Round::Third, v, x, 1, 4, 7, 10, 4, 11, 16, 23, t, 36);
-    let v = row(Round::Third, v, x, 13, 0, 3, 6, 4, 11, 16, 23, t, 40);
-    let v = row(Round::Third, v, x, 9, 12, 15, 2, 4, 11, 16, 23, t, 44);
-    let v = row(Round::Fourth, v, x, 0, 7, 14, 5, 6, 10, 15, 21, t, 48);
-    let v = row(Round::Fourth, v, x, 12, 3, 10, 1, 6, 10, 15, 21, t, 52);
-    let v = row(Round::Fourth, v, x, 8, 15, 6, 13, 6, 10, 15, 21, t, 56);
-    let v = row(Round::Fourth, v, x, 4, 11, 2, 9, 6, 10, 15, 21, t, 60);
+    let v = row(Round::First, v, x, [0, 1, 2, 3], [7, 12, 17, 22], t, 0);
+    let v = row(Round::First, v, x, [4, 5, 6, 7], [7, 12, 17, 22], t, 4);
+    let v = row(Round::First, v, x, [8, 9, 10, 11], [7, 12, 17, 22], t, 8);
+    let v = row(Round::First, v, x, [12, 13, 14, 15], [7, 12, 17, 22], t, 12);
+    let v = row(Round::Second, v, x, [1, 6, 11, 0], [5, 9, 14, 20], t, 16);
+    let v = row(Round::Second, v, x, [5, 10, 15, 4], [5, 9, 14, 20], t, 20);
+    let v = row(Round::Second, v, x, [9, 14, 3, 8], [5, 9, 14, 20], t, 24);
+    let v = row(Round::Second, v, x, [13, 2, 7, 12], [5, 9, 14, 20], t, 28);
+    let v = row(Round::Third, v, x, [5, 8, 11, 14], [4, 11, 16, 23], t, 32);
+    let v = row(Round::Third, v, x, [1, 4, 7, 10], [4, 11, 16, 23], t, 36);
+    let v = row(Round::Third, v, x, [13, 0, 3, 6], [4, 11, 16, 23], t, 40);
+    let v = row(Round::Third, v, x, [9, 12, 15, 2], [4, 11, 16, 23], t, 44);
+    let v = row(Round::Fourth, v, x, [0, 7, 14, 5], [6, 10, 15, 21], t, 48);
+    let v = row(Round::Fourth, v, x, [12, 3, 10, 1], [6, 10, 15, 21], t, 52);
+    let v = row(Round::Fourth, v, x, [8, 15, 6, 13], [6, 10, 15, 21], t, 56);
+    let v = row(Round::Fourth, v, x, [4, 11, 2, 9], [6, 10, 15, 21], t, 60);
     v
 }
 
@@ -173,15 +164,11 @@ fn block(v: Digest, m: &[u8], t: [u32; 64]) -> Digest
     ensures { result ≡ compress m.now v }
 {
     let w = rounds(v, words(m), t);
-    let a = std::num::wrapping_add_u32(w.a, v.a);
-    let b = std::num::wrapping_add_u32(w.b, v.b);
-    let c = std::num::wrapping_add_u32(w.c, v.c);
-    let d = std::num::wrapping_add_u32(w.d, v.d);
     Digest {
-        a: a,
-        b: b,
-        c: c,
-        d: d,
+        a: w.a.wrapping_add(v.a),
+        b: w.b.wrapping_add(v.b),
+        c: w.c.wrapping_add(v.c),
+        d: w.d.wrapping_add(v.d),
     }
 }
 
@@ -192,9 +179,7 @@ pub fn blocks(v0: Digest, m: &[u8], n: usize, t: [u32; 64]) -> Digest
 {
     let mut v = v0;
     for i in 0..n {
-        let at = i * 64;
-        let end = at + 64;
-        v = block(v, &m[at..end], t);
+        v = block(v, &m[i * 64..i * 64 + 64], t);
     }
     v
 }

@@ -2,14 +2,15 @@
 use Prim.Native.Nat.{ℕ, suc, ◌+◌, ◌*◌, ◌/◌, ◌%◌, ◌^◌, ◌≤◌, ◌<◌, compare, Ordering}
 use mathlib.Core.Path.{◌≡◌, sym, ap, ap₂, ◌∙◌}
 use mathlib.Core.List.{List, [], ◌∷◌, ◌++◌}
-use native.Mathlib.Nat.{mod-eq_of_lt, pow-zero, pow-succ', mul_assoc, mul_comm, mul-add, mul-le-mul_left, one-mul}
+use native.Mathlib.Nat.{pow-zero, pow-succ', mul_assoc, mul_comm, mul-add, mul-le-mul_left, one-mul}
 use native.Mathlib.Omega.{arith}
 use lib.Dec.{lit<}
 use lib.Pow.{pow-add}
 use lib.ListN.{length, take, drop, length-append, length-drop, take-append-drop}
 use lib.Seq.{length-take-le}
+use Rattle.std.specs.Int.{w32, w64, swap_bytes}
 use Rattle.base_number.specs.Number.{le, from_le, AreBytes}
-use Rattle.base_number.proofs.NumberLaws.{bytes_take, bytes_drop, length-le, le-from_le, le-append, le-mod}
+use Rattle.base_number.proofs.NumberLaws.{bytes_take, bytes_drop, le-from_le}
 use Rattle.base_order.specs.Order.{by_bytes}
 use Rattle.base_order.specs.Big.{from_be}
 use Rattle.base_order.proofs.OrderLaws.{cases, alike, below, bytes-alike, bytes-over, bytes-skip}
@@ -66,17 +67,14 @@ module _ (xs ys : List ℕ) (hx : AreBytes xs) (hy : AreBytes ys) (l : length xs
       (λ q. bytes-alike xs ys q)
       (λ q. absurd (omega (arith, be-less ys xs hy hx (sym l) (bytes-over xs ys q))))
 
--- a number's bytes turned, by halves
-pub turned-byte : (x : ℕ) → x < 256 → x ≡ from_be (le 1 x)
+-- a number whose bytes are turned is read from the bytes of the number high byte first
+pub turned_4 : (x : ℕ) → swap_bytes w32 x ≡ from_be (le 4 x)
 unfolding from_be le
-turned-byte x h = sym (omega (arith, mod-eq_of_lt h, ap (λ (p : ℕ). p * (x % 256)) (pow-zero 256) ∙ one-mul (x % 256)))
+turned_4 x = omega arith
 
-pub turned-halves : (k x lo hi : ℕ) → lo ≡ from_be (le k (x % 256 ^ k)) → hi ≡ from_be (le k (x / 256 ^ k)) → 256 ^ k * lo + hi ≡ from_be (le (k + k) x)
-turned-halves k x lo hi l h =
-    sym (ap from_be (le-append k k x)
-    ∙ be-append (le k x) (le k (x / 256 ^ k))
-    ∙ ap (λ (n : ℕ). 256 ^ n * from_be (le k x) + from_be (le k (x / 256 ^ k))) (length-le k (x / 256 ^ k))
-    ∙ ap₂ (λ (m n : ℕ). 256 ^ k * m + n) (sym (l ∙ ap from_be (le-mod k x))) (sym h))
+pub turned_8 : (x : ℕ) → swap_bytes w64 x ≡ from_be (le 8 x)
+unfolding from_be le
+turned_8 x = omega arith
 
 -- the w bytes that were read low byte first
 pub turned-word : (w : ℕ) (b : List ℕ) (at x r : ℕ) → AreBytes b → at + w ≤ length b → x ≡ from_le (take w (drop at b)) → r ≡ from_be (le w x) → r ≡ from_be (take w (drop at b))

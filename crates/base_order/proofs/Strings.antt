@@ -12,7 +12,7 @@ use Rattle.base_number.proofs.NumberLaws.{bytes_take, bytes_drop, from_le-same}
 use Rattle.base_order.specs.Order.{by_bytes, same}
 use Rattle.base_order.proofs.OrderLaws.{compare-below, compare-above, bytes-skip, same_false}
 use Rattle.base_order.specs.Compared.{order_of}
-use Rattle.base_order.specs.declared.Order.TheVariants.{Less, Equal, Greater}
+use Rattle.std.specs.declared.cmp.Ordering.TheVariants.{Less, Equal, Greater}
 
 -- a byte more in common
 pub same_byte : (a b : List ℕ) (i : ℕ) → i < length a → i < length b → take i a ≡ take i b → get_or a i 0 ≡ get_or b i 0 → take (i + 1) a ≡ take (i + 1) b

@@ -1,12 +1,12 @@
 -- What the code's comparisons answer. Assumes nothing.
 use Prim.Native.Nat.{ℕ, ◌+◌, Ordering, ◌≤◌, ◌<◌}
-use Rattle.std.specs.Prelude.{◌≡◌, List, length, take, drop, get_or}
+use Rattle.std.specs.Prelude.{◌≡◌, List, take, drop, get_or}
 use Rattle.base_order.specs.Order.{by_bytes}
-use Rattle.base_order.specs.declared.Order.{Order}
-use Rattle.base_order.specs.declared.Order.TheVariants.{Less, Equal, Greater}
+use Rattle.std.specs.declared.cmp.Ordering as cmp
+use Rattle.std.specs.declared.cmp.Ordering.TheVariants.{Less, Equal, Greater}
 
 -- the answer of `compare` in each case
-abbrev pub order_of : Ordering → Order
+abbrev pub order_of : Ordering → cmp.Ordering
 order_of Ordering.lt = Less
 order_of Ordering.eq = Equal
 order_of Ordering.gt = Greater
@@ -28,10 +28,3 @@ pub record Tells (a b : List ℕ) (n x y : ℕ) : Type 0 where
   pub less : x < y → Less ≡ order_of (by_bytes a b)
   pub greater : y < x → Greater ≡ order_of (by_bytes a b)
   pub same : x ≡ y → take n a ≡ take n b
-
--- a and b agree on the first n bytes, and one has no more
-pub record SameStart (a b : List ℕ) (n : ℕ) : Type 0 where
-  pub in-a : n ≤ length a
-  pub in_b : n ≤ length b
-  pub alike : take n a ≡ take n b
-  pub one-ends : n < length a → length b ≤ n

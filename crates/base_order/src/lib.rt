@@ -1,59 +1,27 @@
 // Byte strings compared.
 #![tactic(auto)]
 
-ghost use Rattle.std.specs.Prelude.{◌≡◌, ◌+◌, ◌≤◌, ◌<◌, min, length, take, drop};
+ghost use Rattle.std.specs.Prelude.{◌≡◌, ◌+◌, ◌≤◌, ◌<◌, length, take, drop};
 ghost use Rattle.base_order.specs.Order.{by_bytes, is_below, same, begins, ends};
-ghost use Rattle.base_order.specs.Compared.{Common, DecidingWord, SameStart, Tells, order_of};
+ghost use Rattle.base_order.specs.Compared.{Common, DecidingWord, Tells, order_of};
 ghost use Rattle.base_order.specs.Big.{from_be};
 ghost use Rattle.base_number.specs.Number.{le};
 
-// How a stands to b.
-#[derive(Clone, Copy)]
-pub enum Order {
-    Less,
-    Equal,
-    Greater,
-}
-
-// The bytes of x turned, at each width: read high byte first, they stand for what they stood for low byte first.
-fn swap_u16(x: u16) -> u16
-    ensures { result ≡ from_be (le 2 x) }
-{
-    256 * (x % 256) + x / 256
-}
-
-fn swap_u32(x: u32) -> u32
-    ensures { result ≡ from_be (le 4 x) }
-{
-    65536 * (swap_u16((x % 65536) as u16) as u32) + swap_u16((x / 65536) as u16) as u32
-}
-
-fn swap_u64(x: u64) -> u64
-    ensures { result ≡ from_be (le 8 x) }
-{
-    4294967296 * (swap_u32((x % 4294967296) as u32) as u64)
-        + swap_u32((x / 4294967296) as u32) as u64
-}
+use std::cmp::Ordering;
 
 // The number in the bytes of b from `at` on, high byte first, at each width.
 fn big_u32(b: &[u8], at: usize) -> u32
     requires { at + 4 ≤ length b.now }
     ensures { result ≡ from_be (take 4 (drop at b.now)) }
 {
-    swap_u32(base_number::get_u32(b, at))
+    base_number::get_u32(b, at).swap_bytes()
 }
 
 fn big_u64(b: &[u8], at: usize) -> u64
     requires { at + 8 ≤ length b.now }
     ensures { result ≡ from_be (take 8 (drop at b.now)) }
 {
-    swap_u64(base_number::get_u64(b, at))
-}
-
-fn least(i: usize, j: usize) -> usize
-    ensures { result ≡ min i j }
-{
-    if i < j { i } else { j }
+    base_number::get_u64(b, at).swap_bytes()
 }
 
 // How many of the first n bytes a and b have in common at their start.
@@ -61,14 +29,12 @@ fn common_bytes(a: &[u8], b: &[u8], n: usize) -> usize
     requires { (n ≤ length a.now) × (n ≤ length b.now) }
     ensures { Common a.now b.now n result }
 {
-    let mut i = 0;
-    while i < n {
+    for i in 0..n {
         if a[i] != b[i] {
             return i;
         }
-        i += 1;
     }
-    i
+    n
 }
 
 // The place of the first word of eight bytes that differs, where the first `from` bytes are the same; where none before the
@@ -178,50 +144,23 @@ fn pass_words(a: &[u8], b: &[u8], n: usize) -> usize
     i
 }
 
-// How a stands to b, where their first n bytes are the same and one has no more.
-fn by_length(a: &[u8], b: &[u8], n: usize) -> Order
-    requires { SameStart a.now b.now n }
-    ensures { result ≡ order_of (by_bytes a.now b.now) }
-{
-    let longer = n < a.len();
-    if longer {
-        return Order::Greater;
-    }
-    if n < b.len() {
-        return Order::Less;
-    }
-    Order::Equal
-}
-
 // Which of a and b is first, byte by byte; a string is before those that it begins.
-pub fn compare(a: &[u8], b: &[u8]) -> Order
+pub fn compare(a: &[u8], b: &[u8]) -> Ordering
     ensures { result ≡ order_of (by_bytes a.now b.now) }
 {
-    let n = least(a.len(), b.len());
+    let n = a.len().min(b.len());
     let from = pass_words(a, b, n);
     let t = deciding_numbers(a, b, from, n);
-    if t.x < t.y {
-        return Order::Less;
-    }
-    if t.y < t.x {
-        return Order::Greater;
-    }
-    by_length(a, b, n)
+    t.x.cmp(&t.y).then(a.len().cmp(&b.len()))
 }
 
 // Whether a is before b: the comparison of the loops over rows, short enough that the compiler puts it into them.
 pub fn is_below(a: &[u8], b: &[u8]) -> bool
     ensures { result ≡ is_below a.now b.now }
 {
-    let n = least(a.len(), b.len());
+    let n = a.len().min(b.len());
     let t = deciding_numbers(a, b, 0, n);
-    if t.x < t.y {
-        return true;
-    }
-    if t.y < t.x {
-        return false;
-    }
-    a.len() < b.len()
+    t.x < t.y || (t.x == t.y && a.len() < b.len())
 }
 
 // Whether they are the same bytes. Empty ones are seen first: most listings have an empty suffix.
@@ -244,10 +183,7 @@ pub fn begins_with(s: &[u8], prefix: &[u8]) -> bool
     ensures { result ≡ begins prefix.now s.now }
 {
     let n = prefix.len();
-    if s.len() < n {
-        return false;
-    }
-    equal(&s[..n], prefix)
+    n <= s.len() && equal(&s[..n], prefix)
 }
 
 // Whether s ends with the suffix.
@@ -256,8 +192,5 @@ pub fn ends_with(s: &[u8], suffix: &[u8]) -> bool
 {
     let n = suffix.len();
     let m = s.len();
-    if m < n {
-        return false;
-    }
-    equal(&s[m - n..], suffix)
+    n <= m && equal(&s[m - n..], suffix)
 }

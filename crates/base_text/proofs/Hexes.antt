@@ -6,11 +6,18 @@ use native.Mathlib.Nat.{le_of_suc-le-suc, not-suc-le-zero}
 use native.Mathlib.Numerals.{add-one}
 use native.Mathlib.Omega.{arith}
 use lib.ListN.{length, take, drop, get_or, set, length-append, drop_of_length-le}
-use lib.Seq.{paste, take-length}
+use lib.Seq.{paste, paste-suc, take-length}
 use Rattle.base_number.proofs.Halves.{write-next}
-use Rattle.base_buffer.proofs.Copying.{copy_step}
 use Rattle.base_text.specs.Text.{hex_digit, hex}
 use Rattle.base_text.proofs.TextLaws.{length-hex}
+
+module _ (d₀ d s : List ℕ) (at i : ℕ) (is : d ≡ paste d₀ at s i) where
+  -- one more byte is written
+  copy_step : at + length s ≤ length d₀ → i < length s → set d (at + i) (get_or s i 0) ≡ paste d₀ at s (i + 1)
+  copy_step room more =
+      ap (λ (l : List ℕ). set l (at + i) (get_or s i 0)) is
+      ∙ paste-suc d₀ at s i 0 (omega arith) more
+      ∙ ap (λ (k : ℕ). paste d₀ at s k) (sym (add-one i))
 
 two-more : (i : ℕ) → 2 * suc i ≡ suc (suc (2 * i))
 two-more i = omega arith

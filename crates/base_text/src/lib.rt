@@ -6,14 +6,12 @@ ghost use Rattle.base_number.specs.Number.{le, replaced_at, written};
 ghost use Rattle.base_text.specs.Text.{hex_digit, hex, decimal};
 
 // A lower-case hexadecimal digit.
+#[tactic(auto, unfolding(crate::specs::Text::hex_digit))]
 fn hex_digit(n: u8) -> u8
     requires { n < 16 }
     ensures { result ≡ hex_digit n }
 {
-    if n < 10 {
-        return 48 + n;
-    }
-    87 + n
+    if n < 10 { 48 + n } else { 87 + n }
 }
 
 // The bytes of src in lower-case hexadecimal, two digits each, over dst from `at` on.
@@ -22,15 +20,12 @@ pub fn put_hex(dst: &mut [u8], at: usize, src: &[u8])
     ensures { dst.new
         ≡ replaced_at dst.old at (hex src.now) (2 * length src.now) }
 {
-    let mut i = 0;
-    while i < src.len() {
-        let x = src[i];
-        let high = hex_digit(x / 16);
-        let low = hex_digit(x % 16);
+    for (i, x) in src.iter().enumerate() {
+        let high = hex_digit(*x / 16);
+        let low = hex_digit(*x % 16);
         let to = at + 2 * i;
         dst[to] = high;
         dst[to + 1] = low;
-        i += 1;
     }
 }
 

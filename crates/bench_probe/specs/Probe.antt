@@ -2,8 +2,8 @@
 use Rattle.std.specs.Prelude.{ℕ, zero, suc, ◌≡◌, Bool, cond, List}
 use Rattle.base_md5.specs.declared.words.Digest.{Digest}
 use Rattle.base_md5.specs.Md5.{bytes_of}
-use Rattle.base_order.specs.declared.Order.{Order}
-use Rattle.base_order.specs.declared.Order.TheVariants.{Less, Equal, Greater}
+use Rattle.std.specs.declared.cmp.Ordering.{Ordering}
+use Rattle.std.specs.declared.cmp.Ordering.TheVariants.{Less, Equal, Greater}
 
 -- 0 where the arguments fit, else 1
 abbrev pub answer : Bool → ℕ
@@ -19,7 +19,7 @@ abbrev pub PutsADigest : (answer : ℕ) (before after : List ℕ) → Type 0
 PutsADigest n before after = (v : Digest) × (after ≡ changed n before (bytes_of v))
 
 -- the order as a number
-abbrev pub place : Order → ℕ
+abbrev pub place : Ordering → ℕ
 place Less = 0
 place Equal = 1
 place Greater = 2

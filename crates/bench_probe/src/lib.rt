@@ -10,6 +10,7 @@ ghost use Rattle.base_order.specs.Compared.{order_of};
 ghost use Rattle.bench_probe.specs.Probe.{answer, changed, PutsADigest, place};
 
 use base_md5::words::Digest;
+use std::cmp::Ordering;
 
 // Whether n bytes at `at` stand within len.
 fn fits(at: usize, n: usize, len: usize) -> bool
@@ -109,8 +110,8 @@ pub extern "C" fn probe_compare(a: &[u8], b: &[u8]) -> u32
 {
     let o = base_order::compare(a, b);
     match o {
-        base_order::Order::Less => 0,
-        base_order::Order::Equal => 1,
-        base_order::Order::Greater => 2,
+        Ordering::Less => 0,
+        Ordering::Equal => 1,
+        Ordering::Greater => 2,
     }
 }

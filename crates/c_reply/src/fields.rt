@@ -2,11 +2,42 @@
 ghost use Rattle.std.specs.Prelude.{◌≡◌, ◌+◌, ◌*◌, ◌<◌, length, ◌++◌};
 ghost use Rattle.base_number.specs.Number.{le, replaced_at};
 ghost use Rattle.base_md5.specs.Md5.{bytes_of};
+ghost use Rattle.c_reply.specs.Reply.{field_bytes, kind_of};
+ghost use Rattle.machine.specs.Etags.{count_of, digest_of};
 ghost use Rattle.call_contract.specs.Answers.{etag_of};
-ghost use Rattle.c_reply.specs.Reply.{field_bytes, fields_with, more_of, swept_fields};
+ghost use Rattle.c_reply.specs.Fields.{bytes_of_fields};
 
 use base_md5::words::Digest;
 use call_types::Etag;
+
+// The fields of a reply; those that are not an answer's own are 0.
+#[derive(Clone, Copy)]
+pub struct Fields {
+    pub created: u64,
+    pub size: u32,
+    pub upload: u32,
+    pub records: u32,
+    pub bytes: u32,
+    pub etag: Etag,
+    pub more: bool,
+    pub pairs: u16,
+    pub pairsize: u16,
+}
+
+impl Fields {
+    // The fields of an answer that tells nothing.
+    pub const NONE: Fields = Fields {
+        created: 0,
+        size: 0,
+        upload: 0,
+        records: 0,
+        bytes: 0,
+        etag: Etag::Absent,
+        more: false,
+        pairs: 0,
+        pairsize: 0,
+    };
+}
 
 // Two bytes, as one number.
 fn pair(low: u8, high: u8) -> u16
@@ -54,65 +85,46 @@ fn write_fields(
     write_pairs(reply, pairs, pairsize);
 }
 
-// The same, with the etag as its kind, count and digest.
-pub(crate) fn write(
-    reply: &mut [u8],
-    created: u64,
-    size: u32,
-    upload: u32,
-    records: u32,
-    bytes: u32,
-    etag: Etag,
-    pairs: u16,
-    pairsize: u16,
-)
-    requires { length reply.old ≡ 48 }
-    ensures { reply.new
-        ≡ fields_with created size upload records bytes (etag_of etag) pairs pairsize }
+// An etag's kind, count and digest.
+fn etag_fields(etag: Etag) -> (u8, u16, Digest)
+    ensures kind { result.0 ≡ kind_of (etag_of etag) }
+    ensures count { result.1 ≡ count_of (etag_of etag) }
+    ensures digest { bytes_of result.2 ≡ digest_of (etag_of etag) }
 {
     match etag {
-        Etag::Absent => {
-            let none = Digest {
+        Etag::Absent => (
+            0,
+            0,
+            Digest {
                 a: 0,
                 b: 0,
                 c: 0,
                 d: 0,
-            };
-            write_fields(
-                reply, created, size, upload, records, bytes, 0, 0, 0, none, pairs, pairsize,
-            )
-        }
-        Etag::Plain(digest) => {
-            write_fields(
-                reply, created, size, upload, records, bytes, 1, 0, 0, digest, pairs, pairsize,
-            )
-        }
-        Etag::Joined(digest, count) => {
-            write_fields(
-                reply, created, size, upload, records, bytes, 2, 0, count, digest, pairs, pairsize,
-            )
-        }
+            },
+        ),
+        Etag::Plain(digest) => (1, 0, digest),
+        Etag::Joined(digest, count) => (2, count, digest),
     }
 }
 
-// Whether more uploads are due, as a number.
-fn more_of(more: bool) -> u8
-    ensures { result ≡ more_of more }
-{
-    if more { 1 } else { 0 }
-}
-
-// A sweep's count, in the records' place, and whether more are due.
-pub(crate) fn write_swept(reply: &mut [u8], count: u32, more: bool)
+// The fields over the reply.
+pub(crate) fn write(reply: &mut [u8], f: Fields)
     requires { length reply.old ≡ 48 }
-    ensures { reply.new ≡ swept_fields count more }
+    ensures { reply.new ≡ bytes_of_fields f }
 {
-    let none = Digest {
-        a: 0,
-        b: 0,
-        c: 0,
-        d: 0,
-    };
-    let flag = more_of(more);
-    write_fields(reply, 0, 0, 0, count, 0, 0, flag, 0, none, 0, 0)
+    let (kind, count, digest) = etag_fields(f.etag);
+    write_fields(
+        reply,
+        f.created,
+        f.size,
+        f.upload,
+        f.records,
+        f.bytes,
+        kind,
+        u8::from(f.more),
+        count,
+        digest,
+        f.pairs,
+        f.pairsize,
+    )
 }

@@ -1,5 +1,5 @@
 -- A caller's lists of exported calls, with what it sees of them, and what it knows after the whole. Assumes nothing.
-use Rattle.std.specs.Prelude.{ℕ, ◌≡◌, List, [], ◌∷◌, ◌++◌, length}
+use Rattle.std.specs.Prelude.{ℕ, ◌≡◌, List, [], ◌∷◌, ◌++◌, length, Result, Ok, Err}
 use Rattle.machine.specs.Names.{Bytes}
 use Rattle.machine.specs.Pairs.{pair_list}
 use Rattle.machine.specs.Calls.{PUT, GET, HEAD, DELETE, COPY, LIST, INITIATE, PART, COMMIT, ABORT, UPLOADS, DELETE-OBJECTS, SWEEP, Buffers, buffers, no_buffers}
@@ -9,8 +9,6 @@ use Rattle.call_contract.specs.Made.{Memory, fresh_result}
 use Rattle.c_shift.specs.declared.Shelf.{Shelf}
 use Rattle.c_shift.specs.declared.Weighed.{Weighed}
 use Rattle.c_shift.specs.declared.Returned.{Returned}
-use Rattle.c_shift.specs.declared.ShiftAnswer.{ShiftAnswer}
-use Rattle.c_shift.specs.declared.ShiftAnswer.TheVariants as answer
 use Rattle.c_history.specs.Events.{Event, alone, replied, line}
 use Rattle.c_history.specs.Known.{Known}
 
@@ -90,6 +88,6 @@ shift_events stamp path content pairs other names places list most n b b' =
     ++ sweep_events stamp most n.swept b.swept b'.swept))
 
 -- FRESH refused by a number that is not 0, and nothing changed; or the calls of the list were made, and all that C knows of them holds
-abbrev pub Concluded : (m : Memory) (list : Returned → (b b' : Slices) → List Event) → ShiftAnswer → (b b' : Slices) (m' : Memory) → Type 0
-Concluded m list (answer.Refused n) b b' m' = (n ≡ 0 → ⊥) × (n ≡ fresh_result m) × (m' ≡ m) × (b' ≡ b)
-Concluded m list (answer.Ran n) b b' m' = Known (length m.arena) (list n b b') m'
+abbrev pub Concluded : (m : Memory) (list : Returned → (b b' : Slices) → List Event) → Result Returned ℕ → (b b' : Slices) (m' : Memory) → Type 0
+Concluded m list (Err n) b b' m' = (n ≡ 0 → ⊥) × (n ≡ fresh_result m) × (m' ≡ m) × (b' ≡ b)
+Concluded m list (Ok n) b b' m' = Known (length m.arena) (list n b b') m'

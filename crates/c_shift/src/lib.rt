@@ -160,14 +160,7 @@ pub struct Returned {
     pub swept: u32,
 }
 
-// What came of a shift: FRESH's refusal, or what the calls returned.
-#[derive(Clone, Copy)]
-pub enum ShiftAnswer {
-    Refused(u32),
-    Ran(Returned),
-}
-
-// FRESH, then every call one time.
+// FRESH, then every call one time: what they returned, or FRESH's refusal.
 pub fn fresh_shift(
     tables: &mut [u8],
     arena: &mut [u8],
@@ -193,7 +186,7 @@ pub fn fresh_shift(
     uploads: &mut [u8],
     upload_counts: &mut [u8],
     swept: &mut [u8],
-) -> ShiftAnswer
+) -> Result<Returned, u32>
     ensures { Concluded
         (memory tables.old arena.old)
         (shift_events stamp path.now content.now pairs.now other.now
@@ -211,7 +204,7 @@ pub fn fresh_shift(
 {
     let n = rathnodi::fresh::rathnodi_fresh(tables, arena);
     if n != 0 {
-        return ShiftAnswer::Refused(n);
+        return Err(n);
     }
     let shelf = shelve(
         tables,
@@ -244,7 +237,7 @@ pub fn fresh_shift(
         upload_counts,
     );
     let last = sweep(tables, arena, stamp, most, swept);
-    ShiftAnswer::Ran(Returned {
+    Ok(Returned {
         shelf,
         cleared,
         weighed,

@@ -4,14 +4,7 @@ ghost use Rattle.c_shift.specs.UploadShift.{Concluded};
 
 use crate::Weighed;
 
-// What came of a shift: FRESH's refusal, or what the calls returned.
-#[derive(Clone, Copy)]
-pub enum ShiftAnswer {
-    Refused(u32),
-    Ran(Weighed),
-}
-
-// FRESH, then the calls on an upload.
+// FRESH, then the calls on an upload: what they returned, or FRESH's refusal.
 pub fn fresh_shift(
     tables: &mut [u8],
     arena: &mut [u8],
@@ -24,7 +17,7 @@ pub fn fresh_shift(
     sent: &mut [u8],
     answer: &mut [u8],
     counts: &mut [u8],
-) -> ShiftAnswer
+) -> Result<Weighed, u32>
     ensures { Concluded
         (memory tables.old arena.old)
         stamp path.now pairs.now content.now list.now result
@@ -34,10 +27,10 @@ pub fn fresh_shift(
 {
     let n = rathnodi::fresh::rathnodi_fresh(tables, arena);
     if n != 0 {
-        return ShiftAnswer::Refused(n);
+        return Err(n);
     }
     let weighed = crate::weigh(
         tables, arena, stamp, path, pairs, content, list, opened, sent, answer, counts,
     );
-    ShiftAnswer::Ran(weighed)
+    Ok(weighed)
 }

@@ -99,20 +99,20 @@ module _ (t a : List ℕ) (u : ℕ) (list : Bytes) (place : Lookup) (place_is : 
   pub missing-judged : place.found ≡ false → 2 ≡ result_of (outcome (COMMIT u (part_list list)) (memory t a))
   missing-judged e = not-open (memory t a) u (part_list list) (open-found false e)
 
-  module _ (b : AreBytes t) (w : whole t a ≡ true) (e : place.found ≡ true) (r : Bool) (fit_is : (x : Upload) → lookup by_number u (state_of t a).U ≡ some x → r ≡ list_fits (part_list list) x.parts) where
+  module _ (b : AreBytes t) (w : whole t a ≡ true) (e : place.found ≡ true) where
     valid : Valid (length a) (state_of t a)
     valid = (whole-stands t a b w).valid
 
     upload : (x : Upload) × (lookup by_number u (state_of t a).U ≡ some x)
     upload = is-some (lookup by_number u (state_of t a).U) (open-found true e)
 
-    pub unfit-judged : r ≡ false → 2 ≡ result_of (outcome (COMMIT u (part_list list)) (memory t a))
-    unfit-judged n = not-fit (memory t a) u (part_list list) valid upload.0 upload.1 (sym (fit_is upload.0 upload.1) ∙ n)
+    pub unfit-judged : ((x : Upload) → lookup by_number u (state_of t a).U ≡ some x → list_fits (part_list list) x.parts ≡ false) → 2 ≡ result_of (outcome (COMMIT u (part_list list)) (memory t a))
+    unfit-judged unfit = not-fit (memory t a) u (part_list list) valid upload.0 upload.1 (unfit upload.0 upload.1)
 
-    pub room-judged : r ≡ true → (k : ℕ)
+    pub room-judged : ((x : Upload) → lookup by_number u (state_of t a).U ≡ some x → list_fits (part_list list) x.parts ≡ true) → (k : ℕ)
         → ((x : Upload) → lookup by_number u (state_of t a).U ≡ some x → (y : Object) → k ≡ cond (counted (without_upload (with_object (state_of t a) x.path y) u)) 0 4)
         → k ≡ result_of (outcome (COMMIT u (part_list list)) (memory t a))
-    room-judged y k is = fit-judged (memory t a) u (part_list list) valid upload.0 upload.1 (sym (fit_is upload.0 upload.1) ∙ y) k (is upload.0 upload.1)
+    room-judged fits k is = fit-judged (memory t a) u (part_list list) valid upload.0 upload.1 (fits upload.0 upload.1) k (is upload.0 upload.1)
 
 -- What `join` asks, and what the machine does ---------------------------------------------------------------------------
 

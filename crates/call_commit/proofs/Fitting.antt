@@ -23,7 +23,10 @@ use Rattle.mem_layout.proofs.WholeLaws.{whole-stands}
 use Rattle.mem_find.specs.declared.Lookup.{Lookup}
 use Rattle.mem_find.specs.declared.RowPlace.{RowPlace}
 use Rattle.mem_find.specs.declared.PassedParts.{PassedParts}
-use Rattle.mem_find.specs.Places.{part_place, parts_row_of, passed_parts}
+use Rattle.mem_find.specs.Known.{OfOpenAt, OfOpenBefore}
+use Rattle.mem_find.specs.Places.{part_place, upload_row_of, parts_row_of, passed_parts}
+use Rattle.mem_find.specs.RowPlaces.{row_place_at}
+use Rattle.mem_find_uploads.proofs.Answers.{first-part-row}
 use Rattle.mem_find.proofs.Found.{is-some}
 use Rattle.machine.specs.PartLists.{part_list}
 use Rattle.mem_join_order.proofs.Listed.{fit_count}
@@ -31,7 +34,7 @@ use Rattle.mem_join.proofs.UploadBounds.{few-parts}
 use Rattle.mem_join.proofs.Taking.{fit-even}
 use Rattle.call_commit.specs.Numbers.{number_at, first_numbers, number_fits, after_listed}
 use Rattle.call_commit.proofs.Listing.{next-number, number-inside, no_number, all-numbers}
-use Rattle.call_commit.proofs.Ordered.{ordered-fits}
+use Rattle.call_commit.proofs.Ordered.{ordered-fits, reached-within}
 
 -- a number that stands in the list
 member-inside : (n : ℕ) (ns rest : List ℕ) → member n (ns ++ (n ∷ rest)) ≡ true
@@ -160,3 +163,17 @@ module _ (t a : List ℕ) (b : AreBytes t) (w : whole t a ≡ true) (u count : �
   count-few is_open counted =
       let x = is-some (lookup by_number u s.U) is_open in
       omega (arith, counted x.0 x.1, few-parts t a s h u x.0 x.1)
+
+-- the walk of `judge_list` beside the rows from the first part's on, and its pass over the parts
+module _ (t a : List ℕ) (here first : RowPlace) (first-row : first ≡ row_place_at (rows_of (state_of t a)) (here.row + 1)) (list : Bytes) (reached : RowPlace)
+    (reached-is : reached ≡ after_listed list (rows_of (state_of t a)) first.row) where
+  -- the first part's row, or the row where it would stand
+  pub first-is : (u : ℕ) → here ≡ upload_row_of (state_of t a) u → first ≡ parts_row_of (state_of t a) u
+  first-is u e = first-part-row (state_of t a) u here first e first-row
+
+  module _ (parts : PassedParts) (passed : OfOpenBefore t a first (λ s u x. reached.row ≤ first.row + length x.parts → parts ≡ passed_parts s u x)) where
+    pub parts_are : OfOpenAt t a here (λ s u x. parts ≡ passed_parts s u x)
+    parts_are u x q e = passed u x (first-is u q) e (reached-within (state_of t a) u x e first (first-is u q) list reached reached-is)
+
+    pub parts-counted : OfOpenAt t a here (λ s u x. parts.count ≡ length x.parts)
+    parts-counted u x q e = count-is (state_of t a) u x parts (parts_are u x q e)

@@ -1,5 +1,5 @@
 -- A part list in ascending order, walked beside the rows: it fits. Assumes nothing.
-use Prim.Native.Nat.{ℕ, zero, suc, ◌+◌, ◌*◌, ◌≤◌}
+use Prim.Native.Nat.{ℕ, zero, suc, ◌+◌, ◌*◌, ◌≤◌, ◌<◌}
 use mathlib.Core.Path.{◌≡◌, refl, sym, ap, ◌∙◌, subst}
 use mathlib.Core.Bool.{Bool, true, false, cond}
 use mathlib.Core.List.{List, [], ◌∷◌, ◌++◌}
@@ -24,11 +24,10 @@ use Rattle.mem_layout.specs.Memory.{row_kind, part_row, upload_row, object_rows,
 use Rattle.mem_layout.proofs.UploadLaws.{length-part-rows}
 use Rattle.mem_find.specs.declared.RowPlace.{RowPlace}
 use Rattle.mem_find.specs.declared.PassedParts.{PassedParts}
-use Rattle.mem_find.specs.RowPlaces.{row_place_at, IsRowPlace}
+use Rattle.mem_find.specs.RowPlaces.{row_place_at, IsRowPlace, HeadAt}
 use Rattle.mem_find.specs.Places.{before_upload, before_parts, through_parts, after_upload, parts_row_of, passed_parts}
 use Rattle.mem_find.proofs.Splits.{parts-place}
 use Rattle.mem_find_uploads.proofs.Answers.{place-row, is-row-place}
-use Rattle.mem_find_uploads.proofs.Walk.{row_place, Reached, Turn, reached-place}
 use Rattle.machine.specs.PartLists.{part_list}
 use Rattle.mem_join_order.specs.Region.{part_numbers}
 use Rattle.call_commit.specs.Numbers.{number_at, is_part, listed_first, after_listed}
@@ -93,48 +92,47 @@ module _ (list : Bytes) (i : ℕ) (inside : 2 * i + 2 ≤ length list) (rs : Lis
       let q : is_part (k.0 + 256 * k.1) (head_of r) ≡ b = ap (λ (n : ℕ). is_part n (head_of r)) (sym k.3) ∙ h in
       ap (λ (l : Bytes). listed_first l rs) k.2 ∙ rw (here, q)
 
--- the list's first i numbers are those of parts whose rows stand from row `first` on, and the row after them is at `at`
-pub record Walked (s : State) (first : ℕ) (list : Bytes) (i row at base : ℕ) : Type 0 where
-  pub here : Reached s row at base
-  pub counted : row ≡ first + i
-  pub left : listed_first list (drop first (rows_of s)) ≡ i + listed_first (drop (2 * i) list) (drop row (rows_of s))
+-- the list's first i numbers are those of parts whose rows stand from row `first` on, and `here` is the row after them
+pub record Walked (s : State) (first : ℕ) (list : Bytes) (i : ℕ) (here : RowPlace) : Type 0 where
+  pub place : IsRowPlace (rows_of s) here
+  pub counted : here.row ≡ first + i
+  pub left : listed_first list (drop first (rows_of s)) ≡ i + listed_first (drop (2 * i) list) (drop here.row (rows_of s))
 
-module _ (s : State) (first : ℕ) (list : Bytes) where
-  pub walked_none : (at base : ℕ) → Reached s first at base → Walked s first list 0 first at base
-  walked_none at base k = record { here = k; counted = omega arith; left = omega arith }
+module _ (s : State) (first : ℕ) (list : Bytes) (i : ℕ) (here : RowPlace) (k : Walked s first list i here) where
+  stopped : listed_first (drop (2 * i) list) (drop here.row (rows_of s)) ≡ 0 → here ≡ after_listed list (rows_of s) first
+  stopped z =
+      let n : here.row ≡ first + listed_first list (drop first (rows_of s)) = omega (arith, k.counted, k.left) in
+      k.place.0 ∙ ap (row_place_at (rows_of s)) n
 
-  module _ (i row at base : ℕ) (k : Walked s first list i row at base) where
-    stopped : listed_first (drop (2 * i) list) (drop row (rows_of s)) ≡ 0 → row_place row at base ≡ after_listed list (rows_of s) first
-    stopped z =
-        let n : row ≡ first + listed_first list (drop first (rows_of s)) = omega (arith, k.counted, k.left) in
-        reached-place s row at base k.here ∙ ap (row_place_at (rows_of s)) n
+  pub walked-list : length list ≤ 2 * i + 1 → here ≡ after_listed list (rows_of s) first
+  walked-list l = stopped (no-listed (drop (2 * i) list) (drop here.row (rows_of s)) (omega (arith, length-drop (2 * i) list)))
 
-    pub walked-list : length list ≤ 2 * i + 1 → row_place row at base ≡ after_listed list (rows_of s) first
-    walked-list l = stopped (no-listed (drop (2 * i) list) (drop row (rows_of s)) (omega (arith, length-drop (2 * i) list)))
+  pub walked-rows : length (rows_of s) ≤ here.row → here ≡ after_listed list (rows_of s) first
+  walked-rows l = stopped (ap (listed_first (drop (2 * i) list)) (drop_of_length-le (rows_of s) l) ∙ no_row (drop (2 * i) list))
 
-    pub walked-rows : length (rows_of s) ≤ row → row_place row at base ≡ after_listed list (rows_of s) first
-    walked-rows l = stopped (ap (listed_first (drop (2 * i) list)) (drop_of_length-le (rows_of s) l) ∙ no_row (drop (2 * i) list))
+  -- the row there, whose head was read
+  module _ (inside : 2 * i + 2 ≤ length list) (head : Head) (told : HeadAt (rows_of s) here head) where
+    step : (b : Bool) → is_part (number_at list i) head ≡ b → listed_first (drop (2 * i) list) (drop here.row (rows_of s)) ≡ cond b (suc (listed_first (drop (2 * (i + 1)) list) (drop (here.row + 1) (rows_of s)))) 0
+    step b h = listed-row list i inside (drop here.row (rows_of s)) told.row _ told.here b (ap (is_part (number_at list i)) (sym told.same) ∙ h)
 
-    module _ (inside : 2 * i + 2 ≤ length list) (t a : List ℕ) (head : Head) (turn : Turn t a s row at base head) where
-      step : (b : Bool) → is_part (number_at list i) head ≡ b → listed_first (drop (2 * i) list) (drop row (rows_of s)) ≡ cond b (suc (listed_first (drop (2 * (i + 1)) list) (drop (row + 1) (rows_of s)))) 0
-      step b h = listed-row list i inside (drop row (rows_of s)) turn.row _ turn.here b (ap (is_part (number_at list i)) (sym turn.same) ∙ h)
+    pub walked-off : is_part (number_at list i) head ≡ false → here ≡ after_listed list (rows_of s) first
+    walked-off h = stopped (step false h)
 
-      pub walked-off : is_part (number_at list i) head ≡ false → row_place row at base ≡ after_listed list (rows_of s) first
-      walked-off h = stopped (step false h)
+    -- the row's length
+    head-alone : is_part (number_at list i) head ≡ true → span head ≡ head_length
+    head-alone h =
+        let kind = eqb-true _ _ (both _ _ h).0 in
+        ap span told.same ∙ part-span s here.row told.row told.here (ap (λ (g : Head). g.kind) (sym told.same) ∙ kind)
 
-      -- the row's length
-      head-alone : is_part (number_at list i) head ≡ true → span head ≡ head_length
-      head-alone h =
-          let kind = eqb-true _ _ (both _ _ h).0 in
-          ap span turn.same ∙ part-span s row turn.row turn.here (ap (λ (g : Head). g.kind) (sym turn.same) ∙ kind)
-
-      pub walked_next : is_part (number_at list i) head ≡ true → Walked s first list (i + 1) (row + 1) (at + head_length) (base + head.size)
-      walked_next h =
-          record {
-            here = subst (λ (n : ℕ). Reached s (row + 1) (at + n) (base + head.size)) (head-alone h) turn.next;
-            counted = omega (arith, k.counted);
-            left = omega (arith, k.left, step true h);
-          }
+    pub walked_next : here.row < length (rows_of s) → is_part (number_at list i) head ≡ true
+        → Walked s first list (i + 1) (record { row = here.row + 1; at = here.at + head_length; base = here.base + head.size })
+    walked_next l h =
+        let next = subst (λ (n : ℕ). record { row = here.row + 1; at = here.at + n; base = here.base + head.size } ≡ row_place_at (rows_of s) (here.row + 1)) (head-alone h) told.next in
+        record {
+          place = (next, omega arith);
+          counted = omega (arith, k.counted);
+          left = omega (arith, k.left, step true h);
+        }
 
 -- A list of the parts' numbers in order ----------------------------------------------------------------------------------
 

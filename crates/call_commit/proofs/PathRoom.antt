@@ -11,14 +11,14 @@ use lib.ListN.{length, take, drop}
 use Rattle.base_number.specs.Number.{AreBytes}
 use Rattle.base_order.specs.Order.{by_bytes}
 use Rattle.base_order.proofs.OrderLaws.{bytes}
-use Rattle.machine.specs.Map.{is_some, by_number, lookup, insert}
+use Rattle.machine.specs.Map.{by_number, lookup, insert}
 use Rattle.machine.specs.Names.{Bytes}
 use Rattle.machine.specs.State.{Object, Upload, State, counted, with_object, without_upload}
 use Rattle.machine.specs.Valid.{Valid}
 use Rattle.machine.proofs.MapSums.{length-insert}
 use Rattle.machine.proofs.Counts.{commit-counted}
 use Rattle.mem_row.specs.declared.Head.{Head}
-use Rattle.mem_row.specs.Row.{encode_rows, head_at, head_length, span}
+use Rattle.mem_row.specs.Row.{encode_rows, head_at, head_length}
 use Rattle.mem_layout.specs.Header.{header_length}
 use Rattle.mem_layout.specs.Memory.{whole, state_of, Stands}
 use Rattle.mem_layout.proofs.WholeLaws.{whole-stands}
@@ -26,7 +26,7 @@ use Rattle.mem_find.specs.declared.Lookup.{Lookup}
 use Rattle.mem_find.specs.declared.RowPlace.{RowPlace}
 use Rattle.mem_find.specs.Places.{before_upload, upload_row_of, object_place}
 use Rattle.mem_find.proofs.Found.{is-some, is_none, place_found}
-use Rattle.mem_join.proofs.PathRead.{head-inside, path_inside, path-there}
+use Rattle.mem_join.proofs.PathRead.{path-there}
 use Rattle.mem_join.proofs.UploadBounds.{row-at}
 
 -- table full, or 0
@@ -60,13 +60,6 @@ module _ (t a : List ℕ) (b : AreBytes t) (w : whole t a ≡ true) (u : ℕ) (h
 
   at-is : here.at ≡ header_length + length (encode_rows (before_upload s u))
   at-is = row-at s u here here-is
-
-  module _ (is_open : is_some (lookup by_number u s.U) ≡ true) where
-    pub row_inside : here.at + head_length ≤ length t
-    row_inside = let x = is-some (lookup by_number u s.U) is_open in head-inside t a s h u x.0 x.1 here.at at-is
-
-    pub path-ends : (head : Head) → head ≡ head_at (drop here.at t) → here.at + span head ≤ length t
-    path-ends head read = let x = is-some (lookup by_number u s.U) is_open in path_inside t a s h u x.0 x.1 here.at at-is head read
 
   module _ (head : Head) (read : head ≡ head_at (drop here.at t)) (place : Lookup)
       (place_is : place ≡ object_place s (take (here.at + head_length + head.pathlen - (here.at + head_length)) (drop (here.at + head_length) t)))

@@ -9,12 +9,28 @@ use Rattle.machine.specs.Calls.{Call, Buffers, Reply, Answer, Outcome, refuse, a
 use Rattle.machine.specs.Steps.{reply_of, after}
 use Rattle.mem_layout.specs.Memory.{Stands}
 use Rattle.mem_layout.proofs.StandsLaws.{stands-state, stands-whole}
+use Rattle.call_types.specs.declared.Refusal.{Refusal}
+use Rattle.call_types.specs.declared.Refusal.TheVariants.{NotAStore, BadRequest, NotFound, TableFull, ArenaFull, NumbersUsedUp, BufferShort, TooMany, NotALine}
+use Rattle.call_types.specs.Numbers.{number_of, result_number}
+use Rattle.std.specs.Prelude.{Result, Ok, Err}
 use Rattle.call_contract.specs.Answers.{refused}
 use Rattle.call_contract.specs.Made.{Memory, whole_memory, state_in, outcome, result_of, meant_reply, meant_state, Made, MadeWhole}
 use Rattle.machine.proofs.Outcome.{code-not-zero}
 
 pub one_not_zero : ◌≡◌ {A = ℕ} 1 0 → ⊥
 one_not_zero e = omega arith
+
+-- "Success is 0.": a refusal has another number
+pub refusal-not-zero : (r : Refusal) → number_of r ≡ 0 → ⊥
+refusal-not-zero NotAStore e = omega arith
+refusal-not-zero BadRequest e = omega arith
+refusal-not-zero NotFound e = omega arith
+refusal-not-zero TableFull e = omega arith
+refusal-not-zero ArenaFull e = omega arith
+refusal-not-zero NumbersUsedUp e = omega arith
+refusal-not-zero BufferShort e = omega arith
+refusal-not-zero TooMany e = omega arith
+refusal-not-zero NotALine e = omega arith
 
 -- refusal 1: memory that is not whole
 pub not-whole : {k : Call} {m : Memory} → whole_memory m ≡ false → Made k m (refused 1 (lent k)) m
@@ -29,6 +45,13 @@ not-whole w =
       arena-length = refl;
       refusal = λ _. refl;
     }
+
+-- what a judge answers: the number of the machine's result
+pub judged_err : {A : Type 0} {n : ℕ} {r : Result A Refusal} (x : Refusal) → result_number r ≡ n → r ≡ Err x → number_of x ≡ n
+judged_err x e q = sym (ap result_number q) ∙ e
+
+pub judged_ok : {A : Type 0} {n : ℕ} {r : Result A Refusal} (x : A) → result_number r ≡ n → r ≡ Ok x → n ≡ 0
+judged_ok x e q = sym e ∙ ap result_number q
 
 -- Over whole memory ----------------------------------------------------------------------------------------------------
 
@@ -47,6 +70,10 @@ module _ {k : Call} {m : Memory} where
             arena-length = refl;
             refusal = λ _. refl;
           }
+
+  -- the same of a judge's refusal
+  pub judged-refused : (x : Refusal) → number_of x ≡ result_of (outcome k m) → MadeWhole k m (refused (number_of x) (lent k)) m
+  judged-refused x e = judged (number_of x) e (refusal-not-zero x)
 
   module _ {m' : Memory} {r : Reply} where
     -- accepted: its reply and the memory that it leaves

@@ -1,23 +1,16 @@
 -- Document 01's and document 02's number and values for each answer of the code, and name places of slices. Assumes nothing.
-use Rattle.std.specs.Prelude.{ℕ, zero, suc, ◌/◌, ◌%◌, ◌≡◌, List, [], ◌∷◌, map, length, take, drop}
+use Rattle.std.specs.Prelude.{ℕ, zero, suc, ◌/◌, ◌%◌, ◌≡◌, List, [], ◌∷◌, map, length, take, drop, Result, Ok, Err}
 use Rattle.base_number.specs.Number.{from_le}
 use Rattle.base_md5.specs.Md5.{bytes_of}
 use Rattle.call_types.specs.declared.Etag.{Etag}
 use Rattle.call_types.specs.declared.Etag.TheVariants.{Absent, Plain, Joined}
 use Rattle.call_types.specs.declared.Metadata.{Metadata}
 use Rattle.call_types.specs.declared.Place.{Place}
-use Rattle.call_types.specs.declared.DoneAnswer.{DoneAnswer}
-use Rattle.call_types.specs.declared.DoneAnswer.TheVariants as done
-use Rattle.call_types.specs.declared.GetAnswer.{GetAnswer}
-use Rattle.call_types.specs.declared.GetAnswer.TheVariants as get
-use Rattle.call_types.specs.declared.PartAnswer.{PartAnswer}
-use Rattle.call_types.specs.declared.PartAnswer.TheVariants as part
-use Rattle.call_types.specs.declared.InitiateAnswer.{InitiateAnswer}
-use Rattle.call_types.specs.declared.InitiateAnswer.TheVariants as initiate
-use Rattle.call_types.specs.declared.ListAnswer.{ListAnswer}
-use Rattle.call_types.specs.declared.ListAnswer.TheVariants as list
-use Rattle.call_types.specs.declared.SweepAnswer.{SweepAnswer}
-use Rattle.call_types.specs.declared.SweepAnswer.TheVariants as sweep
+use Rattle.call_types.specs.declared.UploadNumber.{UploadNumber}
+use Rattle.call_types.specs.declared.Counts.{Counts}
+use Rattle.call_types.specs.declared.Sweep.{Sweep}
+use Rattle.call_types.specs.declared.Refusal.{Refusal}
+use Rattle.call_types.specs.Numbers.{number_of}
 use Rattle.machine.specs.Names.{Bytes}
 use Rattle.machine.specs.Etags as machine
 use Rattle.machine.specs.Calls.{NamePlace, Answer, nothing, metadata, etag, number, counts, swept, Buffers, buffers, no_buffers, Reply}
@@ -39,44 +32,39 @@ abbrev pub success : Answer → Buffers → Reply
 success a b = record { result = 0; answer = a; buffers = b }
 
 -- PUT, DELETE, COPY, COMMIT and ABORT
-abbrev pub done_reply : DoneAnswer → Reply
-done_reply (done.Refused n) = refused n no_buffers
-done_reply done.Done = success nothing no_buffers
+abbrev pub done_reply : Result (Unit {0}) Refusal → Reply
+done_reply (Ok _) = success nothing no_buffers
+done_reply (Err r) = refused (number_of r) no_buffers
 
 -- E1, DELETE_OBJECTS; b is what the result buffer holds
-abbrev pub results_reply : DoneAnswer → Bytes → Reply
-results_reply (done.Refused n) b = refused n (buffers b [])
-results_reply done.Done b = success nothing (buffers b [])
-
--- "Success is 0.": a refusal has another number, so `Done` alone says that the call was done
-abbrev pub WellNumbered : DoneAnswer → Type 0
-WellNumbered (done.Refused n) = n ≡ 0 → ⊥
-WellNumbered done.Done = Unit {0}
+abbrev pub results_reply : Result (Unit {0}) Refusal → Bytes → Reply
+results_reply (Ok _) b = success nothing (buffers b [])
+results_reply (Err r) b = refused (number_of r) (buffers b [])
 
 -- GET and HEAD; b is what the answer buffers hold
-abbrev pub get_reply : GetAnswer → Buffers → Reply
-get_reply (get.Refused n) b = refused n b
-get_reply (get.Found m) b = success (metadata_of m) b
+abbrev pub get_reply : Result Metadata Refusal → Buffers → Reply
+get_reply (Ok m) b = success (metadata_of m) b
+get_reply (Err r) b = refused (number_of r) b
 
 -- PART
-abbrev pub part_reply : PartAnswer → Reply
-part_reply (part.Refused n) = refused n no_buffers
-part_reply (part.Stored e) = success (etag (etag_of e)) no_buffers
+abbrev pub part_reply : Result Etag Refusal → Reply
+part_reply (Ok e) = success (etag (etag_of e)) no_buffers
+part_reply (Err r) = refused (number_of r) no_buffers
 
 -- INITIATE
-abbrev pub initiate_reply : InitiateAnswer → Reply
-initiate_reply (initiate.Refused n) = refused n no_buffers
-initiate_reply (initiate.Opened u) = success (number u.0) no_buffers
+abbrev pub initiate_reply : Result UploadNumber Refusal → Reply
+initiate_reply (Ok u) = success (number u.0) no_buffers
+initiate_reply (Err r) = refused (number_of r) no_buffers
 
 -- LIST and UPLOADS; b is what the answer buffer holds
-abbrev pub list_reply : ListAnswer → Bytes → Reply
-list_reply (list.Refused n) b = refused n (buffers b [])
-list_reply (list.Written c) b = success (counts c.records c.bytes) (buffers b [])
+abbrev pub list_reply : Result Counts Refusal → Bytes → Reply
+list_reply (Ok c) b = success (counts c.records c.bytes) (buffers b [])
+list_reply (Err r) b = refused (number_of r) (buffers b [])
 
 -- E3, SWEEP: "how many it aborted and whether more are due"
-abbrev pub sweep_reply : SweepAnswer → Reply
-sweep_reply (sweep.Refused n) = refused n no_buffers
-sweep_reply (sweep.Swept x) = success (swept x.count x.more) no_buffers
+abbrev pub sweep_reply : Result Sweep Refusal → Reply
+sweep_reply (Ok x) = success (swept x.count x.more) no_buffers
+sweep_reply (Err r) = refused (number_of r) no_buffers
 
 -- E1: the name places of a slice of them
 abbrev pub name_place : Place → NamePlace

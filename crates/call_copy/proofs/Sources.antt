@@ -26,15 +26,20 @@ use Rattle.mem_row.specs.Row.{head_at, lengths_at}
 use Rattle.mem_layout.specs.Memory.{whole, state_of, Stands, arena_most}
 use Rattle.mem_layout.proofs.WholeLaws.{whole-stands}
 use Rattle.mem_find.specs.declared.Lookup.{Lookup}
-use Rattle.mem_find.proofs.Found.{is_none}
+use Rattle.mem_find.specs.Places.{object_place}
+use Rattle.mem_find.proofs.Found.{is_none, place_found}
 use Rattle.mem_edit_copy.specs.Copy.{content_in, pairs_in, content_at, kept_at, copied, Copiable}
-use Rattle.mem_edit_copy.proofs.Source.{ObjectThere, lengths-there, size_is, block_inside, block-there}
+use Rattle.mem_edit_copy.proofs.Source.{ObjectThere, object-there, lengths-there, size_is, block_inside, block-there}
 use Rattle.call_room.specs.Judged.{PutResult}
 use Rattle.mem_edit.proofs.PlainObjects.{plain-is}
 use Rattle.call_room.proofs.PutAt.{put-at-accepted}
 use Rattle.call_contract.specs.Made.{Memory, memory, state_in, outcome, result_of}
 use Rattle.call_contract.proofs.Judging.{result-pass, result-stop, passed, result-found, result-missing, was-found}
 use Rattle.call_copy.specs.Source.{source_outcome}
+
+-- the object that a lookup found
+pub source-there : (t a p : List ℕ) (place : Lookup) → AreBytes t → whole t a ≡ true → place ≡ object_place (state_of t a) p → place.found ≡ true → ObjectThere t a p place
+source-there t a p place b w is e = object-there t a p b w (place_found (state_of t a) p place true is e) place is
 
 -- the source, by the head that is read of its row
 module _ (t a p : List ℕ) (place : Lookup) (o : ObjectThere t a p place) (head : Head) (head-is : head ≡ head_at (drop place.at t)) where

@@ -4,7 +4,6 @@ use mathlib.Core.Bool.{true, false}
 use mathlib.Core.Option.{some}
 use lib.ListN.{length}
 use Rattle.base_order.specs.Order.{by_bytes}
-use Rattle.call_types.specs.declared.DoneAnswer.TheVariants as answer
 use Rattle.machine.specs.Map.{lookup}
 use Rattle.machine.specs.Names.{Bytes, request_path_ok}
 use Rattle.machine.specs.State.{Object, State, without_object}
@@ -14,7 +13,7 @@ use Rattle.mem_layout.specs.Memory.{Stands}
 use Rattle.mem_find.specs.declared.Lookup.{Lookup}
 use Rattle.mem_find.specs.Places.{object_place}
 use Rattle.mem_find.proofs.Found.{is-some, is_none, place_found}
-use Rattle.call_contract.specs.Answers.{WellNumbered, done_reply}
+use Rattle.call_contract.specs.Answers.{success}
 use Rattle.call_contract.specs.Made.{Memory, state_in, outcome, result_of, MadeWhole}
 use Rattle.call_contract.proofs.Judging.{result-pass, result-stop, result-found, result-missing, passed, was-found}
 use Rattle.call_contract.proofs.MadeLaws.{done}
@@ -59,5 +58,5 @@ module _ (m : Memory) (p : Bytes) where
 
     -- memory that stands without the object is what DELETE leaves
     pub delete-made : (m' : Memory) → Stands m'.tables m'.arena (without_object s p)
-        → length m'.tables ≡ length m.tables → length m'.arena ≡ length m.arena → MadeWhole (DELETE p) m (done_reply answer.Done) m' × WellNumbered answer.Done
-    delete-made m' stands lt la = (done nothing no_buffers _ delete-accepted refl stands lt la, tt)
+        → length m'.tables ≡ length m.tables → length m'.arena ≡ length m.arena → MadeWhole (DELETE p) m (success nothing no_buffers) m'
+    delete-made m' stands lt la = done nothing no_buffers _ delete-accepted refl stands lt la

@@ -1,23 +1,22 @@
 -- What DELETE_OBJECTS' refusal shows. Assumes nothing.
-use Prim.Native.Nat.{ℕ, ◌<◌, ◌≤◌}
+use Prim.Native.Nat.{ℕ, ◌≤◌}
 use mathlib.Core.Path.{◌≡◌, refl, sym, subst, ◌∙◌}
 use mathlib.Core.Bool.{Bool, true, false, cond}
 use mathlib.Core.List.{List, []}
 use native.Mathlib.Omega.{arith}
-use borrow.Author.Tests.{leb-true, eqb-true, eq-eqb, ne_eqb}
+use borrow.Author.Tests.{leb-true}
 use lib.Dec.{leb, eqb}
 use lib.ListN.{length}
-use Rattle.call_types.specs.declared.DoneAnswer.TheVariants.{Refused, Done}
 use Rattle.machine.specs.Names.{Bytes}
 use Rattle.machine.specs.State.{State}
-use Rattle.machine.specs.Calls.{NamePlace, DELETE-OBJECTS, Answer, nothing, Buffers, buffers, accept, Outcome, tooMany, badRequest, bufferShort, ◌else◌then◌}
+use Rattle.machine.specs.Calls.{NamePlace, DELETE-OBJECTS, Answer, nothing, Buffers, buffers, no_buffers, accept, Outcome, tooMany, badRequest, bufferShort, ◌else◌then◌}
 use Rattle.machine.specs.Steps.{act, place_results, after_places}
 use Rattle.call_contract.specs.Answers.{refused}
 use Rattle.base_number.specs.Number.{AreBytes}
 use Rattle.mem_layout.proofs.WholeLaws.{whole-stands}
 use Rattle.call_contract.specs.Made.{Memory, whole_memory, state_in, outcome, result_of, Made}
 use Rattle.call_contract.proofs.MadeLaws.{one_not_zero, not-whole, judged, over-whole}
-use Rattle.call_delete_objects.specs.Judged.{list_refusal, Judged, turns_of, answer_of}
+use Rattle.call_delete_objects.specs.Judged.{list_refusal, Judged}
 
 -- The three checks -----------------------------------------------------------------------------------------------------
 
@@ -50,6 +49,23 @@ module _ (count left results : ℕ) (m : Memory) where
 
 -- The refusal ----------------------------------------------------------------------------------------------------------
 
+module _ (count left_over results : ℕ) (m : Memory) (n : ℕ) (j : Judged count left_over results m n) where
+  -- memory is whole and n the list's refusal, or n is 1
+  by_whole : {P : Type 0} → (whole_memory m ≡ true → n ≡ list_refusal count left_over results → P) → (whole_memory m ≡ false → n ≡ 1 → P) → P
+  by_whole {P} is isn't = go (whole_memory m) refl j.number
+    where
+      go : (w : Bool) → whole_memory m ≡ w → n ≡ cond w (list_refusal count left_over results) 1 → P
+      go true w e = is w e
+      go false w e = isn't w e
+
+  -- accepted: memory is whole, and the results fit
+  pub results-fit : n ≡ 0 → (whole_memory m ≡ true) × (count ≤ results)
+  unfolding list_refusal
+  results-fit z =
+      by_whole
+      (λ w e. (w, leb-true _ _ (all-passed nothing no_buffers (state_in m) (leb count 1000) (eqb left_over 0) (leb count results) (sym e ∙ z)).0))
+      (λ w e. absurd (omega arith))
+
 module _ (names : Bytes) (ps : List NamePlace) (left_over : ℕ) (b : Bytes) (m : Memory) (n : ℕ) (j : Judged (length ps) left_over (length b) m n) where
   abbrev results : Bytes
   results = place_results (state_in m) names ps
@@ -57,55 +73,17 @@ module _ (names : Bytes) (ps : List NamePlace) (left_over : ℕ) (b : Bytes) (m 
   abbrev last : State
   last = after_places (state_in m) names ps
 
-  -- memory is whole and n the list's refusal, or n is 1
-  by_whole : {P : Type 0} → (whole_memory m ≡ true → n ≡ list_refusal (length ps) left_over (length b) → P) → (whole_memory m ≡ false → n ≡ 1 → P) → P
-  by_whole {P} is isn't = go (whole_memory m) refl j.number
-    where
-      go : (w : Bool) → whole_memory m ≡ w → n ≡ cond w (list_refusal (length ps) left_over (length b)) 1 → P
-      go true w e = is w e
-      go false w e = isn't w e
-
   pub refused-made : (n ≡ 0 → ⊥) → Made (DELETE-OBJECTS names ps left_over b) m (refused n (buffers b [])) m
   unfolding outcome act list_refusal checks
   refused-made not =
-      by_whole
+      by_whole _ _ _ _ _ j
       (λ w e. over-whole w (judged n (e ∙ sym (number_is nothing (buffers results []) last (leb (length ps) 1000) (eqb left_over 0) (leb (length ps) (length b)))) not))
       (λ w e. subst (λ (x : ℕ). Made (DELETE-OBJECTS names ps left_over b) m (refused x (buffers b [])) m) (sym e) (not-whole w))
 
-  -- accepted: the results fit, and the machine accepts
-  pub accepted : n ≡ 0 → (whole_memory m ≡ true) × (length ps ≤ length b) × (outcome (DELETE-OBJECTS names ps left_over b) m ≡ accept nothing (buffers results []) last)
+  -- accepted: the machine accepts
+  pub accepted : n ≡ 0 → outcome (DELETE-OBJECTS names ps left_over b) m ≡ accept nothing (buffers results []) last
   unfolding outcome act list_refusal checks
   accepted z =
-      by_whole
-      (λ w e.
-      let h = all-passed nothing (buffers results []) last (leb (length ps) 1000) (eqb left_over 0) (leb (length ps) (length b)) (sym e ∙ z) in
-      (w, leb-true _ _ h.0, h.1))
+      by_whole _ _ _ _ _ j
+      (λ w e. (all-passed nothing (buffers results []) last (leb (length ps) 1000) (eqb left_over 0) (leb (length ps) (length b)) (sym e ∙ z)).1)
       (λ w e. absurd (omega arith))
-
--- What follows from it -------------------------------------------------------------------------------------------------
-
-module _ {i : ℕ} (n count : ℕ) where
-  -- a turn is taken only where nothing refuses
-  pub turn-taken : i < turns_of n count → (n ≡ 0) × (i < count)
-  unfolding turns_of
-  turn-taken h = go (eqb n 0) refl h
-    where
-      go : (z : Bool) → eqb n 0 ≡ z → i < cond z count 0 → (n ≡ 0) × (i < count)
-      go true e l = (eqb-true n 0 e, l)
-      go false e l = absurd (omega arith)
-
-pub all-turns : (n count : ℕ) → n ≡ 0 → turns_of n count ≡ count
-unfolding turns_of
-all-turns n count z = rw (eq-eqb n 0 z)
-
-pub no-turns : (n count : ℕ) → (n ≡ 0 → ⊥) → turns_of n count ≡ 0
-unfolding turns_of
-no-turns n count not = rw (ne_eqb n 0 not)
-
-pub answers-done : (n : ℕ) → n ≡ 0 → answer_of n ≡ Done
-unfolding answer_of
-answers-done n z = rw (eq-eqb n 0 z)
-
-pub answers-refused : (n : ℕ) → (n ≡ 0 → ⊥) → answer_of n ≡ Refused n
-unfolding answer_of
-answers-refused n not = rw (ne_eqb n 0 not)

@@ -7,12 +7,10 @@ use borrow.Author.Tests.{le-leb, lt-leb}
 use lib.Dec.{leb}
 use lib.ListN.{length, take, drop}
 use Rattle.base_number.specs.Number.{AreBytes}
-use Rattle.call_types.specs.declared.DoneAnswer.{DoneAnswer}
 use Rattle.machine.specs.Names.{Bytes}
 use Rattle.machine.specs.Calls.{DELETE, NamePlace, Reply, badRequest}
 use Rattle.machine.specs.Steps.{delete_at, delete_place, act}
 use Rattle.mem_layout.proofs.WholeLaws.{whole-stands}
-use Rattle.call_contract.specs.Answers.{done_reply}
 use Rattle.call_contract.specs.Made.{Memory, whole_memory, state_in, outcome, MadeWhole}
 use Rattle.call_contract.proofs.Judging.{pass, stop}
 use Rattle.call_contract.proofs.MadeLaws.{stands_after}
@@ -33,10 +31,10 @@ module _ (m : Memory) (b : AreBytes m.tables) (w : whole_memory m ≡ true) (nam
   unfolding delete_place outcome act
   is-delete h = pass (leb (p.start + p.length) (length names)) badRequest (delete_at (state_in m) path) (le-leb _ _ h)
 
-  pub inside : (to : ℕ) → to ≡ p.start + p.length → to ≤ length names → {m' : Memory} (x : DoneAnswer)
-      → MadeWhole (DELETE (take (to - p.start) (drop p.start names))) m (done_reply x) m' → (n : ℕ) → n ≡ (done_reply x).result → PlaceDone names p m n m'
-  inside to is h {m'} x d n n-is =
+  pub inside : (to : ℕ) → to ≡ p.start + p.length → to ≤ length names → {m' : Memory} (r : Reply)
+      → MadeWhole (DELETE (take (to - p.start) (drop p.start names))) m r m' → (n : ℕ) → n ≡ r.result → PlaceDone names p m n m'
+  inside to is h {m'} r d n n-is =
       let l : to - p.start ≡ p.length = omega arith in
-      let k : MadeWhole (DELETE path) m (done_reply x) m' = rw l at d in
+      let k : MadeWhole (DELETE path) m r m' = rw l at d in
       let e = is-delete (omega arith) in
       record { result = n-is ∙ ap (λ (y : Reply). y.result) k.answers ∙ sym (rw e); stands = rw e (stands_after w k (whole-stands m.tables m.arena b w)) }

@@ -1,6 +1,5 @@
 -- What the DELETE of one name place promises. Assumes nothing.
-use Rattle.std.specs.Prelude.{ℕ, ◌≡◌, List, get_or, set}
-use Rattle.call_types.specs.declared.Place.{Place}
+use Rattle.std.specs.Prelude.{ℕ, ◌≡◌, set}
 use Rattle.machine.specs.Names.{Bytes}
 use Rattle.machine.specs.Calls.{NamePlace, no_buffers}
 use Rattle.machine.specs.Steps.{delete_place, reply_of, after}
@@ -9,10 +8,6 @@ use Rattle.call_contract.specs.Made.{Memory, state_in}
 
 abbrev pub place_of : (start length : ℕ) → NamePlace
 place_of s l = record { start = s; length = l }
-
--- the place at an index of a slice
-abbrev pub place_at : List Place → ℕ → Place
-place_at ps i = get_or ps i (record { start = 0; len = 0 })
 
 -- The place p over whole memory m had the result n and left memory m'.
 pub record PlaceDone (names : Bytes) (p : NamePlace) (m : Memory) (n : ℕ) (m' : Memory) : Type 0 where

@@ -29,18 +29,22 @@ use Rattle.mem_find.specs.Places.{place_after, before_object, after_object, obje
 use Rattle.mem_find.proofs.RowsAt.{At, row-at}
 use Rattle.mem_find.proofs.Splits.{object-found}
 use Rattle.mem_find.proofs.PairSizes.{row-span, row-lengths}
+use Rattle.std.specs.Prelude.{Ok, Err}
+use Rattle.call_types.specs.declared.Refusal.{Refusal}
+use Rattle.call_types.specs.declared.Refusal.TheVariants.{BadRequest, NotFound}
+use Rattle.call_types.specs.Numbers.{number_of}
 use Rattle.call_contract.specs.Answers.{refused}
 use Rattle.call_get.specs.declared.Named.TheVariants as named
 use Rattle.call_get.specs.Named.{named_in, stored_at, Holds}
 
 -- the answers of `look_up` ------------------------------------------------------------------------------------------------
 
-pub is-root : (s : State) (p : Bytes) → length p ≡ 0 → named.Root ≡ named_in s p
+pub is-root : (s : State) (p : Bytes) → length p ≡ 0 → Ok named.Root ≡ named_in s p
 unfolding named_in
 is-root s [] e = refl
 is-root s (c ∷ p) e = absurd (omega arith)
 
-pub is-bad : (s : State) (p : Bytes) → (length p ≡ 0 → ⊥) → request_path_ok p ≡ false → named.Refused 2 ≡ named_in s p
+pub is-bad : (s : State) (p : Bytes) → (length p ≡ 0 → ⊥) → request_path_ok p ≡ false → Err BadRequest ≡ named_in s p
 unfolding named_in
 is-bad s [] not e = absurd (not refl)
 is-bad s (c ∷ p) not e = rw e
@@ -49,39 +53,39 @@ found-is : (s : State) (p : Bytes) (x : Lookup) → x ≡ object_place s p → i
 unfolding object_place
 found-is s p x e = ap (λ (y : Lookup). y.found) (sym e)
 
-pub is-absent : (s : State) (p : Bytes) → (length p ≡ 0 → ⊥) → request_path_ok p ≡ true → (x : Lookup) → x ≡ object_place s p → x.found ≡ false → named.Refused 3 ≡ named_in s p
+pub is-absent : (s : State) (p : Bytes) → (length p ≡ 0 → ⊥) → request_path_ok p ≡ true → (x : Lookup) → x ≡ object_place s p → x.found ≡ false → Err NotFound ≡ named_in s p
 unfolding named_in
 is-absent s [] not ok x e f = absurd (not refl)
 is-absent s (c ∷ p) not ok x e f = rw (ok, found-is s (c ∷ p) x e, f)
 
-pub is-object : (s : State) (p : Bytes) → (length p ≡ 0 → ⊥) → request_path_ok p ≡ true → (x : Lookup) → x ≡ object_place s p → x.found ≡ true → named.Object x.at x.base ≡ named_in s p
+pub is-object : (s : State) (p : Bytes) → (length p ≡ 0 → ⊥) → request_path_ok p ≡ true → (x : Lookup) → x ≡ object_place s p → x.found ≡ true → Ok (named.Object x.at x.base) ≡ named_in s p
 unfolding named_in object_place
 is-object s [] not ok x e f = absurd (not refl)
-is-object s (c ∷ p) not ok x e f = rw (ok, found-is s (c ∷ p) x e, f) (ap (λ (y : Lookup). named.Object y.at y.base) e)
+is-object s (c ∷ p) not ok x e f = rw (ok, found-is s (c ∷ p) x e, f) (ap (λ (y : Lookup). Ok (named.Object y.at y.base)) e)
 
 -- what the machine finds at the path ---------------------------------------------------------------------------------------
 
 -- a refusal
-pub named-refused : (s : State) (p : Bytes) (n : ℕ) (b : Buffers) (k : Object → Outcome) → named_in s p ≡ named.Refused n → refused n b ≡ reply_of b (object_at s p k)
+pub named-refused : (s : State) (p : Bytes) (r : Refusal) (b : Buffers) (k : Object → Outcome) → named_in s p ≡ Err r → refused (number_of r) b ≡ reply_of b (object_at s p k)
 unfolding named_in object_at ◌else◌then◌ given
-named-refused s [] n b k e = let z : ◌≡◌ {A = ℕ} 0 1 = cc in absurd (omega arith)
-named-refused s (c ∷ p) n b k e = go (request_path_ok (c ∷ p)) (lookup by_bytes (c ∷ p) s.O) e
+named-refused s [] r b k e = let z : ◌≡◌ {A = ℕ} 0 1 = cc in absurd (omega arith)
+named-refused s (c ∷ p) r b k e = go (request_path_ok (c ∷ p)) (lookup by_bytes (c ∷ p) s.O) e
   where
     go : (ok : Bool) (o : Option Object)
-        → cond ok (cond (is_some o) (named.Object (place_after (before_object s (c ∷ p))).at (place_after (before_object s (c ∷ p))).base) (named.Refused 3)) (named.Refused 2) ≡ named.Refused n
-        → refused n b ≡ reply_of b (ok else badRequest then given o notFound k)
+        → cond ok (cond (is_some o) (Ok (named.Object (place_after (before_object s (c ∷ p))).at (place_after (before_object s (c ∷ p))).base)) (Err NotFound)) (Err BadRequest) ≡ Err r
+        → refused (number_of r) b ≡ reply_of b (ok else badRequest then given o notFound k)
     go true (some x) q = let z : ◌≡◌ {A = ℕ} 0 1 = cc in absurd (omega arith)
-    go true none q = let z : n ≡ 3 = cc in rw z
-    go false o q = let z : n ≡ 2 = cc in rw z
+    go true none q = let z : r ≡ NotFound = cc in rw z
+    go false o q = let z : r ≡ BadRequest = cc in rw z
 
 -- the root
-pub named-root : (s : State) (p : Bytes) (k : Object → Outcome) → named_in s p ≡ named.Root → object_at s p k ≡ k (record { content = []; created = 0; etag = absent; pairs = [] })
+pub named-root : (s : State) (p : Bytes) (k : Object → Outcome) → named_in s p ≡ Ok named.Root → object_at s p k ≡ k (record { content = []; created = 0; etag = absent; pairs = [] })
 unfolding named_in object_at
 named-root s [] k e = refl
 named-root s (c ∷ p) k e = absurd (go (request_path_ok (c ∷ p)) (is_some (lookup by_bytes (c ∷ p) s.O)) e)
   where
     go : (ok held : Bool)
-        → cond ok (cond held (named.Object (place_after (before_object s (c ∷ p))).at (place_after (before_object s (c ∷ p))).base) (named.Refused 3)) (named.Refused 2) ≡ named.Root → ⊥
+        → cond ok (cond held (Ok (named.Object (place_after (before_object s (c ∷ p))).at (place_after (before_object s (c ∷ p))).base)) (Err NotFound)) (Err BadRequest) ≡ Ok named.Root → ⊥
     go true true q = let z : ◌≡◌ {A = ℕ} 0 1 = cc in omega arith
     go true false q = let z : ◌≡◌ {A = ℕ} 0 1 = cc in omega arith
     go false held q = let z : ◌≡◌ {A = ℕ} 0 1 = cc in omega arith
@@ -105,13 +109,13 @@ pub record Here (s : State) (p : Bytes) (at base : ℕ) : Type 0 where
   pub base-is : base ≡ (place_after (before_object s p)).base
   pub follows : (k : Object → Outcome) → object_at s p k ≡ k object
 
-pub named-object : (s : State) (p : Bytes) (at base : ℕ) → named_in s p ≡ named.Object at base → Here s p at base
+pub named-object : (s : State) (p : Bytes) (at base : ℕ) → named_in s p ≡ Ok (named.Object at base) → Here s p at base
 unfolding named_in object_at ◌else◌then◌ given
 named-object s [] at base e = let z : ◌≡◌ {A = ℕ} 0 1 = cc in absurd (omega arith)
 named-object s (c ∷ p) at base e = go (request_path_ok (c ∷ p)) (lookup by_bytes (c ∷ p) s.O) refl refl e
   where
     go : (ok : Bool) (o : Option Object) → request_path_ok (c ∷ p) ≡ ok → lookup by_bytes (c ∷ p) s.O ≡ o
-        → cond ok (cond (is_some o) (named.Object (place_after (before_object s (c ∷ p))).at (place_after (before_object s (c ∷ p))).base) (named.Refused 3)) (named.Refused 2) ≡ named.Object at base
+        → cond ok (cond (is_some o) (Ok (named.Object (place_after (before_object s (c ∷ p))).at (place_after (before_object s (c ∷ p))).base)) (Err NotFound)) (Err BadRequest) ≡ Ok (named.Object at base)
         → Here s (c ∷ p) at base
     go true (some x) f g q = record { object = x; found = g; at-is = cc; base-is = cc; follows = λ k. rw (f, g) }
     go true none f g q = let z : ◌≡◌ {A = ℕ} 0 1 = cc in absurd (omega arith)

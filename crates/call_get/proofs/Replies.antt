@@ -4,12 +4,14 @@ use mathlib.Core.Path.{◌≡◌, refl, sym, ap, ◌∙◌}
 use mathlib.Core.Bool.{Bool, true, false}
 use mathlib.Core.List.{List, []}
 use native.Mathlib.Omega.{arith}
-use borrow.Author.Tests.{le-leb, lt-leb}
+use borrow.Author.Tests.{le-leb, lt-leb, leb-true}
 use lib.Dec.{leb}
 use lib.ListN.{length}
 use Rattle.base_number.specs.Number.{AreBytes}
 use Rattle.call_types.specs.declared.Metadata.{Metadata}
-use Rattle.call_types.specs.declared.GetAnswer.TheVariants.{Refused, Found}
+use Rattle.call_types.specs.declared.Refusal.{Refusal}
+use Rattle.call_types.specs.declared.Refusal.TheVariants.{BufferShort}
+use Rattle.std.specs.Prelude.{Result, Ok, Err}
 use Rattle.machine.specs.Names.{Bytes}
 use Rattle.machine.specs.Pairs.{encode_pairs}
 use Rattle.machine.specs.Etags.{absent}
@@ -29,26 +31,28 @@ use Rattle.call_get.proofs.Lookups.{Here, named-refused, named-root, object-keep
 -- About an object, with the answer buffers b and c --------------------------------------------------------------------------
 
 module _ (x : Object) (s : State) (b c : Bytes) where
-  pub get-data-short : length b < length x.content → get_reply (Refused 7) (buffers b c) ≡ reply_of (buffers b c) (get_step s b c x)
+  -- one of the two buffers is short
+  pub get-short : (length x.content ≤ length b → length (encode_pairs x.pairs) ≤ length c → ⊥) → get_reply (Err BufferShort) (buffers b c) ≡ reply_of (buffers b c) (get_step s b c x)
   unfolding ◌else◌then◌
-  get-data-short h = sym (rw (lt-leb (length x.content) (length b) h))
+  get-short not = go (leb (length x.content) (length b)) refl (leb (length (encode_pairs x.pairs)) (length c)) refl
+    where
+      go : (h : Bool) → leb (length x.content) (length b) ≡ h → (l : Bool) → leb (length (encode_pairs x.pairs)) (length c) ≡ l → get_reply (Err BufferShort) (buffers b c) ≡ reply_of (buffers b c) (get_step s b c x)
+      go true e true f = absurd (not (leb-true _ _ e) (leb-true _ _ f))
+      go true e false f = rw (e, f)
+      go false e l f = rw e
 
-  pub get-pairs-short : length x.content ≤ length b → length c < length (encode_pairs x.pairs) → get_reply (Refused 7) (buffers b c) ≡ reply_of (buffers b c) (get_step s b c x)
-  unfolding ◌else◌then◌
-  get-pairs-short h l = sym (rw (le-leb (length x.content) (length b) h, lt-leb (length (encode_pairs x.pairs)) (length c) l))
-
-  pub head-short : length c < length (encode_pairs x.pairs) → get_reply (Refused 7) (buffers [] c) ≡ reply_of (buffers [] c) (head_step s c x)
+  pub head-short : length c < length (encode_pairs x.pairs) → get_reply (Err BufferShort) (buffers [] c) ≡ reply_of (buffers [] c) (head_step s c x)
   unfolding ◌else◌then◌
   head-short l = sym (rw (lt-leb (length (encode_pairs x.pairs)) (length c) l))
 
   module _ (m : Metadata) (told : metadata_of m ≡ about x) (l : length (encode_pairs x.pairs) ≤ length c) (c' : Bytes) (e : c' ≡ over (encode_pairs x.pairs) c) where
-    pub get-done : length x.content ≤ length b → (b' : Bytes) → b' ≡ over x.content b → get_reply (Found m) (buffers b' c') ≡ reply_of (buffers b c) (get_step s b c x)
+    pub get-done : length x.content ≤ length b → (b' : Bytes) → b' ≡ over x.content b → get_reply (Ok m) (buffers b' c') ≡ reply_of (buffers b c) (get_step s b c x)
     unfolding ◌else◌then◌
     get-done h b' q =
         (λ i. success (told i) (buffers (q i) (e i)))
         ∙ sym (rw (le-leb (length x.content) (length b) h, le-leb (length (encode_pairs x.pairs)) (length c) l))
 
-    pub head_done : get_reply (Found m) (buffers [] c') ≡ reply_of (buffers [] c) (head_step s c x)
+    pub head_done : get_reply (Ok m) (buffers [] c') ≡ reply_of (buffers [] c) (head_step s c x)
     unfolding ◌else◌then◌
     head_done = (λ i. success (told i) (buffers [] (e i))) ∙ sym (rw (le-leb (length (encode_pairs x.pairs)) (length c) l))
 
@@ -72,33 +76,33 @@ module _ (x : Object) (s : State) (b c : Bytes) where
 
 -- Over whole memory ---------------------------------------------------------------------------------------------------------
 
-module _ (t a : List ℕ) (p : Bytes) (r : Named) (told : r ≡ named_in (state_of t a) p) where
+module _ (t a : List ℕ) (p : Bytes) (r : Result Named Refusal) (told : r ≡ named_in (state_of t a) p) where
   abbrev s : State
   s = state_of t a
 
-  pub get_refused : (b c : Bytes) (n : ℕ) → r ≡ named.Refused n → get_reply (Refused n) (buffers b c) ≡ reply_of (buffers b c) (outcome (GET p b c) (memory t a))
+  pub get_refused : (b c : Bytes) (x : Refusal) → r ≡ Err x → get_reply (Err x) (buffers b c) ≡ reply_of (buffers b c) (outcome (GET p b c) (memory t a))
   unfolding outcome act
-  get_refused b c n e = named-refused s p n (buffers b c) (get_step s b c) (sym told ∙ e)
+  get_refused b c x e = named-refused s p x (buffers b c) (get_step s b c) (sym told ∙ e)
 
-  pub head-refused : (c : Bytes) (n : ℕ) → r ≡ named.Refused n → get_reply (Refused n) (buffers [] c) ≡ reply_of (buffers [] c) (outcome (HEAD p c) (memory t a))
+  pub head-refused : (c : Bytes) (x : Refusal) → r ≡ Err x → get_reply (Err x) (buffers [] c) ≡ reply_of (buffers [] c) (outcome (HEAD p c) (memory t a))
   unfolding outcome act
-  head-refused c n e = named-refused s p n (buffers [] c) (head_step s c) (sym told ∙ e)
+  head-refused c x e = named-refused s p x (buffers [] c) (head_step s c) (sym told ∙ e)
 
-  module _ (m : Metadata) (about-root : metadata_of m ≡ metadata 0 0 absent 0 0) (e : r ≡ named.Root) where
-    pub get-root : (b c : Bytes) → get_reply (Found m) (buffers b c) ≡ reply_of (buffers b c) (outcome (GET p b c) (memory t a))
+  module _ (m : Metadata) (about-root : metadata_of m ≡ metadata 0 0 absent 0 0) (e : r ≡ Ok named.Root) where
+    pub get-root : (b c : Bytes) → get_reply (Ok m) (buffers b c) ≡ reply_of (buffers b c) (outcome (GET p b c) (memory t a))
     unfolding outcome act ◌else◌then◌ encode_pairs
     get-root b c =
         ap (λ (x : Answer). success x (buffers b c)) about-root
         ∙ sym (ap (reply_of (buffers b c)) (named-root s p (get_step s b c) (sym told ∙ e)) ∙ rw (le-leb 0 (length b) (omega arith), le-leb 0 (length c) (omega arith)))
 
-    pub head-root : (c : Bytes) → get_reply (Found m) (buffers [] c) ≡ reply_of (buffers [] c) (outcome (HEAD p c) (memory t a))
+    pub head-root : (c : Bytes) → get_reply (Ok m) (buffers [] c) ≡ reply_of (buffers [] c) (outcome (HEAD p c) (memory t a))
     unfolding outcome act ◌else◌then◌ encode_pairs
     head-root c =
         ap (λ (x : Answer). success x (buffers [] c)) about-root
         ∙ sym (ap (reply_of (buffers [] c)) (named-root s p (head_step s c) (sym told ∙ e)) ∙ rw (le-leb 0 (length c) (omega arith)))
 
   -- an object, whose row stands at `at`, with its block at `base`
-  module _ (bytes : AreBytes t) (w : whole t a ≡ true) (at base : ℕ) (e : r ≡ named.Object at base) where
+  module _ (bytes : AreBytes t) (w : whole t a ≡ true) (at base : ℕ) (e : r ≡ Ok (named.Object at base)) where
     here : Here s p at base
     here = named-object s p at base (sym told ∙ e)
 

@@ -72,6 +72,12 @@ metadata-told t h e n q f l =
     ∙ ap (λ (x : Head). metadata (x.size - n) x.stamp (row_etag x.kind (digest_at t) x.count) x.pairs (2 * x.pairs + n)) q
     ∙ rw l
 
+-- the metadata m are those of the object x
+pub record Told (m : Metadata) (x : Object) : Type 0 where
+  pub all : metadata_of m ≡ about x
+  pub size : m.length ≡ length x.content
+  pub written : m.bytes ≡ length (encode_pairs x.pairs)
+
 -- the object whose row stands at `at`, with its block at `base`
 module _ (t a : List ℕ) (at base : ℕ) (k : Holds t a at base) where
   abbrev h : Head
@@ -124,27 +130,25 @@ module _ (t a : List ℕ) (at base : ℕ) (k : Holds t a at base) where
   stored-about = λ i. metadata (stored-length i) h.stamp (row_etag h.kind (digest_at (drop at t)) h.count) (stored-count i) (stored_bytes i)
 
   -- what the code was told of it
-  module _ (m : Metadata) (told : metadata_of m ≡ metadata_at (drop at t)) where
-    pub about-told : metadata_of m ≡ about x
-    about-told = told ∙ sym stored-about
-
-    pub length-told : m.length ≡ length x.content
-    length-told = let e = about-told in cc
-
-    pub bytes-told : m.bytes ≡ length (encode_pairs x.pairs)
-    bytes-told = let e = about-told in cc
+  pub told : (m : Metadata) → metadata_of m ≡ metadata_at (drop at t) → Told m x
+  told m e =
+      let q : metadata_of m ≡ about x = e ∙ sym stored-about in
+      record { all = q; size = cc; written = cc }
 
   -- the lengths and the slices of the block that the code takes, where the pairs have n bytes
-  module _ (l : List ℕ) (same : l ≡ ls) (n : ℕ) (e : n ≡ sum_of ls) where
+  module _ (l : List ℕ) (same : l ≡ ls) (n : ℕ) (summed : n ≡ sum_of l) where
+    e : n ≡ sum_of ls
+    e = summed ∙ ap sum_of same
+
     pub pairs_end : base + n ≤ length a
-    pairs_end = let r = k.block in let q = pairs-inside in omega arith
+    pairs_end = omega (arith, k.block, pairs-inside, e)
 
     abbrev front : List ℕ
     front = take (base + n - base) (drop base a)
 
     front-is : front ≡ take (sum_of ls) block
     front-is =
-        let i : base + n - base ≡ sum_of ls = omega arith in
+        let i : base + n - base ≡ sum_of ls = omega (arith, e) in
         ap (λ (j : ℕ). take j (drop base a)) i ∙ sym (take-take (sum_of ls) h.size (drop base a) pairs-inside)
 
     pub front-ok : stored_ok l front ≡ true
@@ -165,7 +169,7 @@ module _ (t a : List ℕ) (at base : ℕ) (k : Holds t a at base) where
 
     -- the data
     pub data-end : base + n + length x.content ≤ length a
-    data-end = let r = k.block in let q = pairs-inside in omega (arith, stored-length)
+    data-end = omega (arith, k.block, pairs-inside, e, stored-length)
 
     data-read : (m : ℕ) → m ≡ length x.content → take (base + n + m - (base + n)) (drop (base + n) a) ≡ x.content
     unfolding stored_at row_at

@@ -1,5 +1,5 @@
 -- What the path of a GET or HEAD names, and what stands in the row of an object. Assumes nothing.
-use Rattle.std.specs.Prelude.{ℕ, ◌+◌, ◌-◌, ◌*◌, ◌≤◌, ◌≡◌, true, cond, List, [], ◌∷◌, leb, length, take, drop}
+use Rattle.std.specs.Prelude.{ℕ, ◌+◌, ◌-◌, ◌*◌, ◌≤◌, ◌≡◌, true, cond, List, [], ◌∷◌, leb, length, take, drop, Result, Ok, Err}
 use Rattle.base_order.specs.Order.{by_bytes}
 use Rattle.machine.specs.Map.{is_some, lookup}
 use Rattle.machine.specs.Names.{Bytes, request_path_ok}
@@ -10,15 +10,17 @@ use Rattle.pairs_stored.specs.Stored.{sum_of, block_ok}
 use Rattle.mem_row.specs.Row.{head_at, digest_at, lengths_at, span_at, row_at}
 use Rattle.mem_layout.specs.Memory.{row_etag, object_of}
 use Rattle.mem_find.specs.Places.{place_after, before_object}
+use Rattle.call_types.specs.declared.Refusal.{Refusal}
+use Rattle.call_types.specs.declared.Refusal.TheVariants.{BadRequest, NotFound}
 use Rattle.call_get.specs.declared.Named.{Named}
 use Rattle.call_get.specs.declared.Named.TheVariants as named
 
 -- "The empty path is the root"; 2 for a bad path, 3 for one that O lacks
-unfoldable pub named_in : State → Bytes → Named
-named_in s [] = named.Root
+unfoldable pub named_in : State → Bytes → Result Named Refusal
+named_in s [] = Ok named.Root
 named_in s (b ∷ p) =
     let place = place_after (before_object s (b ∷ p)) in
-    cond (request_path_ok (b ∷ p)) (cond (is_some (lookup by_bytes (b ∷ p) s.O)) (named.Object place.at place.base) (named.Refused 3)) (named.Refused 2)
+    cond (request_path_ok (b ∷ p)) (cond (is_some (lookup by_bytes (b ∷ p) s.O)) (Ok (named.Object place.at place.base)) (Err NotFound)) (Err BadRequest)
 
 -- the metadata in the row at the front of t
 unfoldable pub metadata_at : List ℕ → Answer

@@ -8,41 +8,41 @@ ghost use Rattle.machine.specs.Calls.{metadata, buffers, GET, HEAD};
 ghost use Rattle.machine.specs.Steps.{over, reply_of};
 ghost use Rattle.pairs_stored.specs.Stored.{sum_of};
 ghost use Rattle.mem_row.specs.Row.{head_at, digest_at, lengths_at, span_at, head_length};
-ghost use Rattle.mem_layout.specs.Memory.{whole, state_of, row_etag};
+ghost use Rattle.mem_layout.specs.Memory.{state_of, row_etag};
 ghost use Rattle.call_contract.specs.Answers.{etag_of, metadata_of, get_reply};
-ghost use Rattle.call_contract.specs.Made.{memory, outcome, Made};
+ghost use Rattle.call_contract.specs.Made as made;
+ghost use Rattle.call_contract.specs.Made.{outcome, Made};
 ghost use Rattle.call_get.specs.Named.{named_in, metadata_at, stored_at, Holds, get_step, head_step};
 
-use call_types::{Etag, GetAnswer, Metadata, Stamp};
+use call_types::{Etag, Metadata, Refusal, Stamp};
+use mem_find::WholeMemory;
 
-// What the path of a GET or HEAD names: nothing, with the refusal's number; the root; or an object, by the place of its
-// row in the tables and of its block in the arena.
+// What the path of a GET or HEAD names: the root, or an object, by the place of its row in the tables and of its block in
+// the arena.
 #[derive(Clone, Copy)]
 enum Named {
-    Refused(u8),
     Root,
     Object { at: usize, base: usize },
 }
 
-// What the path names.
-fn look_up(tables: &[u8], arena: &[u8], path: &[u8]) -> Named
-    requires { whole tables.now arena.now ≡ true }
-    ensures { result ≡ named_in (state_of tables.now arena.now) path.now }
+// What the path names, or why it is refused.
+fn look_up(memory: WholeMemory, path: &[u8]) -> Result<Named, Refusal>
+    ensures { result ≡ named_in (state_of memory.entry.tables.now memory.entry.arena.now) path.now }
 {
     if path.len() == 0 {
-        return Named::Root;
+        return Ok(Named::Root);
     }
     if !names::request_path_ok(path) {
-        return Named::Refused(call_types::BAD_REQUEST);
+        return Err(Refusal::BadRequest);
     }
-    let place = mem_find::find_object(tables, arena, path);
+    let place = memory.find_object(path);
     if !place.found {
-        return Named::Refused(call_types::NOT_FOUND);
+        return Err(Refusal::NotFound);
     }
-    Named::Object {
+    Ok(Named::Object {
         at: place.at,
         base: place.base,
-    }
+    })
 }
 
 // The root's metadata.
@@ -93,98 +93,92 @@ fn metadata(tables: &[u8], at: usize) -> Metadata
 }
 
 // The pairs of the object whose row stands at `at`, with its block at `base`, to the front of the second answer buffer.
-fn write_pairs(tables: &[u8], arena: &[u8], at: usize, base: usize, pairs: &mut [u8])
-    requires { Holds tables.now arena.now at base
-        × (length (encode_pairs (stored_at tables.now arena.now at base).pairs) ≤ length pairs.old) }
+fn write_pairs(memory: WholeMemory, at: usize, base: usize, pairs: &mut [u8])
+    requires { Holds memory.tables.now memory.arena.now at base
+        × (length (encode_pairs (stored_at memory.tables.now memory.arena.now at base).pairs) ≤ length pairs.old) }
     ensures { pairs.new
-        ≡ over (encode_pairs (stored_at tables.now arena.now at base).pairs) pairs.old }
+        ≡ over (encode_pairs (stored_at memory.entry.tables.now memory.entry.arena.now at base).pairs) pairs.old }
 {
-    let lengths = mem_find::row_pairs::lengths(tables, at);
+    let lengths = mem_find::row_pairs::lengths(memory.tables, at);
     let end = base + pairs_stored::sum_of(lengths);
-    pairs_write::encode(lengths, &arena[base..end], pairs);
+    pairs_write::encode(lengths, &memory.arena[base..end], pairs);
 }
 
 // GET of the object whose row stands at `at`, with its block at `base`.
 fn get_object(
-    tables: &[u8],
-    arena: &[u8],
+    memory: WholeMemory,
     at: usize,
     base: usize,
     answer: &mut [u8],
     pairs: &mut [u8],
-) -> GetAnswer
-    requires { Holds tables.now arena.now at base }
+) -> Result<Metadata, Refusal>
+    requires { Holds memory.tables.now memory.arena.now at base }
     ensures { get_reply result (buffers answer.new pairs.new)
         ≡ reply_of (buffers answer.old pairs.old)
-        (get_step (state_of tables.now arena.now) answer.old pairs.old
-        (stored_at tables.now arena.now at base)) }
+        (get_step (state_of memory.entry.tables.now memory.entry.arena.now) answer.old pairs.old
+        (stored_at memory.entry.tables.now memory.entry.arena.now at base)) }
 {
-    let m = metadata(tables, at);
+    let m = metadata(memory.tables, at);
     let n = m.length as usize;
-    if answer.len() < n {
-        return GetAnswer::Refused(call_types::BUFFER_SHORT);
-    }
     let bytes = m.bytes as usize;
-    if pairs.len() < bytes {
-        return GetAnswer::Refused(call_types::BUFFER_SHORT);
+    if answer.len() < n || pairs.len() < bytes {
+        return Err(Refusal::BufferShort);
     }
-    let from = base + mem_find::pairs_size(tables, at);
-    base_buffer::copy_at(answer, 0, &arena[from..from + n]);
-    write_pairs(tables, arena, at, base, pairs);
-    GetAnswer::Found(m)
+    let from = base + mem_find::pairs_size(memory.tables, at);
+    base_buffer::copy_at(answer, 0, &memory.arena[from..from + n]);
+    write_pairs(memory, at, base, pairs);
+    Ok(m)
 }
 
 // HEAD of the object whose row stands at `at`, with its block at `base`.
-fn head_object(tables: &[u8], arena: &[u8], at: usize, base: usize, pairs: &mut [u8]) -> GetAnswer
-    requires { Holds tables.now arena.now at base }
+fn head_object(
+    memory: WholeMemory,
+    at: usize,
+    base: usize,
+    pairs: &mut [u8],
+) -> Result<Metadata, Refusal>
+    requires { Holds memory.tables.now memory.arena.now at base }
     ensures { get_reply result (buffers [] pairs.new)
         ≡ reply_of (buffers [] pairs.old)
-        (head_step (state_of tables.now arena.now) pairs.old
-        (stored_at tables.now arena.now at base)) }
+        (head_step (state_of memory.entry.tables.now memory.entry.arena.now) pairs.old
+        (stored_at memory.entry.tables.now memory.entry.arena.now at base)) }
 {
-    let m = metadata(tables, at);
+    let m = metadata(memory.tables, at);
     if pairs.len() < m.bytes as usize {
-        return GetAnswer::Refused(call_types::BUFFER_SHORT);
+        return Err(Refusal::BufferShort);
     }
-    write_pairs(tables, arena, at, base, pairs);
-    GetAnswer::Found(m)
+    write_pairs(memory, at, base, pairs);
+    Ok(m)
 }
 
 // GET over whole memory.
 fn get_whole(
-    tables: &[u8],
-    arena: &[u8],
+    memory: WholeMemory,
     path: &[u8],
     answer: &mut [u8],
     pairs: &mut [u8],
-) -> GetAnswer
-    requires { whole tables.now arena.now ≡ true }
+) -> Result<Metadata, Refusal>
     ensures { get_reply result (buffers answer.new pairs.new)
         ≡ reply_of (buffers answer.old pairs.old)
         (outcome (GET path.now answer.old pairs.old)
-        (memory tables.now arena.now)) }
+        (made.memory memory.entry.tables.now memory.entry.arena.now)) }
 {
-    let named = look_up(tables, arena, path);
-    match named {
-        Named::Refused(n) => GetAnswer::Refused(n),
-        Named::Root => GetAnswer::Found(root()),
-        Named::Object { at, base } => get_object(tables, arena, at, base, answer, pairs),
+    match look_up(memory, path)? {
+        Named::Root => Ok(root()),
+        Named::Object { at, base } => get_object(memory, at, base, answer, pairs),
     }
 }
 
 // HEAD over whole memory.
-fn head_whole(tables: &[u8], arena: &[u8], path: &[u8], pairs: &mut [u8]) -> GetAnswer
-    requires { whole tables.now arena.now ≡ true }
+fn head_whole(memory: WholeMemory, path: &[u8], pairs: &mut [u8]) -> Result<Metadata, Refusal>
     ensures { get_reply result (buffers [] pairs.new)
         ≡ reply_of (buffers [] pairs.old)
         (outcome (HEAD path.now pairs.old)
-        (memory tables.now arena.now)) }
+        (made.memory memory.entry.tables.now memory.entry.arena.now)) }
 {
-    let named = look_up(tables, arena, path);
-    match named {
-        Named::Refused(n) => GetAnswer::Refused(n),
-        Named::Root => GetAnswer::Found(root()),
-        Named::Object { at, base } => head_object(tables, arena, at, base, pairs),
+    match look_up(memory, path)? {
+        Named::Root => Ok(root()),
+        Named::Object { at, base } => head_object(memory, at, base, pairs),
     }
 }
 
@@ -195,27 +189,23 @@ pub fn get(
     path: &[u8],
     answer: &mut [u8],
     pairs: &mut [u8],
-) -> GetAnswer
+) -> Result<Metadata, Refusal>
     ensures { Made (GET path.now answer.old pairs.old)
-        (memory tables.now arena.now)
+        (made.memory tables.now arena.now)
         (get_reply result (buffers answer.new pairs.new))
-        (memory tables.now arena.now) }
+        (made.memory tables.now arena.now) }
 {
-    if !mem_scan::whole(tables, arena) {
-        return GetAnswer::Refused(call_types::NOT_A_STORE);
-    }
-    get_whole(tables, arena, path, answer, pairs)
+    call_contract::offsets_of(tables, arena)?;
+    get_whole(WholeMemory::of(tables, arena), path, answer, pairs)
 }
 
 // HEAD: GET's pairs and metadata, no data.
-pub fn head(tables: &[u8], arena: &[u8], path: &[u8], pairs: &mut [u8]) -> GetAnswer
+pub fn head(tables: &[u8], arena: &[u8], path: &[u8], pairs: &mut [u8]) -> Result<Metadata, Refusal>
     ensures { Made (HEAD path.now pairs.old)
-        (memory tables.now arena.now)
+        (made.memory tables.now arena.now)
         (get_reply result (buffers [] pairs.new))
-        (memory tables.now arena.now) }
+        (made.memory tables.now arena.now) }
 {
-    if !mem_scan::whole(tables, arena) {
-        return GetAnswer::Refused(call_types::NOT_A_STORE);
-    }
-    head_whole(tables, arena, path, pairs)
+    call_contract::offsets_of(tables, arena)?;
+    head_whole(WholeMemory::of(tables, arena), path, pairs)
 }

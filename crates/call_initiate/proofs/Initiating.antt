@@ -11,7 +11,7 @@ use Rattle.base_number.specs.Number.{AreBytes}
 use Rattle.base_order.proofs.OrderLaws.{numbers}
 use Rattle.machine.specs.Map.{Map, by_number, insert}
 use Rattle.machine.specs.Names.{Bytes, new_path_ok, stamp_ok, last_upload_number}
-use Rattle.machine.specs.Pairs.{Pair, pairs_ok, pair_map, pairs_held}
+use Rattle.machine.specs.Pairs.{Pair, pairs_ok, pair_map, pairs_held, kept}
 use Rattle.machine.specs.State.{State, held, counted}
 use Rattle.machine.specs.Valid.{Valid}
 use Rattle.machine.specs.Calls.{INITIATE, number, no_buffers, badRequest, tableFull, arenaFull, numbersUsedUp, Outcome, accept, ◌else◌then◌}
@@ -25,6 +25,11 @@ use Rattle.mem_layout.specs.Memory.{whole, state_of, Stands}
 use Rattle.mem_layout.proofs.WholeLaws.{whole-stands}
 use Rattle.mem_layout.proofs.StandsLaws.{header-back}
 use Rattle.mem_layout.specs.Header.{header_at, header_length}
+use Rattle.mem_layout.proofs.RowCounts.{length-contents}
+use Rattle.mem_find.specs.declared.RowPlace.{RowPlace}
+use Rattle.mem_find.specs.Places.{place_after}
+use Rattle.mem_find.specs.Known.{rows_in}
+use Rattle.machine.proofs.PairLaws as pairs
 use Rattle.call_contract.specs.Made.{Memory, state_in, outcome, result_of}
 use Rattle.call_contract.proofs.Judging.{pass, result-pass, result-stop, passed}
 use Rattle.call_initiate.specs.Initiate.{with_new, open_at, OpenResult}
@@ -53,10 +58,17 @@ module _ (t a : List ℕ) (b : AreBytes t) (w : whole t a ≡ true) where
   pub header-inside : header_length ≤ length t
   header-inside = let z = stands.size in omega arith
 
-  pub held-inside : (bytes : ℕ) → bytes ≡ held s → bytes ≤ length a
-  held-inside bytes e = let r = stands.valid.room in omega (arith, e)
+  -- the rows end after the bytes held
+  held-end : (end : RowPlace) → end ≡ place_after (rows_in t a) → end.base ≡ held s
+  held-end end e = ap (λ (x : RowPlace). x.base) e ∙ length-contents s
 
-  module _ (m : Map Bytes Bytes) where
+  pub held-inside : (end : RowPlace) → end ≡ place_after (rows_in t a) → end.base ≤ length a
+  held-inside end e = let r = stands.valid.room in omega (arith, held-end end e)
+
+  module _ (ps : List Pair) (taken-ok : pairs_ok ps ≡ true) where
+    abbrev m : Map Bytes Bytes
+    m = pair_map ps
+
     -- the checks that are left after each
     module _ (stamp : ℕ) (p : Bytes) where
       abbrev s' : State
@@ -78,35 +90,35 @@ module _ (t a : List ℕ) (b : AreBytes t) (w : whole t a ≡ true) where
       held-is = sym (held-open s stamp p m stands.valid.upload)
 
     module _ (uploads : ℕ) (uploads-are : uploads ≡ length (state_of t a).U) where
-      pub full : 16 ≤ uploads → OpenResult t a m 4
+      pub full : 16 ≤ uploads → OpenResult t a (pair_map ps) 4
       unfolding open_at
       full l stamp p = sym (result-stop (counted (s' stamp p)) tableFull (holding stamp p) (counted_is stamp p ∙ lt-leb (length s.U + 1) 16 (omega (arith, uploads-are))))
 
-      module _ (l : uploads < 16) (bytes n r : ℕ) (bytes-are : bytes ≡ held (state_of t a)) (n-is : n ≡ pairs_held m) (r-is : r ≡ cond (leb (bytes + n) (length a)) 0 5) where
+      module _ (l : uploads < 16) (end : RowPlace) (end-is : end ≡ place_after (rows_in t a)) (n r : ℕ) (n-is : n ≡ pairs_held (kept ps)) (r-is : r ≡ cond (leb (end.base + n) (length a)) 0 5) where
         counts-pass : (stamp : ℕ) (p : Bytes) → open_at (length a) s stamp p m ≡ holding stamp p
         unfolding open_at
         counts-pass stamp p = pass (counted (s' stamp p)) tableFull (holding stamp p) (counted_is stamp p ∙ le-leb (length s.U + 1) 16 (omega (arith, uploads-are)))
 
-        held-tested : (stamp : ℕ) (p : Bytes) → leb (held (s' stamp p)) (length a) ≡ leb (bytes + n) (length a)
-        held-tested stamp p = let e : held (s' stamp p) ≡ bytes + n = omega (arith, held-is stamp p, bytes-are, n-is) in ap (λ (k : ℕ). leb k (length a)) e
+        held-tested : (stamp : ℕ) (p : Bytes) → leb (held (s' stamp p)) (length a) ≡ leb (end.base + n) (length a)
+        held-tested stamp p = let e : held (s' stamp p) ≡ end.base + n = omega (arith, held-is stamp p, held-end end end-is, n-is, pairs.held-is ps taken-ok) in ap (λ (k : ℕ). leb k (length a)) e
 
-        pub no_room : (r ≡ 0 → ⊥) → OpenResult t a m r
+        pub no_room : (r ≡ 0 → ⊥) → OpenResult t a (pair_map ps) r
         no_room not stamp p =
-            let f = test-failed (leb (bytes + n) (length a)) 5 r r-is not in
+            let f = test-failed (leb (end.base + n) (length a)) 5 r r-is not in
             sym (ap result_of (counts-pass stamp p) ∙ result-stop (leb (held (s' stamp p)) (length a)) arenaFull (numbering stamp p) (held-tested stamp p ∙ f.0) ∙ sym f.1)
 
         module _ (z : r ≡ 0) (header : Header) (read : header ≡ header_at t) where
           room-pass : (stamp : ℕ) (p : Bytes) → open_at (length a) s stamp p m ≡ numbering stamp p
           room-pass stamp p =
               counts-pass stamp p
-              ∙ pass (leb (held (s' stamp p)) (length a)) arenaFull (numbering stamp p) (held-tested stamp p ∙ test-passed (leb (bytes + n) (length a)) 5 r r-is (λ e. omega arith) z)
+              ∙ pass (leb (held (s' stamp p)) (length a)) arenaFull (numbering stamp p) (held-tested stamp p ∙ test-passed (leb (end.base + n) (length a)) 5 r r-is (λ e. omega arith) z)
 
-          pub used-up : 4294967295 < header.next → OpenResult t a m 6
+          pub used-up : 4294967295 < header.next → OpenResult t a (pair_map ps) 6
           used-up k stamp p =
               sym (ap result_of (room-pass stamp p)
               ∙ result-stop (leb s.N last_upload_number) numbersUsedUp (accept (number s.N) no_buffers (s' stamp p)) (lt-leb s.N last_upload_number (omega (arith, next-is header read))))
 
-          pub opened : header.next ≤ 4294967295 → OpenResult t a m 0
+          pub opened : header.next ≤ 4294967295 → OpenResult t a (pair_map ps) 0
           opened k stamp p =
               sym (ap result_of (room-pass stamp p)
               ∙ result-pass (leb s.N last_upload_number) numbersUsedUp (accept (number s.N) no_buffers (s' stamp p)) (le-leb s.N last_upload_number (omega (arith, next-is header read))))

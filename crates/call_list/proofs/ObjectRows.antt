@@ -6,8 +6,7 @@ use mathlib.Core.List.{List, [], ◌∷◌, ◌++◌, append-nil}
 use native.Mathlib.Numerals.{add-one}
 use native.Mathlib.Omega.{arith}
 use lib.ListN.{length, take, drop, length-append}
-use lib.Seq.{take_all}
-use Rattle.base_number.specs.Number.{le}
+use Rattle.base_number.specs.Number.{le, AreBytes}
 use Rattle.base_order.proofs.OrderLaws.{bytes}
 use Rattle.machine.specs.Map.{Map, records}
 use Rattle.machine.specs.Names.{Bytes}
@@ -25,7 +24,8 @@ use Rattle.mem_row.specs.declared.Head.{Head}
 use Rattle.mem_row.specs.Row.{Row, encode_rows, head_at, digest_at, path_at, lengths_at, head_of, span}
 use Rattle.mem_row.proofs.RowLaws.{path-back, digest-back}
 use Rattle.mem_layout.specs.Header.{header_length}
-use Rattle.mem_layout.specs.Memory.{object_rows, Stands}
+use Rattle.mem_layout.specs.Memory.{object_rows, Stands, whole, state_of}
+use Rattle.mem_layout.proofs.WholeLaws.{whole-stands}
 use Rattle.mem_layout.proofs.ObjectLaws.{object-back}
 use Rattle.mem_find.proofs.RowsAt.{At, row-at}
 use Rattle.mem_find.proofs.PairSizes.{object-pairs-size}
@@ -125,25 +125,65 @@ pub walked_none : (s : State) (prefix suffix : Bytes) → Walked s prefix suffix
 unfolding encode_rows object_rows listed
 walked_none s prefix suffix = record { within = omega arith; rows = refl; counted = refl; sized = refl; few = omega arith; small = omega arith }
 
-pub walked_next : (t a : List ℕ) (s : State) (h : Stands t a s) (prefix suffix : Bytes) (i at count size n c k : ℕ) → Walked s prefix suffix i at count size → i < length s.O
-    → n ≡ span (head_at (drop at t)) → c ≡ cond (is_listed prefix suffix (path_at (drop at t))) 1 0 → k ≡ length (listed_bytes prefix suffix (drop at t)) → c ≤ 1 → k ≤ 307
-    → Walked s prefix suffix (i + 1) (at + n) (count + c) (size + k)
-walked_next t a s h prefix suffix i at count size n c k w l e f g few small =
-    let x = w.counted in
-    let y = w.sized in
-    let p = w.few in
-    let q = w.small in
-    record {
-      within = omega arith;
-      rows = omega (arith, row_next t a s h i at w.rows l);
-      counted = omega (arith, count_next t a s h i at w.rows l prefix suffix);
-      sized = omega (arith, ap length (bytes_next t a s h i at w.rows l prefix suffix), length-append (records list_record (listed prefix suffix (take i s.O))) (listed_bytes prefix suffix (drop at t)));
-      few = omega arith;
-      small = omega arith;
-    }
+-- the next row, where there is one
+pub record RowHere (t : List ℕ) (s : State) (i at : ℕ) : Type 0 where
+  pub more : i < length s.O
+  pub few : i < 256
+  pub inside : at + span (head_at (drop at t)) ≤ length t
+  pub low : at < 65536
 
-pub walked_all : (s : State) (prefix suffix : Bytes) (i at count size : ℕ) → Walked s prefix suffix i at count size → length s.O ≤ i
-    → (count ≡ length (listed prefix suffix s.O)) × (size ≡ length (records list_record (listed prefix suffix s.O)))
-walked_all s prefix suffix i at count size w l =
-    let e : take i s.O ≡ s.O = take_all i s.O l in
-    (w.counted ∙ ap (λ (o : Map Bytes Object). length (listed prefix suffix o)) e, w.sized ∙ ap (λ (o : Map Bytes Object). length (records list_record (listed prefix suffix o))) e)
+module _ (t a : List ℕ) (b : AreBytes t) (whole_is : whole t a ≡ true) (prefix suffix : Bytes) (i at count size : ℕ) (w : Walked (state_of t a) prefix suffix i at count size)
+    (objects : ℕ) (e : objects ≡ length (state_of t a).O) where
+  abbrev s₀ : State
+  s₀ = state_of t a
+
+  abbrev h₀ : Stands t a s₀
+  h₀ = whole-stands t a b whole_is
+
+  module _ (l : i < objects) where
+    pub row-here : RowHere t s₀ i at
+    row-here =
+        let more : i < length s₀.O = omega arith in
+        let inside = row_inside t a s₀ h₀ i at w.rows more in
+        let p = h₀.valid.paths in
+        let z = h₀.size in
+        record { more = more; few = omega arith; inside = inside; low = omega arith }
+
+    module _ (n : ℕ) (n-is : n ≡ span (head_at (drop at t))) where
+      -- it has a record
+      pub walked-listed : (k : ℕ) → is_listed prefix suffix (path_at (drop at t)) ≡ true → k ≡ length (record_at (drop at t)) → k ≤ 307 → Walked s₀ prefix suffix (i + 1) (at + n) (count + 1) (size + k)
+      unfolding listed_bytes
+      walked-listed k is f small =
+          let x = w.counted in
+          let y = w.sized in
+          let p = w.few in
+          let q = w.small in
+          let r = row-here.more in
+          let it : listed_bytes prefix suffix (drop at t) ≡ record_at (drop at t) = rw is in
+          record {
+            within = omega arith;
+            rows = omega (arith, row_next t a s₀ h₀ i at w.rows r);
+            counted = omega (arith, rw is at (count_next t a s₀ h₀ i at w.rows r prefix suffix));
+            sized = omega (arith, ap length (bytes_next t a s₀ h₀ i at w.rows r prefix suffix), length-append (records list_record (listed prefix suffix (take i s₀.O))) (listed_bytes prefix suffix (drop at t)), ap length it);
+            few = omega arith;
+            small = omega arith;
+          }
+
+      -- it has none
+      pub walked-passed : is_listed prefix suffix (path_at (drop at t)) ≡ false → Walked s₀ prefix suffix (i + 1) (at + n) count size
+      unfolding listed_bytes
+      walked-passed is =
+          let x = w.counted in
+          let y = w.sized in
+          let p = w.few in
+          let q = w.small in
+          let r = row-here.more in
+          let it : listed_bytes prefix suffix (drop at t) ≡ [] = rw is in
+          record {
+            within = omega arith;
+            rows = omega (arith, row_next t a s₀ h₀ i at w.rows r);
+            counted = omega (arith, rw is at (count_next t a s₀ h₀ i at w.rows r prefix suffix));
+            sized = omega (arith, ap length (bytes_next t a s₀ h₀ i at w.rows r prefix suffix), length-append (records list_record (listed prefix suffix (take i s₀.O))) (listed_bytes prefix suffix (drop at t)), ap length it);
+            few = omega arith;
+            small = omega arith;
+          }

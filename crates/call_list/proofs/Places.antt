@@ -4,11 +4,9 @@ use mathlib.Core.Path.{◌≡◌, refl, sym, ap, ◌∙◌}
 use mathlib.Core.Bool.{Bool, true, false, cond}
 use mathlib.Core.Logic.{⊎_elim}
 use mathlib.Core.List.{List, ◌++◌}
-use native.Mathlib.Nat.{add-zero, eq-or-lt_of_le}
+use native.Mathlib.Nat.{eq-or-lt_of_le}
 use native.Mathlib.Omega.{arith}
-use lib.Dec.{eqb}
 use lib.ListN.{length, take, drop, length-append, take-append-drop}
-use lib.Seq.{take_all}
 use Rattle.base_number.specs.Number.{le, from_le, replaced_at, written}
 use Rattle.machine.specs.Map.{Map, records}
 use Rattle.machine.specs.Names.{Bytes}
@@ -30,11 +28,10 @@ no_place s prefix suffix places k l = absurd (omega arith)
 module _ (t a : List ℕ) (s : State) (h : Stands t a s) (prefix suffix : Bytes) (places : List ℕ) (i at count size : ℕ) (w : Walked s prefix suffix i at count size) (l : i < length s.O)
     (all : AllListed s prefix suffix places count) (inside : 2 * count + 2 ≤ length places) (small : at < 65536) where
   -- the places after the row's was written
-  noted : List ℕ
+  abbrev noted : List ℕ
   noted = replaced_at places (2 * count) (le 2 at) 2
 
-  placed : is_listed prefix suffix (path_at (drop at t)) ≡ true → AllListed s prefix suffix noted (count + 1)
-  unfolding noted
+  pub placed : is_listed prefix suffix (path_at (drop at t)) ≡ true → AllListed s prefix suffix noted (count + 1)
   placed is k m =
       ⊎_elim
       (λ (e : k ≡ count). rw e
@@ -55,19 +52,6 @@ module _ (t a : List ℕ) (s : State) (h : Stands t a s) (prefix suffix : Bytes)
         through = old.through;
       })
       (eq-or-lt_of_le (omega arith))
-
-  pub placed-next : (c : ℕ) (after : List ℕ) → c ≡ cond (is_listed prefix suffix (path_at (drop at t))) 1 0 → after ≡ cond (eqb c 0) places (replaced_at places (2 * count) (le 2 at) 2)
-      → AllListed s prefix suffix after (count + c)
-  unfolding noted
-  placed-next c after e f = go (is_listed prefix suffix (path_at (drop at t))) refl
-    where
-      go : (b : Bool) → is_listed prefix suffix (path_at (drop at t)) ≡ b → AllListed s prefix suffix after (count + c)
-      go true is =
-          let one : c ≡ 1 = e ∙ rw is in
-          rw (f, one) (placed is)
-      go false is =
-          let none : c ≡ 0 = e ∙ rw is in
-          rw (f, none, add-zero) all
 
 -- The records of the first k -----------------------------------------------------------------------------------------------
 
@@ -97,18 +81,15 @@ pub record Put (s : State) (prefix suffix : Bytes) (b₀ b : List ℕ) (k to : �
   pub front : b ≡ first_records s prefix suffix k ++ drop (length (first_records s prefix suffix k)) b₀
   pub same : length b ≡ length b₀
 
-pub put-none : (s : State) (prefix suffix : Bytes) (b : List ℕ) → Put s prefix suffix b b 0 0
-put-none s prefix suffix b = record { within = omega arith; place = refl; front = refl; same = refl }
-
 module _ (t a : List ℕ) (s : State) (h : Stands t a s) (prefix suffix : Bytes) (places b₀ b : List ℕ) (k to at : ℕ) (w : Put s prefix suffix b₀ b k to)
     (x : ListedAt s prefix suffix places k) (e : at ≡ row_of s x.object) where
   abbrev j : ℕ
   j = x.object
 
-  pub place_inside : at + span (head_at (drop at t)) ≤ length t
+  place_inside : at + span (head_at (drop at t)) ≤ length t
   place_inside = row_inside t a s h j at e x.within
 
-  pub place-pairs : sum_of (lengths_at (drop at t)) ≤ (head_at (drop at t)).size
+  place-pairs : sum_of (lengths_at (drop at t)) ≤ (head_at (drop at t)).size
   place-pairs = pairs-inside t a s h j at e x.within
 
   is-listed : is_listed prefix suffix (path_at (drop at t)) ≡ true
@@ -128,8 +109,13 @@ module _ (t a : List ℕ) (s : State) (h : Stands t a s) (prefix suffix : Bytes)
   next-length : length (first_records s prefix suffix (k + 1)) ≡ to + length (record_at (drop at t))
   next-length = let p = w.place in omega (arith, ap length next-records, length-append (first_records s prefix suffix k) (record_at (drop at t)))
 
-  pub put-room : length (list_bytes prefix suffix s) ≤ length b₀ → to + length (record_at (drop at t)) ≤ length b
+  put-room : length (list_bytes prefix suffix s) ≤ length b₀ → to + length (record_at (drop at t)) ≤ length b
   put-room room = let p = w.same in omega (arith, next-length, records-fewer s prefix suffix (k + 1))
+
+  -- what the record's writing asks
+  pub record-fits : length (list_bytes prefix suffix s) ≤ length b₀
+      → (at + span (head_at (drop at t)) ≤ length t) × (to + length (record_at (drop at t)) ≤ length b) × (sum_of (lengths_at (drop at t)) ≤ (head_at (drop at t)).size)
+  record-fits room = (place_inside, put-room room, place-pairs)
 
   pub put_next : (r : ℕ) (b₁ : List ℕ) → k < length (listed prefix suffix s.O)
       → (r ≡ to + length (record_at (drop at t))) × (b₁ ≡ written b to (record_at (drop at t))) → length b₁ ≡ length b → Put s prefix suffix b₀ b₁ (k + 1) r
@@ -142,8 +128,3 @@ module _ (t a : List ℕ) (s : State) (h : Stands t a s) (prefix suffix : Bytes)
             ∙ ap (λ (y : List ℕ). y ++ drop (length y) b₀) (sym next-records);
         same = same ∙ w.same;
       }
-
-pub put_all : (s : State) (prefix suffix : Bytes) (b₀ b : List ℕ) (k to : ℕ) → Put s prefix suffix b₀ b k to → length (listed prefix suffix s.O) ≤ k
-    → b ≡ list_bytes prefix suffix s ++ drop (length (list_bytes prefix suffix s)) b₀
-put_all s prefix suffix b₀ b k to w l =
-    w.front ∙ ap (λ (m : Map Bytes Object). records list_record m ++ drop (length (records list_record m)) b₀) (take_all k (listed prefix suffix s.O) l)

@@ -7,7 +7,7 @@ use native.Mathlib.Nat.{add-sub_cancel_left}
 use native.Mathlib.Omega.{arith}
 use borrow.Author.Tests.{eq-eqb, ne_eqb}
 use lib.Dec.{eqb}
-use lib.ListN.{length, take, drop, set, length-append, length-drop, length-set}
+use lib.ListN.{length, take, drop, set, length-append, length-drop}
 use lib.Seq.{drop-drop, length-take-le}
 use Rattle.base_number.specs.Number.{le}
 use Rattle.base_number.proofs.NumberLaws.{length-le}
@@ -21,29 +21,8 @@ use Rattle.mem_row.specs.declared.Head.{Head}
 use Rattle.mem_row.specs.Row.{head_at, digest_at, path_at, lengths_at, numbers_length, head_length, span}
 use Rattle.mem_layout.specs.Memory.{row_etag}
 use Rattle.call_list.specs.Rows.{text_at, record_at}
-use Rattle.call_list.proofs.RowLengths.{record-length, text-plain, text-joined}
+use Rattle.call_list.proofs.RowLengths.{digest-length, record-length, text-plain, text-joined}
 use Rattle.call_list.proofs.Front.{over-next}
-
--- a byte, then the bytes y
-pub byte_next : (b b₁ y : List ℕ) (to v m : ℕ) → to + (1 + m) ≤ length b → b₁ ≡ replaced_at (set b to v) (to + 1) y m → b₁ ≡ replaced_at b to (v ∷ y) (1 + m)
-byte_next b b₁ y to v m room e = over-next b (set b to v) b₁ (v ∷ []) y to 1 m refl (omega arith) (write_byte b to v (omega arith)) e
-
--- the length of the path, and the path
-module _ (t b : List ℕ) (at n to : ℕ) (inside : at + head_length + n ≤ length t) (room : to + (1 + n) ≤ length b) where
-  abbrev part : List ℕ
-  part = take (at + head_length + n - (at + head_length)) (drop (at + head_length) t)
-
-  part-is : part ≡ take n (drop (at + head_length) t)
-  part-is = ap (λ (k : ℕ). take k (drop (at + head_length) t)) (add-sub_cancel_left (at + head_length) n)
-
-  part_length : length part ≡ n
-  part_length = ap length part-is ∙ length-take-le n (drop (at + head_length) t) (simp length-drop (omega arith))
-
-  pub path-fits : (v : ℕ) → to + 1 + length part ≤ length (set b to v)
-  path-fits v = omega (arith, part_length, length-set b to v)
-
-  pub path-written : (b₁ : List ℕ) → b₁ ≡ replaced_at (set b to n) (to + 1) part (length part) → b₁ ≡ replaced_at b to (n ∷ take n (drop (at + head_length) t)) (1 + n)
-  path-written b₁ e = byte_next b b₁ (take n (drop (at + head_length) t)) to n n room (e ∙ ap₂ (λ (x : List ℕ) (k : ℕ). replaced_at (set b to n) (to + 1) x k) part-is part_length)
 
 -- the length of the data, the stamp, and the length of the text
 pub numbers-written : (b b₁ b₂ : List ℕ) (to size created n : ℕ) → to + 13 ≤ length b → b₁ ≡ replaced_at b to (le 4 size) 4 → b₂ ≡ replaced_at b₁ (to + 4) (le 8 created) 8
@@ -114,8 +93,14 @@ pieces : (n k : ℕ) (p s c e : List ℕ) → ((n ∷ p) ++ (s ++ (c ++ (k ∷ [
 pieces n k p s c e = simp append_assoc
 
 module _ (t b : List ℕ) (at to : ℕ) (h : Head) (k size : ℕ) (inside : at + span (head_at (drop at t)) ≤ length t) (read : h ≡ head_at (drop at t))
-    (measured : k ≡ length (text (row_etag h.kind (digest_at (drop at t)) h.count)))
-    (sized : size ≡ (head_at (drop at t)).size - sum_of (lengths_at (drop at t))) where
+    (text-long : (d : List ℕ) → length d ≡ 16 → k ≡ length (text (row_etag h.kind d h.count)))
+    (data-long : size ≡ h.size - sum_of (lengths_at (drop at t))) where
+  measured : k ≡ length (text (row_etag h.kind (digest_at (drop at t)) h.count))
+  measured = text-long (digest_at (drop at t)) (digest-length t at inside)
+
+  sized : size ≡ (head_at (drop at t)).size - sum_of (lengths_at (drop at t))
+  sized = data-long ∙ ap (λ (x : Head). x.size - sum_of (lengths_at (drop at t))) read
+
   abbrev told : Head → List ℕ
   told x = text (row_etag x.kind (digest_at (drop at t)) x.count)
 
@@ -155,7 +140,7 @@ module _ (t b : List ℕ) (at to : ℕ) (h : Head) (k size : ℕ) (inside : at +
     numbers-room b₁ same = omega (arith, record-long)
 
     pub etag-room : (b₂ : List ℕ) → length b₂ ≡ length b → to + 1 + h.pathlen + 13 + length etag_text ≤ length b₂
-    etag-room b₂ same = omega (arith, record-long)
+    etag-room b₂ same = omega (arith, record-long, measured)
 
   pub record-written : (b₁ b₂ b₃ : List ℕ) → to + length (record_at (drop at t)) ≤ length b → b₁ ≡ replaced_at b to (h.pathlen ∷ path) (1 + h.pathlen)
       → b₂ ≡ replaced_at b₁ (to + 1 + h.pathlen) numbers 13 → b₃ ≡ replaced_at b₂ (to + 1 + h.pathlen + 13) etag_text (length etag_text)
@@ -164,6 +149,7 @@ module _ (t b : List ℕ) (at to : ℕ) (h : Head) (k size : ℕ) (inside : at +
       let n = h.pathlen in
       let x = n ∷ path in
       let long = record-long in
+      let long-text = measured in
       let lx : length x ≡ 1 + n = omega (arith, path-length) in
       let ln : length numbers ≡ 13 = omega (arith, length-append (le 4 size) (le 8 h.stamp ++ (k ∷ [])), length-append (le 8 h.stamp) (k ∷ []), length-le 4 size, length-le 8 h.stamp) in
       let lxn : length (x ++ numbers) ≡ 1 + n + 13 = omega (arith, length-append x numbers) in

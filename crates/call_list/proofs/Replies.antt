@@ -7,7 +7,8 @@ use native.Mathlib.Omega.{arith}
 use lib.ListN.{length, drop}
 use Rattle.base_number.specs.Number.{AreBytes}
 use Rattle.call_types.specs.declared.Counts.{Counts}
-use Rattle.call_types.specs.declared.ListAnswer.TheVariants.{Refused, Written}
+use Rattle.std.specs.Prelude.{Ok, Err}
+use Rattle.call_types.specs.declared.Refusal.TheVariants.{BufferShort}
 use Rattle.machine.specs.State.{State}
 use Rattle.machine.specs.Calls.{LIST, Answer, counts, buffers, Reply}
 use Rattle.machine.specs.Steps.{act, listed, reply_of}
@@ -30,13 +31,13 @@ module _ (t a prefix suffix b : List ℕ) where
   told = counts (length (listed prefix suffix s.O)) (length out)
 
   -- the bytes exceed the buffer
-  pub list-short : (n : ℕ) → n ≡ length out → length b < n → list_reply (Refused 7) b ≡ reply_of (buffers b []) (outcome (LIST prefix suffix b) (memory t a))
+  pub list-short : (n : ℕ) → n ≡ length out → length b < n → list_reply (Err BufferShort) b ≡ reply_of (buffers b []) (outcome (LIST prefix suffix b) (memory t a))
   unfolding outcome act
   list-short n e l = sym (write-short told out b s (omega arith))
 
   -- they fit, and are written
   pub list_written : (b' : List ℕ) (c : Counts) → c.records ≡ length (listed prefix suffix s.O) → c.bytes ≡ length out → c.bytes ≤ length b → b' ≡ out ++ drop (length out) b
-      → list_reply (Written c) b' ≡ reply_of (buffers b []) (outcome (LIST prefix suffix b) (memory t a))
+      → list_reply (Ok c) b' ≡ reply_of (buffers b []) (outcome (LIST prefix suffix b) (memory t a))
   unfolding outcome act
   list_written b' c e f l q = ap₂ (λ (x : Answer) (y : List ℕ). success x (buffers y [])) (ap₂ counts e f) q ∙ sym (write-fits told out b s (omega arith))
 

@@ -1,7 +1,7 @@
 -- The lengths of an etag's text and of LIST's record of a row. Assumes nothing.
 use Prim.Native.Nat.{ℕ, ◌+◌, ◌-◌, ◌≤◌}
 use mathlib.Core.Path.{◌≡◌, sym, ap, ap₂, ◌∙◌}
-use mathlib.Core.Bool.{Bool, true, false, cond}
+use mathlib.Core.Bool.{Bool, true, false}
 use mathlib.Core.List.{List, ◌∷◌}
 use native.Mathlib.Nat.{add-sub_cancel_left}
 use native.Mathlib.Omega.{arith}
@@ -17,7 +17,7 @@ use Rattle.machine.specs.Etags.{text}
 use Rattle.mem_row.specs.Row.{head_at, digest_at, path_at, numbers_length, head_length, span}
 use Rattle.mem_layout.specs.Memory.{row_etag}
 use Rattle.machine.specs.Steps.{is_listed}
-use Rattle.call_list.specs.Rows.{text_at, record_at, listed_bytes}
+use Rattle.call_list.specs.Rows.{text_at, record_at}
 
 pub text-plain : (kind count : ℕ) (d : List ℕ) → kind ≡ 0 → length d ≡ 16 → 32 ≡ length (text (row_etag kind d count))
 unfolding text
@@ -47,16 +47,6 @@ module _ (t : List ℕ) (at : ℕ) (room : at + span (head_at (drop at t)) ≤ l
   pub measured-length : (n w m : ℕ) → n ≡ (head_at (drop at t)).pathlen → w ≡ n → m ≡ length (text (row_etag (head_at (drop at t)).kind (digest_at (drop at t)) (head_at (drop at t)).count)) → 14 + w + m ≡ length (record_at (drop at t))
   unfolding text_at
   measured-length n w m e f g = omega (arith, record-length)
-
--- what is measured of a row that LIST has not, and of one that it has
-module _ (prefix suffix x : List ℕ) where
-  pub none-measured : is_listed prefix suffix (path_at x) ≡ false → (◌≡◌ {A = ℕ} 0 (cond (is_listed prefix suffix (path_at x)) 1 0)) × (0 ≡ length (listed_bytes prefix suffix x))
-  unfolding listed_bytes
-  none-measured e = (rw e, rw e)
-
-  pub one-measured : (n : ℕ) → is_listed prefix suffix (path_at x) ≡ true → n ≡ length (record_at x) → (◌≡◌ {A = ℕ} 1 (cond (is_listed prefix suffix (path_at x)) 1 0)) × (n ≡ length (listed_bytes prefix suffix x))
-  unfolding listed_bytes
-  one-measured n e l = (rw e, rw e l)
 
 -- LIST's test of a path
 module _ (prefix suffix p : List ℕ) where

@@ -6,44 +6,35 @@ mod paths;
 mod record;
 mod writing;
 
-ghost use Rattle.std.specs.Prelude.{◌≡◌, true, []};
+ghost use Rattle.std.specs.Prelude.{◌≡◌, []};
 ghost use Rattle.machine.specs.Calls.{LIST, buffers};
 ghost use Rattle.machine.specs.Steps.{reply_of};
-ghost use Rattle.mem_layout.specs.Memory.{whole};
 ghost use Rattle.call_contract.specs.Answers.{list_reply};
-ghost use Rattle.call_contract.specs.Made.{memory, outcome, Made};
+ghost use Rattle.call_contract.specs.Made as made;
+ghost use Rattle.call_contract.specs.Made.{outcome, Made};
 
-use call_types::ListAnswer;
+use call_types::{Counts, Refusal};
+use mem_find::WholeMemory;
 
-// LIST over whole memory. Where the rows stand that have a record is handed from the pass that measures to that which writes: two bytes for
-// each of at most 256.
+// LIST over whole memory. Where the rows stand that have a record is handed from the pass that measures to that which
+// writes: two bytes for each of at most 256.
 fn list_whole(
-    tables: &[u8],
-    arena: &[u8],
+    memory: WholeMemory,
     prefix: &[u8],
     suffix: &[u8],
     answer: &mut [u8],
-) -> ListAnswer
-    requires { whole tables.now arena.now ≡ true }
+) -> Result<Counts, Refusal>
     ensures { list_reply result answer.new ≡ reply_of (buffers answer.old [])
         (outcome (LIST prefix.now suffix.now answer.old)
-        (memory tables.now arena.now)) }
+        (made.memory memory.entry.tables.now memory.entry.arena.now)) }
 {
     let mut places = [0u8; 512];
-    let counts = measuring::measure_rows(tables, arena, prefix, suffix, &mut places);
+    let counts = measuring::measure_rows(memory, prefix, suffix, &mut places);
     if answer.len() < counts.bytes as usize {
-        return ListAnswer::Refused(call_types::BUFFER_SHORT);
+        return Err(Refusal::BufferShort);
     }
-    writing::write_rows(
-        tables,
-        arena,
-        prefix,
-        suffix,
-        &places,
-        counts.records,
-        answer,
-    );
-    ListAnswer::Written(counts)
+    writing::write_rows(memory, prefix, suffix, &places, counts.records, answer);
+    Ok(counts)
 }
 
 // LIST: the records of the paths that begin with the prefix and whose rest ends with the suffix.
@@ -53,14 +44,12 @@ pub fn list(
     prefix: &[u8],
     suffix: &[u8],
     answer: &mut [u8],
-) -> ListAnswer
+) -> Result<Counts, Refusal>
     ensures { Made (LIST prefix.now suffix.now answer.old)
-        (memory tables.now arena.now)
+        (made.memory tables.now arena.now)
         (list_reply result answer.new)
-        (memory tables.now arena.now) }
+        (made.memory tables.now arena.now) }
 {
-    if !mem_scan::whole(tables, arena) {
-        return ListAnswer::Refused(call_types::NOT_A_STORE);
-    }
-    list_whole(tables, arena, prefix, suffix, answer)
+    call_contract::offsets_of(tables, arena)?;
+    list_whole(WholeMemory::of(tables, arena), prefix, suffix, answer)
 }

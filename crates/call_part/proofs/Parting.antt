@@ -29,7 +29,11 @@ use Rattle.mem_layout.specs.Header.{header_length}
 use Rattle.mem_layout.specs.Memory.{part_row, whole, state_of, Stands}
 use Rattle.mem_layout.proofs.WholeLaws.{whole-stands}
 use Rattle.mem_find.specs.declared.Lookup.{Lookup}
-use Rattle.mem_find.specs.Places.{before_part, after_part, part_place, upload_place}
+use Rattle.mem_layout.proofs.RowCounts.{length-contents}
+use Rattle.mem_find.specs.declared.RowPlace.{RowPlace}
+use Rattle.mem_find.specs.Places.{place_of, place_after, before_part, after_part, part_place, upload_place}
+use Rattle.mem_find.specs.Known.{rows_in, OfOpenAt}
+use Rattle.mem_find_uploads.proofs.Answers.{upload-lookup}
 use Rattle.mem_find.proofs.Splits.{part-found}
 use Rattle.mem_find.proofs.RowsAt.{At, row-at}
 use Rattle.mem_find.proofs.Found.{is-some, is_none}
@@ -87,8 +91,8 @@ module _ (A : ℕ) (s : State) (v : Valid A s) (u n : ℕ) (d : Bytes) (x : Uplo
 
 -- the same over whole memory, by what the readers give
 module _ (t a d : List ℕ) (b : AreBytes t) (w : whole t a ≡ true) (u n : ℕ) (is_open : is_some (lookup by_number u (state_of t a).U) ≡ true)
-    (place : Lookup) (place_is : (x : Upload) → lookup by_number u (state_of t a).U ≡ some x → place ≡ part_place (state_of t a) u x n)
-    (bytes : ℕ) (bytes-are : bytes ≡ held (state_of t a)) where
+    (opened : Lookup) (opened-is : opened ≡ upload_place (state_of t a) u) (place : Lookup) (place-there : OfOpenAt t a (place_of opened) (λ s v x. place ≡ part_place s v x n))
+    (end : RowPlace) (end-is : end ≡ place_after (rows_in t a)) where
   abbrev m : State
   m = state_of t a
 
@@ -101,8 +105,16 @@ module _ (t a d : List ℕ) (b : AreBytes t) (w : whole t a ≡ true) (u n : ℕ
   open₀ : lookup by_number u m.U ≡ some x₀
   open₀ = (is-some (lookup by_number u m.U) is_open).1
 
-  pub held-inside : bytes ≤ length a
+  -- the rows end after the bytes held
+  bytes-are : end.base ≡ held m
+  bytes-are = ap (λ (p : RowPlace). p.base) end-is ∙ length-contents m
+
+  pub held-inside : end.base ≤ length a
   held-inside = let r = h.valid.room in omega (arith, bytes-are)
+
+  -- where the part of the open upload goes
+  pub place_is : (x : Upload) → lookup by_number u m.U ≡ some x → place ≡ part_place m u x n
+  place_is x f = place-there u x (upload-lookup m u opened opened-is) f
 
   place_at : place ≡ part_place m u x₀ n
   place_at = place_is x₀ open₀
@@ -132,12 +144,12 @@ module _ (t a d : List ℕ) (b : AreBytes t) (w : whole t a ≡ true) (u n : ℕ
       size_is : head.size ≡ length y₀.content
       size_is = ap (λ (z : Head). z.size) (head-is ∙ ap (λ (i : ℕ). head_at (drop i t)) at-is ∙ here.head)
 
-      pub old-held : head.size ≤ bytes
+      pub old-held : head.size ≤ end.base
       old-held = omega (arith, size_is, bytes-are, part-share (length a) m h.valid u n d x₀ open₀ y₀ there)
 
-      pub judged-old : (r : ℕ) → r ≡ cond (leb (bytes - head.size + length d) (length a)) 0 5 → r ≡ result_of (part_at (length a) m u n d)
+      pub judged-old : (r : ℕ) → r ≡ cond (leb (end.base - head.size + length d) (length a)) 0 5 → r ≡ result_of (part_at (length a) m u n d)
       judged-old r is =
-          let q : bytes - head.size ≡ held m - length y₀.content = omega (arith, size_is, bytes-are) in
+          let q : end.base - head.size ≡ held m - length y₀.content = omega (arith, size_is, bytes-are) in
           is-outcome (length a) m h.valid u n d x₀ open₀ r (room-old (length a) m h.valid u n d x₀ open₀ y₀ there ∙ sym (rw (is, q)))
 
   module _ (no : place.found ≡ false) (parts : ℕ) (parts_are : parts ≡ total parts_in (state_of t a).U) where
@@ -147,7 +159,7 @@ module _ (t a d : List ℕ) (b : AreBytes t) (w : whole t a ≡ true) (u n : ℕ
     pub judged-full : 256 ≤ parts → 4 ≡ result_of (part_at (length a) m u n d)
     judged-full l = is-outcome (length a) m h.valid u n d x₀ open₀ 4 (room-none (length a) m h.valid u n d x₀ open₀ absent (omega (arith, parts_are)))
 
-    pub judged-new : parts < 256 → (r : ℕ) → r ≡ cond (leb (bytes + length d) (length a)) 0 5 → r ≡ result_of (part_at (length a) m u n d)
+    pub judged-new : parts < 256 → (r : ℕ) → r ≡ cond (leb (end.base + length d) (length a)) 0 5 → r ≡ result_of (part_at (length a) m u n d)
     judged-new l r is =
         is-outcome (length a) m h.valid u n d x₀ open₀ r (room-new (length a) m h.valid u n d x₀ open₀ absent (omega (arith, parts_are)) ∙ sym (rw (is, bytes-are)))
 

@@ -18,20 +18,28 @@ use Rattle.mem_row.specs.declared.Head.{Head}
 use Rattle.mem_row.specs.Row.{encode_rows, head_at, numbers_length}
 use Rattle.mem_layout.specs.Header.{header_length}
 use Rattle.mem_layout.specs.Memory.{object_row, whole, state_of, Stands}
-use Rattle.mem_layout.proofs.RowCounts.{length-block}
+use Rattle.mem_layout.proofs.RowCounts.{length-block, length-contents}
 use Rattle.mem_layout.proofs.WholeLaws.{whole-stands}
+use Rattle.mem_find.specs.declared.RowPlace.{RowPlace}
 use Rattle.mem_find.specs.declared.Lookup.{Lookup}
-use Rattle.mem_find.specs.Places.{before_object, after_object, object_place}
+use Rattle.mem_find.specs.Known.{rows_in}
+use Rattle.mem_find.specs.Places.{place_after, before_object, after_object, object_place}
 use Rattle.mem_find.proofs.Splits.{object-found}
 use Rattle.mem_find.proofs.RowsAt.{row-at}
 use Rattle.mem_find.proofs.Found.{is-some, is_none, place_found}
 use Rattle.call_contract.specs.Made.{result_of}
 use Rattle.call_room.proofs.PutAt.{object-share, room-old, room-new, room-none}
 
-module _ (t a : List ℕ) (b : AreBytes t) (w : whole t a ≡ true) (p : List ℕ) (place : Lookup) (place_is : place ≡ object_place (state_of t a) p)
-    (bytes : ℕ) (bytes-are : bytes ≡ held (state_of t a)) where
+module _ (t a : List ℕ) (b : AreBytes t) (w : whole t a ≡ true) (end : RowPlace) (end-is : end ≡ place_after (rows_in t a))
+    (p : List ℕ) (place : Lookup) (place_is : place ≡ object_place (state_of t a) p) where
   abbrev s : State
   s = state_of t a
+
+  abbrev bytes : ℕ
+  bytes = end.base
+
+  bytes-are : bytes ≡ held s
+  bytes-are = ap (λ (x : RowPlace). x.base) end-is ∙ length-contents s
 
   stands : Stands t a s
   stands = whole-stands t a b w

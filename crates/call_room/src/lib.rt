@@ -1,95 +1,75 @@
-// The room for an object, the pairs of an upload or a part: refusals of PUT, COPY, INITIATE and PART, by number; 0 for none.
+// The room for an object, the pairs of an upload or a part, which PUT, COPY, INITIATE and PART ask for.
 #![tactic(auto)]
 
-ghost use Rattle.std.specs.Prelude.{◌≡◌, cond, ◌+◌, ◌≤◌, leb};
+ghost use Rattle.std.specs.Prelude.{◌≡◌, cond, ◌+◌, ◌≤◌, leb, IfOk};
+ghost use Rattle.machine.specs.Names.{Bytes};
 ghost use Rattle.machine.specs.Calls.{arenaFull, code};
-ghost use Rattle.mem_find.specs.Places.{place_after};
-ghost use Rattle.mem_scan.specs.Scanned.{Scanned};
-ghost use Rattle.mem_find.specs.Known.{rows_in, WholeLookup, OfPath, ObjectPlaced};
+ghost use Rattle.mem_layout.specs.Memory.{state_of};
+ghost use Rattle.mem_find.specs.Places.{place_after, object_place};
+ghost use Rattle.mem_find.specs.Known.{rows_in, OfPath, ObjectPlaced};
+ghost use Rattle.call_types.specs.Numbers.{result_number};
 ghost use Rattle.call_room.specs.Judged.{PutResult};
 
-use mem_find::{Lookup, RowPlace};
-use mem_scan::Offsets;
+use call_types::Refusal;
+use mem_find::{Lookup, RowPlace, WholeMemory};
+use mem_find_uploads::ScannedMemory;
 
-// Arena full where n bytes beside those held pass its length, or 0.
-pub fn arena_judge(held: usize, n: usize, arena: usize) -> u8
+// Arena full where n bytes beside those held pass its length.
+pub fn arena_judge(held: usize, n: usize, arena: usize) -> Result<(), Refusal>
     requires { held ≤ arena }
-    ensures { result ≡ cond (leb (held + n) arena) 0 (code arenaFull) }
+    ensures { result_number result ≡ cond (leb (held + n) arena) 0 (code arenaFull) }
 {
     if arena - held < n {
-        return call_types::ARENA_FULL;
+        return Err(Refusal::ArenaFull);
     }
-    0
+    Ok(())
 }
 
-// A judgement: the refusal's number, or 0; the place of what was looked up, and the end of the rows.
+// Where an object, or a part, goes: the place of what was looked up, and the end of the rows.
 #[derive(Clone, Copy)]
 pub struct Room {
-    pub refusal: u8,
     pub place: Lookup,
     pub end: RowPlace,
 }
 
-// An object of n bytes at the path whose lookup answered `place`, as PUT and COPY put it: table full, arena full or 0, and
+// An object of n bytes at the path whose lookup answered `place`, as PUT and COPY put it: table full, arena full, or
 // where it goes. The rows end at `end`; the bytes of the old object are free.
-pub fn object_room(tables: &[u8], arena: &[u8], place: Lookup, end: RowPlace, n: usize) -> Room
-    requires { WholeLookup tables.now arena.now place × (end ≡ place_after (rows_in tables.now arena.now)) }
-    ensures { OfPath tables.now arena.now place
-        (λ s p. PutResult tables.now arena.now p n result.refusal
-        × ObjectPlaced tables.now arena.now p result.place result.end) }
+pub fn object_room(
+    memory: WholeMemory,
+    place: Lookup,
+    end: RowPlace,
+    n: usize,
+) -> Result<Room, Refusal>
+    requires place { (p : Bytes) × (place ≡ object_place (state_of memory.tables.now memory.arena.now) p) }
+    requires end { end ≡ place_after (rows_in memory.tables.now memory.arena.now) }
+    ensures judged { OfPath memory.entry.tables.now memory.entry.arena.now place
+        (λ s p. PutResult memory.entry.tables.now memory.entry.arena.now p n (result_number result)) }
+    ensures placed { OfPath memory.entry.tables.now memory.entry.arena.now place (λ s p. IfOk result
+        (λ room. ObjectPlaced memory.entry.tables.now memory.entry.arena.now p room.place room.end)) }
 {
     let held = end.base;
+    let arena = memory.arena.len();
     if place.found {
-        let h = mem_row::read_head(tables, place.at);
-        return Room {
-            refusal: arena_judge(held - h.size as usize, n, arena.len()),
-            place,
-            end,
-        };
+        let h = mem_row::read_head(memory.tables, place.at);
+        arena_judge(held - h.size as usize, n, arena)?;
+        return Ok(Room { place, end });
     }
-    let counts = mem_find::read_counts(tables, arena);
-    let objects = counts.objects;
+    let objects = memory.counts().objects;
     if mem_layout::OBJECTS_MOST <= objects {
-        return Room {
-            refusal: call_types::TABLE_FULL,
-            place,
-            end,
-        };
+        return Err(Refusal::TableFull);
     }
-    Room {
-        refusal: arena_judge(held, n, arena.len()),
-        place,
-        end,
-    }
+    arena_judge(held, n, arena)?;
+    Ok(Room { place, end })
 }
 
-// The same of a path, in whole memory whose rows stand at `offsets`.
-pub fn object_judge(tables: &[u8], arena: &[u8], offsets: Offsets, path: &[u8], n: usize) -> Room
-    requires { Scanned tables.now arena.now offsets }
-    ensures { PutResult tables.now arena.now path.now n result.refusal
-        × ObjectPlaced tables.now arena.now path.now result.place result.end }
+// The same of a path, in scanned memory.
+pub fn object_judge(memory: ScannedMemory, path: &[u8], n: usize) -> Result<Room, Refusal>
+    ensures judged { PutResult memory.entry.whole.tables.now memory.entry.whole.arena.now path.now n
+        (result_number result) }
+    ensures placed { IfOk result (λ room. ObjectPlaced memory.entry.whole.tables.now memory.entry.whole.arena.now
+        path.now room.place room.end) }
 {
-    let place = mem_find::find_object(tables, arena, path);
-    let end = mem_find_uploads::rows_end(tables, arena, offsets);
-    object_room(tables, arena, place, end, n)
-}
-
-// A refusal before the place is looked for.
-pub fn refused(n: u8) -> Room
-    ensures { result.refusal ≡ n }
-{
-    Room {
-        refusal: n,
-        place: Lookup {
-            found: false,
-            row: 0,
-            at: 0,
-            base: 0,
-        },
-        end: RowPlace {
-            row: 0,
-            at: 0,
-            base: 0,
-        },
-    }
+    let place = memory.whole.find_object(path);
+    let end = mem_find_uploads::rows_end(memory);
+    object_room(memory.whole, place, end, n)
 }

@@ -19,7 +19,8 @@ use Rattle.mem_layout.proofs.StandsLaws.{stands-state, stands-whole}
 use Rattle.mem_layout.proofs.WholeLaws.{whole-stands}
 use Rattle.mem_find.specs.declared.RowPlace.{RowPlace}
 use Rattle.mem_find.specs.Places.{place_after, before_upload, after_upload, upload_row_of, first_upload_row}
-use Rattle.mem_find.specs.Known.{WholePlace, WholeOpenAt}
+use Rattle.mem_find.specs.RowPlaces.{IsRowPlace}
+use Rattle.mem_find.specs.Known.{WholeOpenAt}
 use Rattle.mem_find_uploads.specs.Search.{due_from}
 use Rattle.mem_find_uploads.proofs.Answers.{place-row, is-row-place, uploads-within, open-within, none-due-answer, first-due-answer, place-stays, search-goes-on}
 use Rattle.mem_edit.proofs.Changes.{without-upload-rows}
@@ -39,8 +40,8 @@ pub record Going (t n : ℕ) (m₀ : Memory) (count : ℕ) (m : Memory) (here en
   pub leaves : after_aborts (state_in m) (to_sweep t (n - count) (state_in m).U) ≡ after_aborts (state_in m₀) (to_sweep t n (state_in m₀).U)
 
 -- the first upload's row is a place of the rows
-pub first-place : (m : Memory) → whole_memory m ≡ true → (p : RowPlace) → p ≡ first_upload_row (state_in m) → WholePlace m.tables m.arena p
-first-place m w p e = (w, is-row-place (rows_of (state_in m)) p _ e (uploads-within (state_in m)))
+pub first-place : (m : Memory) (p : RowPlace) → p ≡ first_upload_row (state_in m) → IsRowPlace (rows_of (state_in m)) p
+first-place m p e = is-row-place (rows_of (state_in m)) p _ e (uploads-within (state_in m))
 
 pub start : (t n : ℕ) (m : Memory) → AreBytes m.tables → whole_memory m ≡ true → (p here end : RowPlace) → p ≡ first_upload_row (state_in m)
     → here ≡ due_from t (rows_of (state_in m)) p.row → end ≡ place_after (rows_of (state_in m)) → Going t n m 0 m here end
@@ -114,8 +115,8 @@ module _ (t n : ℕ) (m₀ : Memory) (count : ℕ) (m : Memory) (here end : RowP
       rows_are = ap rows_of now-is ∙ without-upload-rows s u f.upload f.is_open
 
       -- what stood after it is there
-      pub place-there : WholePlace m'.tables m'.arena here
-      place-there = (stands-whole m'.tables m'.arena _ stood, place-stays t s here g.first u f.place _ _ rows_are)
+      pub place-there : IsRowPlace (rows_of (state_in m')) here
+      place-there = place-stays t s here g.first u f.place _ _ rows_are
 
       pub turn : (count ≡ n → ⊥) → (here' end' : RowPlace) → here' ≡ due_from t (rows_of (state_in m')) here.row → end' ≡ place_after (rows_of (state_in m'))
           → length m'.tables ≡ length m.tables → length m'.arena ≡ length m.arena → Going t n m₀ (count + 1) m' here' end'

@@ -1,6 +1,9 @@
 // The types in which the store takes its arguments and answers.
 #![tactic(auto)]
 
+ghost use Rattle.std.specs.Prelude.{◌≡◌};
+ghost use Rattle.call_types.specs.Numbers.{number_of};
+
 use base_md5::words::Digest;
 
 // Seconds since the start of 1970.
@@ -55,61 +58,35 @@ pub struct Place {
     pub len: u32,
 }
 
-// The refusals' numbers. They are in checking order, but for the last, which comes right after the first.
-pub const NOT_A_STORE: u8 = 1;
-
-pub const BAD_REQUEST: u8 = 2;
-
-pub const NOT_FOUND: u8 = 3;
-
-pub const TABLE_FULL: u8 = 4;
-
-pub const ARENA_FULL: u8 = 5;
-
-pub const NUMBERS_USED_UP: u8 = 6;
-
-pub const BUFFER_SHORT: u8 = 7;
-
-pub const TOO_MANY: u8 = 8;
-
-// PUT, DELETE, COPY, COMMIT, ABORT and DELETE_OBJECTS. A refusal has its number, here and below.
-#[derive(Clone, Copy)]
-pub enum DoneAnswer {
-    Refused(u8),
-    Done,
+// Why a call is refused: document 01's refusals in checking order, then those of document 02.
+#[derive(Clone, Copy, PartialEq, Eq)]
+pub enum Refusal {
+    NotAStore,
+    BadRequest,
+    NotFound,
+    TableFull,
+    ArenaFull,
+    NumbersUsedUp,
+    BufferShort,
+    TooMany,
+    NotALine,
 }
 
-// GET and HEAD.
-#[derive(Clone, Copy)]
-pub enum GetAnswer {
-    Refused(u8),
-    Found(Metadata),
-}
+// The number of a refusal.
+impl From<Refusal> for u8 {
+    ghost from_gives = { λ r n. n ≡ number_of r };
 
-// PART, with the part's etag.
-#[derive(Clone, Copy)]
-pub enum PartAnswer {
-    Refused(u8),
-    Stored(Etag),
-}
-
-// INITIATE.
-#[derive(Clone, Copy)]
-pub enum InitiateAnswer {
-    Refused(u8),
-    Opened(UploadNumber),
-}
-
-// LIST and UPLOADS.
-#[derive(Clone, Copy)]
-pub enum ListAnswer {
-    Refused(u8),
-    Written(Counts),
-}
-
-// SWEEP.
-#[derive(Clone, Copy)]
-pub enum SweepAnswer {
-    Refused(u8),
-    Swept(Sweep),
+    fn from(refusal: Refusal) -> u8 {
+        match refusal {
+            Refusal::NotAStore => 1,
+            Refusal::BadRequest => 2,
+            Refusal::NotFound => 3,
+            Refusal::TableFull => 4,
+            Refusal::ArenaFull => 5,
+            Refusal::NumbersUsedUp => 6,
+            Refusal::BufferShort => 7,
+            Refusal::TooMany => 8,
+            Refusal::NotALine => 9,
+        }
+    }
 }

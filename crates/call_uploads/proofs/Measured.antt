@@ -1,20 +1,24 @@
 -- The uploads measured one by one. Assumes nothing.
 use Prim.Native.Nat.{ℕ, ◌+◌, ◌-◌, ◌*◌, ◌≤◌, ◌<◌}
-use mathlib.Core.Path.{◌≡◌, refl, sym, ap, ◌∙◌}
-use mathlib.Core.Bool.{cond}
+use mathlib.Core.Path.{◌≡◌, refl, ap, ◌∙◌}
+use mathlib.Core.Bool.{true, false}
 use mathlib.Core.List.{List}
+use mathlib.Core.Option.{some}
 use native.Mathlib.Omega.{arith}
 use lib.ListN.{length, get_or, take, drop}
-use lib.Seq.{take_all}
 use Rattle.base_order.specs.Order.{begins}
-use Rattle.machine.specs.Map.{Map, records}
+use Rattle.base_number.specs.Number.{AreBytes}
+use Rattle.machine.specs.Map.{is_some, by_number, lookup}
 use Rattle.machine.specs.Names.{Bytes}
 use Rattle.machine.specs.State.{Upload, State}
-use Rattle.machine.specs.Steps.{open_under, upload_record}
+use Rattle.machine.specs.Steps.{open_under}
 use Rattle.mem_find.specs.declared.RowPlace.{RowPlace}
 use Rattle.call_uploads.specs.declared.rows.OpenUpload.{OpenUpload}
-use Rattle.call_uploads.specs.Rows.{upload_row_place}
-use Rattle.call_uploads.proofs.UploadRows.{blank, Entry}
+use Rattle.mem_find.specs.Places.{upload_row_of}
+use Rattle.mem_layout.specs.Memory.{whole, state_of, Stands}
+use Rattle.mem_layout.proofs.WholeLaws.{whole-stands}
+use Rattle.call_uploads.specs.Rows.{upload_row_place, number_at, RowRead}
+use Rattle.call_uploads.proofs.UploadRows.{blank, Entry, row_low, row_open, row-place, entry}
 use Rattle.call_uploads.proofs.Fronts.{front, front_bytes, entry_bytes, size-next, count_next, entry_length}
 
 -- the first i uploads measured: the next row stands at `here`, and UPLOADS has so many records and bytes of them
@@ -30,29 +34,69 @@ pub measured-none : (s : State) (prefix : Bytes) (here : RowPlace) → here ≡ 
 unfolding open_under
 measured-none s prefix here e = record { within = omega arith; rows = e; counted = refl; sized = refl; few = omega arith; small = omega arith }
 
-pub measured-next : (t : List ℕ) (s : State) (prefix : Bytes) (i : ℕ) (here : RowPlace) (count size : ℕ) (r : OpenUpload) (c k : ℕ) → Measured s prefix i here count size → i < length s.U → Entry t s i r
-    → let p = take (r.to - r.from) (drop r.from t) in
-    c ≡ cond (begins prefix p) 1 0 → k ≡ cond (begins prefix p) (15 + length p) 0 → c ≤ 1 → k ≤ 143
-    → Measured s prefix (i + 1) r.next (count + c) (size + k)
-measured-next t s prefix i here count size r c k w l e f g few small =
-    let x = w.counted in
-    let y = w.sized in
-    let p = w.few in
-    let q = w.small in
-    let z = get_or s.U i blank in
-    let f' : c ≡ cond (begins prefix z.1.path) 1 0 = rw e.path at f in
-    let g' : k ≡ length (entry_bytes s prefix i l) = (rw e.path at g) ∙ sym (entry_length s prefix i l) in
-    record {
-      within = omega arith;
-      rows = e.next;
-      counted = omega (arith, count_next s prefix i l);
-      sized = omega (arith, size-next s prefix i l);
-      few = omega arith;
-      small = omega arith;
-    }
+-- the next upload, where there is one
+pub record UploadHere (t : List ℕ) (s : State) (i : ℕ) (here : RowPlace) : Type 0 where
+  pub more : i < length s.U
+  pub few : i < 16
+  pub low : here.at < 65536
+  pub open_here : is_some (lookup by_number (number_at t here) s.U) ≡ true
+  pub place : here ≡ upload_row_of s (number_at t here)
+  pub read : (r : OpenUpload) → ((y : Upload) → lookup by_number (number_at t here) s.U ≡ some y → RowRead t s here y r) → Entry t s i r
 
-pub measured-all : (s : State) (prefix : Bytes) (i : ℕ) (here : RowPlace) (count size : ℕ) → Measured s prefix i here count size → length s.U ≤ i
-    → (count ≡ length (open_under prefix s.U)) × (size ≡ length (records upload_record (open_under prefix s.U)))
-measured-all s prefix i here count size w l =
-    let e : take i s.U ≡ s.U = take_all i s.U l in
-    (w.counted ∙ ap (λ (m : Map ℕ Upload). length (open_under prefix m)) e, w.sized ∙ ap (λ (m : Map ℕ Upload). length (records upload_record (open_under prefix m))) e)
+module _ (t a : List ℕ) (b : AreBytes t) (whole_is : whole t a ≡ true) (prefix : Bytes) (i : ℕ) (here : RowPlace) (count size : ℕ) (w : Measured (state_of t a) prefix i here count size)
+    (uploads : ℕ) (e : uploads ≡ length (state_of t a).U) (l : i < uploads) where
+  abbrev s₀ : State
+  s₀ = state_of t a
+
+  abbrev h₀ : Stands t a s₀
+  h₀ = whole-stands t a b whole_is
+
+  pub upload-here : UploadHere t s₀ i here
+  upload-here =
+      let more : i < length s₀.U = omega arith in
+      record {
+        more = more;
+        few = omega (arith, h₀.valid.opens);
+        low = row_low t a s₀ h₀ i here w.rows more;
+        open_here = row_open t a s₀ h₀ i here w.rows more;
+        place = row-place t a s₀ h₀ i here w.rows more;
+        read = entry t a s₀ h₀ i here w.rows more;
+      }
+
+  module _ (r : OpenUpload) (it : Entry t s₀ i r) where
+    abbrev path : Bytes
+    path = take (r.to - r.from) (drop r.from t)
+
+    abbrev path_there : Bytes
+    path_there = (get_or s₀.U i blank).1.path
+
+    -- it has a record
+    pub measured-listed : (k : ℕ) → begins prefix path ≡ true → k ≡ 15 + length path → Measured s₀ prefix (i + 1) r.next (count + 1) (size + k)
+    measured-listed k is f =
+        let m = upload-here.more in
+        let is' : begins prefix path_there ≡ true = rw it.path at is in
+        let z = it.short in
+        let n : length (entry_bytes s₀ prefix i m) ≡ 15 + length path_there = entry_length s₀ prefix i m ∙ rw is' in
+        record {
+          within = omega arith;
+          rows = it.next;
+          counted = omega (arith, w.counted, rw is' at (count_next s₀ prefix i m));
+          sized = omega (arith, w.sized, size-next s₀ prefix i m, n, ap length it.path);
+          few = omega (arith, w.few);
+          small = omega (arith, w.small, ap length it.path);
+        }
+
+    -- it has none
+    pub measured-passed : begins prefix path ≡ false → Measured s₀ prefix (i + 1) r.next count size
+    measured-passed is =
+        let m = upload-here.more in
+        let is' : begins prefix path_there ≡ false = rw it.path at is in
+        let n : length (entry_bytes s₀ prefix i m) ≡ 0 = entry_length s₀ prefix i m ∙ rw is' in
+        record {
+          within = omega arith;
+          rows = it.next;
+          counted = omega (arith, w.counted, rw is' at (count_next s₀ prefix i m));
+          sized = omega (arith, w.sized, size-next s₀ prefix i m, n);
+          few = omega (arith, w.few);
+          small = omega (arith, w.small);
+        }

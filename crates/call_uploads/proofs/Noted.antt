@@ -1,10 +1,10 @@
 -- The notes: written upload by upload, and what their records are. Assumes nothing.
-use Prim.Native.Nat.{ℕ, zero, suc, ◌+◌, ◌*◌, ◌≤◌, ◌<◌}
+use Prim.Native.Nat.{ℕ, zero, suc, ◌+◌, ◌-◌, ◌*◌, ◌≤◌, ◌<◌}
 use mathlib.Core.Path.{◌≡◌, refl, sym, ap, ap₂, ◌∙◌}
-use mathlib.Core.Bool.{Bool, true, false, cond}
+use mathlib.Core.Bool.{true}
 use mathlib.Core.Logic.{⊎_elim}
 use mathlib.Core.List.{List, [], ◌∷◌, ◌++◌, append-nil}
-use native.Mathlib.Nat.{add-zero, eq-or-lt_of_le}
+use native.Mathlib.Nat.{eq-or-lt_of_le}
 use native.Mathlib.Numerals.{add-one}
 use native.Mathlib.Omega.{arith}
 use lib.ListN.{length, get_or, take, drop}
@@ -20,10 +20,11 @@ use Rattle.machine.specs.Steps.{open_under, upload_record}
 use Rattle.machine.proofs.MapKeep.{records-append}
 use Rattle.mem_layout.specs.Memory.{Stands}
 use Rattle.mem_find.specs.declared.RowPlace.{RowPlace}
+use Rattle.call_uploads.specs.declared.rows.OpenUpload.{OpenUpload}
 use Rattle.call_contract.proofs.Noting.{read-before, read_here, keep-front}
 use Rattle.call_uploads.specs.Records.{record_at}
 use Rattle.call_uploads.specs.Notes.{noted, place_noted, parts_noted, AllNoted, RowsNoted, records_noted}
-use Rattle.call_uploads.proofs.UploadRows.{blank, found, at_place, row_low, few-parts, row_inside, record-here}
+use Rattle.call_uploads.proofs.UploadRows.{blank, Entry, found, at_place, row_low, few-parts, row_inside, record-here}
 use Rattle.call_uploads.proofs.RecordBytes.{next_field}
 use Rattle.call_uploads.proofs.Fronts.{front, front-next, count_next}
 use Rattle.call_uploads.proofs.Measured.{Measured}
@@ -102,19 +103,8 @@ module _ (t a : List ℕ) (s : State) (h : Stands t a s) (prefix : Bytes) (notes
       })
       (eq-or-lt_of_le (omega arith))
 
-  pub noted-next : (c parts : ℕ) (p : Bytes) (b : List ℕ) → p ≡ x.path → parts ≡ length x.parts → c ≡ cond (begins prefix p) 1 0
-      → b ≡ cond (begins prefix p) (noted notes count here.at parts) notes → AllNoted s prefix b (count + c)
-  noted-next c parts p b e f g told = go (begins prefix x.path) refl
-    where
-      go : (v : Bool) → begins prefix x.path ≡ v → AllNoted s prefix b (count + c)
-      go true is =
-          let one : c ≡ 1 = g ∙ rw (e, is) in
-          let q : b ≡ after = told ∙ rw (e, is, f) in
-          rw (q, one) (one-noted is)
-      go false is =
-          let none : c ≡ 0 = g ∙ rw (e, is) in
-          let q : b ≡ notes = told ∙ rw (e, is) in
-          rw (q, none, add-zero) all
+  pub noted-next : (r : OpenUpload) → Entry t s i r → begins prefix (take (r.to - r.from) (drop r.from t)) ≡ true → AllNoted s prefix (noted notes count here.at r.parts) (count + 1)
+  noted-next r e is = rw e.parts (one-noted (rw e.path at is))
 
 -- the notes read: their rows, and their records
 module _ (t a : List ℕ) (s : State) (h : Stands t a s) (prefix : Bytes) (notes : List ℕ) where

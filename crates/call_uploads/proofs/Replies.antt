@@ -7,7 +7,8 @@ use native.Mathlib.Omega.{arith}
 use lib.ListN.{length}
 use Rattle.base_number.specs.Number.{AreBytes, fronted}
 use Rattle.call_types.specs.declared.Counts.{Counts}
-use Rattle.call_types.specs.declared.ListAnswer.TheVariants.{Refused, Written}
+use Rattle.std.specs.Prelude.{Ok, Err}
+use Rattle.call_types.specs.declared.Refusal.TheVariants.{BufferShort}
 use Rattle.machine.specs.Map.{Map, records}
 use Rattle.machine.specs.Names.{Bytes}
 use Rattle.machine.specs.State.{Upload, State}
@@ -32,13 +33,13 @@ module _ (t a : List ℕ) (prefix b : Bytes) where
   out = records upload_record l
 
   -- the buffer is short
-  pub refused-short : (n : ℕ) → n ≡ length out → length b < n → list_reply (Refused 7) b ≡ reply_of (buffers b []) (outcome (UPLOADS prefix b) (memory t a))
+  pub refused-short : (n : ℕ) → n ≡ length out → length b < n → list_reply (Err BufferShort) b ≡ reply_of (buffers b []) (outcome (UPLOADS prefix b) (memory t a))
   unfolding outcome act
   refused-short n e h = sym (write-short (counts (length l) (length out)) out b s (omega arith))
 
   -- the records stand at its front
   pub all-written : (c : Counts) (x b' : Bytes) → (c.records ≡ length l) × (c.bytes ≡ length out) → c.bytes ≤ length b → x ≡ out → b' ≡ fronted b x
-      → list_reply (Written c) b' ≡ reply_of (buffers b []) (outcome (UPLOADS prefix b) (memory t a))
+      → list_reply (Ok c) b' ≡ reply_of (buffers b []) (outcome (UPLOADS prefix b) (memory t a))
   unfolding outcome act
   all-written c x b' e h same told =
       let m = e.0 in

@@ -99,8 +99,6 @@ module _ (t a : List ℕ) (s : State) (h : Stands t a s) (u : ℕ) (x : Upload) 
 
 -- r is the upload at i, as its row and its parts' rows tell it
 pub record Entry (t : List ℕ) (s : State) (i : ℕ) (r : OpenUpload) : Type 0 where
-  pub ordered : r.from ≤ r.to
-  pub inside : r.to ≤ length t
   pub path : take (r.to - r.from) (drop r.from t) ≡ (get_or s.U i blank).1.path
   pub short : length (get_or s.U i blank).1.path ≤ 128
   pub parts : r.parts ≡ length (get_or s.U i blank).1.parts
@@ -165,8 +163,6 @@ module _ (t a : List ℕ) (s : State) (h : Stands t a s) (i : ℕ) (here : RowPl
       let n = k.to in
       let f = k.from in
       record {
-        ordered = omega arith;
-        inside = omega (arith, row_inside t a s h u x found at at_place);
         path = ap₂ (λ (m j : ℕ). take (m - j) (drop j t)) n f ∙ ap (λ (m : ℕ). take m (drop (at + head_length) t)) (add-sub_cancel_left (at + head_length) (head_at (drop at t)).pathlen) ∙ path-here t a s h u x found at at_place;
         short = path-short t a s h u x found at at_place;
         parts = k.parts;

@@ -7,7 +7,7 @@ use native.Mathlib.Nat.{eq-or-lt_of_le}
 use native.Mathlib.Numerals.{add-one}
 use native.Mathlib.Omega.{arith}
 use lib.ListN.{length, drop, length-append}
-use Rattle.base_number.specs.Number.{written, fronted}
+use Rattle.base_number.specs.Number.{written}
 use Rattle.base_number.proofs.Fields.{front-next}
 use Rattle.machine.specs.Names.{Bytes}
 use Rattle.mem_row.specs.Row.{head_at, span}
@@ -59,6 +59,3 @@ module _ (t notes b₀ b : List ℕ) (i to : ℕ) (w : Written t notes b₀ b i 
         bytes = front-next b₀ b b₁ (records_noted t notes i) more to (length more) w.bytes (sym w.sized) told.1 ∙ ap₂ (λ (x : List ℕ) (k : ℕ). x ++ drop k b₀) (sym records-next) (sym told.0);
         same = same ∙ w.same;
       }
-
-pub written_all : (t notes b₀ b : List ℕ) (i n to : ℕ) → Written t notes b₀ b i to → i ≡ n → b ≡ fronted b₀ (records_noted t notes n)
-written_all t notes b₀ b i n to w e = w.bytes ∙ ap₂ (λ (j k : ℕ). records_noted t notes j ++ drop k b₀) e (w.sized ∙ ap (λ (j : ℕ). length (records_noted t notes j)) e)

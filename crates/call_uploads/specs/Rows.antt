@@ -3,7 +3,7 @@ use Rattle.std.specs.Prelude.{ℕ, ◌+◌, ◌≡◌, true, List, ◌++◌, len
 use Rattle.machine.specs.Map.{is_some, by_number, lookup}
 use Rattle.machine.specs.State.{Upload, State}
 use Rattle.mem_row.specs.Row.{head_at, head_length}
-use Rattle.mem_layout.specs.Memory.{object_rows, upload_rows, rows_of, whole, state_of}
+use Rattle.mem_layout.specs.Memory.{object_rows, upload_rows, rows_of, state_of}
 use Rattle.mem_find.specs.declared.RowPlace.{RowPlace}
 use Rattle.mem_find.specs.Places.{upload_row_of, passed_parts}
 use Rattle.mem_find.specs.RowPlaces.{row_place_at}
@@ -17,11 +17,10 @@ upload_row_place s i = row_place_at (rows_of s) (length (object_rows s.O ++ uplo
 abbrev pub number_at : (t : List ℕ) → RowPlace → ℕ
 number_at t here = (head_at (drop here.at t)).number
 
--- t and a are whole, and the row of an open upload stands there
-abbrev pub WholeUpload : (t a : List ℕ) → RowPlace → Type 0
-WholeUpload t a here =
-    (whole t a ≡ true)
-    × (is_some (lookup by_number (number_at t here) (state_of t a).U) ≡ true)
+-- the row of an open upload stands there
+abbrev pub IsUpload : (t a : List ℕ) → RowPlace → Type 0
+IsUpload t a here =
+    (is_some (lookup by_number (number_at t here) (state_of t a).U) ≡ true)
     × (here ≡ upload_row_of (state_of t a) (number_at t here))
 
 -- what is read of the upload x whose row stands there

@@ -1,8 +1,9 @@
 // The rows of uploads, in order.
+ghost use Rattle.std.specs.Prelude.{◌≤◌, length};
 ghost use Rattle.mem_find.specs.Known.{OfOpen};
-ghost use Rattle.call_uploads.specs.Rows.{number_at, WholeUpload, RowRead};
+ghost use Rattle.call_uploads.specs.Rows.{number_at, IsUpload, RowRead};
 
-use mem_find::RowPlace;
+use mem_find::{RowPlace, WholeMemory};
 
 // An open upload: its path stands in the tables from `from` to `to`, and `next` is the row after its parts.
 #[derive(Clone, Copy)]
@@ -14,13 +15,14 @@ pub struct OpenUpload {
 }
 
 // The upload whose row stands there.
-pub(crate) fn read_upload(tables: &[u8], arena: &[u8], here: RowPlace) -> OpenUpload
-    requires { WholeUpload tables.now arena.now here }
-    ensures { OfOpen tables.now arena.now (number_at tables.now here)
-        (λ s x. RowRead tables.now s here x result) }
+pub(crate) fn read_upload(memory: WholeMemory, here: RowPlace) -> OpenUpload
+    requires { IsUpload memory.tables.now memory.arena.now here }
+    ensures inside { (result.from ≤ result.to) × (result.to ≤ length memory.entry.tables.now) }
+    ensures read { OfOpen memory.entry.tables.now memory.entry.arena.now (number_at memory.entry.tables.now here)
+        (λ s x. RowRead memory.entry.tables.now s here x result) }
 {
-    let h = mem_row::read_head(tables, here.at);
-    let parts = mem_find_uploads::pass_parts(tables, arena, here);
+    let h = memory.row_head(here);
+    let parts = mem_find_uploads::pass_parts(memory, here);
     let next = parts.next;
     let from = here.at + mem_row::HEAD_LENGTH;
     OpenUpload {

@@ -51,11 +51,9 @@ pub(crate) fn write(tables: &[u8], notes: &[u8], records: u32, answer: &mut [u8]
         (records_noted tables.now notes.now records) }
 {
     let mut to: usize = 0;
-    let mut i: u32 = 0;
-    while i < records {
+    for i in 0..records {
         let at = base_number::get_u16(notes, 4 * i as usize) as usize;
         let parts = base_number::get_u16(notes, 4 * i as usize + 2);
         to = write_row(tables, at, parts, answer, to);
-        i += 1;
     }
 }

@@ -29,11 +29,8 @@ pub fn remove_object(tables: &mut [u8], arena: &mut [u8], place: Lookup, end: Ro
     let n = mem_row::span(h);
     let m = h.size as usize;
     let after = Header {
-        arena: header.arena,
-        next: header.next,
         objects: header.objects - 1,
-        uploads: header.uploads,
-        parts: header.parts,
+        ..header
     };
     crate::rows::remove_rows(tables, at, n, end.at, after);
     base_buffer::remove(arena, base, m, end.base);
@@ -69,11 +66,8 @@ pub fn put_row(
         count,
     };
     let after = Header {
-        arena: header.arena,
-        next: header.next,
         objects: header.objects + 1 - old.rows,
-        uploads: header.uploads,
-        parts: header.parts,
+        ..header
     };
     crate::rows::replace_rows(
         tables, at, old.length, used, h, digest, path, lengths, after,

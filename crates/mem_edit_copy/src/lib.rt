@@ -18,13 +18,11 @@ fn restamp(tables: &mut [u8], at: usize, stamp: u64, digest: Digest)
 {
     let old = mem_row::read_head(tables, at);
     let h = Head {
-        size: old.size,
         number: 0,
         stamp,
         kind: mem_layout::PLAIN_KIND,
-        pairs: old.pairs,
-        pathlen: old.pathlen,
         count: 0,
+        ..old
     };
     let mut front = [0u8; mem_row::HEAD_LENGTH];
     mem_row::write_row(&mut front, h, digest, b"", b"");

@@ -39,6 +39,8 @@ use Rattle.mem_find.specs.declared.RowPlace.{RowPlace}
 use Rattle.mem_layout.specs.Header.{header_of, headed, header_at, header_length}
 use Rattle.mem_find.specs.declared.PassedParts.{PassedParts}
 use Rattle.mem_find.specs.Places.{place_after, before_upload, before_parts, from_upload, after_upload, through_parts, upload_row_of, passed_parts}
+use Rattle.mem_find.specs.Known.{rows_in, WholeOpenAt, OfOpenAt}
+use Rattle.mem_find.proofs.Found.{is-some}
 use Rattle.mem_find.proofs.Splits.{upload-place, upload-found, parts-after}
 use Rattle.mem_find_uploads.proofs.Answers.{PlacedAfter, place_after_lem, placed-after}
 use Rattle.mem_edit.proofs.Changes.{new-upload-rows, without-upload-rows}
@@ -307,3 +309,15 @@ module _ (t a : List ℕ) (b : AreBytes t) (w : whole t a ≡ true) (end : RowPl
               h.at (omega arith) used-is refl h.base (omega arith) held-is e';
           ends = λ t' a' z. left_is ∙ ap (λ (x : State). place_after (rows_of x)) (sym (stands-state t' a' _ z));
         }
+
+-- the same of the upload that is open there
+module _ (t a : List ℕ) (bytes : AreBytes t) (here : RowPlace) (o : WholeOpenAt t a here) (end : RowPlace) (end-is : end ≡ place_after (rows_in t a))
+    (header : Header) (header-is : header ≡ header_at t) (parts : PassedParts) (told : OfOpenAt t a here (λ s u x. parts ≡ passed_parts s u x)) where
+  abbrev opened-there : (x : Upload) × (lookup by_number o.1.0 (state_of t a).U ≡ some x)
+  opened-there = is-some (lookup by_number o.1.0 (state_of t a).U) o.1.2
+
+  abbrev pub RemovalAt : Type 0
+  RemovalAt = Removal t a bytes o.0 end end-is header header-is o.1.0 opened-there.0 opened-there.1 here o.1.1 parts (told o.1.0 opened-there.0 o.1.1 opened-there.1)
+
+  pub removal-at : RemovalAt
+  removal-at = removal t a bytes o.0 end end-is header header-is o.1.0 opened-there.0 opened-there.1 here o.1.1 parts (told o.1.0 opened-there.0 o.1.1 opened-there.1)

@@ -37,11 +37,8 @@ pub fn put_part(
         count: 0,
     };
     let after = Header {
-        arena: header.arena,
-        next: header.next,
-        objects: header.objects,
-        uploads: header.uploads,
         parts: header.parts + 1 - old.rows,
+        ..header
     };
     mem_edit::rows::replace_rows(
         tables, place.at, old.length, end.at, h, digest, b"", b"", after,

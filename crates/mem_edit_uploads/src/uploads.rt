@@ -10,7 +10,7 @@ ghost use Rattle.mem_edit.specs.Blocks.{kept_of};
 ghost use Rattle.mem_edit.specs.Edits.{MayBecome, Becomes};
 
 use base_md5::words::Digest;
-use mem_find::RowPlace;
+use mem_find::{RowPlace, WholeMemory};
 use mem_layout::Header;
 use mem_row::Head;
 
@@ -51,11 +51,9 @@ pub fn open_upload(
         d: 0,
     };
     let after = Header {
-        arena: header.arena,
         next: header.next + 1,
-        objects: header.objects,
         uploads: header.uploads + 1,
-        parts: header.parts,
+        ..header
     };
     mem_edit::rows::replace_rows(tables, used, 0, used, h, digest, path, &lengths[..n], after);
 }
@@ -68,18 +66,16 @@ pub fn remove_upload(tables: &mut [u8], arena: &mut [u8], here: RowPlace, end: R
         (λ s u x. Stands tables.new arena.new (without_upload s u))
         × (result ≡ place_after (rows_in tables.new arena.new)) }
 {
-    let parts = mem_find_uploads::pass_parts(tables, arena, here);
+    let parts = mem_find_uploads::pass_parts(WholeMemory::of(tables, arena), here);
     let next = parts.next;
     let header = mem_layout::headers::read_header(tables);
     let rows = next.row - here.row;
     let n = next.at - here.at;
     let m = next.base - here.base;
     let after = Header {
-        arena: header.arena,
-        next: header.next,
-        objects: header.objects,
         uploads: header.uploads - 1,
         parts: header.parts - parts.count as u16,
+        ..header
     };
     mem_edit::rows::remove_rows(tables, here.at, n, end.at, after);
     base_buffer::remove(arena, here.base, m, end.base);

@@ -1,5 +1,6 @@
 pub mod Found
 pub mod RowsAt
+pub mod RowHeads
 pub mod Splits
 pub mod ObjectAt
 pub mod ObjectSearch

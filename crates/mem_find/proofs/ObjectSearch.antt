@@ -2,12 +2,12 @@
 use Prim.Native.Nat.{ℕ, suc, ◌+◌, ◌≤◌, ◌<◌, Ordering}
 use mathlib.Core.Path.{◌≡◌, refl, sym, ap, ◌∙◌}
 use mathlib.Core.Bool.{Bool, true, false, false≢true}
-use mathlib.Core.List.{List, []}
+use mathlib.Core.List.{List, [], ◌∷◌}
 use mathlib.Core.Option.{none, some}
 use native.Mathlib.Numerals.{add-one}
 use native.Mathlib.Omega.{arith}
-use lib.ListN.{length, take, drop, drop_of_length-le}
-use lib.Seq.{drop-cons, length-take-le}
+use lib.ListN.{length, take, drop, length-append, drop_of_length-le}
+use lib.Seq.{drop-cons, take_at, length-take-le}
 use Rattle.base_order.specs.Order.{by, by_bytes, is_below, same}
 use Rattle.base_order.proofs.OrderLaws.{cases, bytes, below-lt}
 use Rattle.machine.specs.Map.{is_some, lookup, place}
@@ -16,9 +16,10 @@ use Rattle.machine.specs.State.{State}
 use Rattle.mem_row.specs.declared.Head.{Head}
 use Rattle.mem_row.specs.Row.{Row, encode_rows, contents_of, head_at, head_length, span}
 use Rattle.mem_layout.specs.Header.{header_length}
-use Rattle.mem_layout.specs.Memory.{object_rows, Stands}
+use Rattle.mem_layout.specs.Memory.{object_rows, rows_of, Stands}
 use Rattle.mem_layout.proofs.ObjectLaws.{length-object-rows}
 use Rattle.mem_find.specs.declared.Lookup.{Lookup}
+use Rattle.mem_find.specs.RowPlaces.{row_place_at, IsRow}
 use Rattle.mem_find.specs.Places.{before_object, object_place, Passed}
 use Rattle.mem_find.proofs.RowsAt.{At, Read, row-at, row_read}
 use Rattle.mem_find.proofs.ObjectAt.{blank, entry, row, front, rest, split, next-front}
@@ -44,6 +45,16 @@ passed-all s p i at base k l =
     let e : drop i s.O ≡ [] = drop_of_length-le s.O l in
     here s p i at base false k (rw e) (rw e)
 
+-- the next row is that of object i
+pub passed-row : (s : State) (p : Bytes) (i at base : ℕ) → Passed s p i at base → i < length s.O → IsRow (rows_of s) (record { row = i; at = at; base = base })
+unfolding row_place_at front
+passed-row s p i at base k l =
+    let n : length (front s i) ≡ i = length-object-rows (take i s.O) ∙ length-take-le i s.O k.within in
+    let e : take i (rows_of s) ≡ front s i = ap (take i) (split s i l) ∙ take_at (front s i) (row s i ∷ rest s i) i n in
+    let r : at ≡ header_length + length (encode_rows (take i (rows_of s))) = k.rows ∙ ap (λ (rs : List Row). header_length + length (encode_rows rs)) (sym e) in
+    let c : base ≡ length (contents_of (take i (rows_of s))) = k.contents ∙ ap (λ (rs : List Row). length (contents_of rs)) (sym e) in
+    (λ j. record { row = i; at = r j; base = c j }, omega (arith, ap length (split s i l), length-append (front s i) (row s i ∷ rest s i)))
+
 -- what the code knows at the row of object i, by the head that it read there and whether its path is below p
 pub record Turn (t a : List ℕ) (s : State) (p : Bytes) (i at base : ℕ) (head : Head) : Type 0 where
   pub inside : at + span head ≤ length t
@@ -55,10 +66,6 @@ pub record Turn (t a : List ℕ) (s : State) (p : Bytes) (i at base : ℕ) (head
 module _ (t a : List ℕ) (s : State) (h : Stands t a s) (p : Bytes) (i at base : ℕ) (k : Passed s p i at base) (l : i < length s.O) where
   here-at : At t a s h (front s i) (row s i) (rest s i)
   here-at = row-at t a s h (front s i) (row s i) (rest s i) (split s i l)
-
-  pub object-inside : at + head_length ≤ length t
-  unfolding front
-  object-inside = let q = k.rows in let z = here-at.inside in omega arith
 
   module _ (head : Head) (q : head ≡ head_at (drop at t)) where
     here-read : Read t a (front s i) (row s i) at base head

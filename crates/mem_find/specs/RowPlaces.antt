@@ -1,6 +1,7 @@
 -- The places of rows. Assumes nothing.
-use Rattle.std.specs.Prelude.{ℕ, ◌+◌, ◌≤◌, ◌<◌, ◌≡◌, List, length, take}
-use Rattle.mem_row.specs.Row.{Row, encode_rows, contents_of}
+use Rattle.std.specs.Prelude.{ℕ, ◌+◌, ◌≤◌, ◌<◌, ◌≡◌, List, ◌∷◌, length, take, drop}
+use Rattle.mem_row.specs.declared.Head.{Head}
+use Rattle.mem_row.specs.Row.{Row, encode_rows, contents_of, head_of, span}
 use Rattle.mem_layout.specs.Header.{header_length}
 use Rattle.mem_find.specs.declared.RowPlace.{RowPlace}
 
@@ -15,3 +16,10 @@ IsRow rs p = (p ≡ row_place_at rs p.row) × (p.row < length rs)
 -- p is the place of one of the rows rs, or after them all
 abbrev pub IsRowPlace : List Row → RowPlace → Type 0
 IsRowPlace rs p = (p ≡ row_place_at rs p.row) × (p.row ≤ length rs)
+
+-- h is the head of the row of rs at p, and tells where the next one stands
+pub record HeadAt (rs : List Row) (p : RowPlace) (h : Head) : Type 0 where
+  pub row : Row
+  pub here : drop p.row rs ≡ row ∷ drop (p.row + 1) rs
+  pub same : h ≡ head_of row
+  pub next : record { row = p.row + 1; at = p.at + span h; base = p.base + h.size } ≡ row_place_at rs (p.row + 1)

@@ -1,7 +1,8 @@
 // How many objects, uploads, parts and rows there are.
-ghost use Rattle.std.specs.Prelude.{◌≡◌, true};
-ghost use Rattle.mem_layout.specs.Memory.{whole, state_of};
+ghost use Rattle.mem_layout.specs.Memory.{state_of};
 ghost use Rattle.mem_find.specs.Counts.{CountsOf};
+
+use crate::memory::WholeMemory;
 
 // How many objects, open uploads, parts over all uploads, and rows in all.
 #[derive(Clone, Copy)]
@@ -12,19 +13,20 @@ pub struct RowCounts {
     pub rows: usize,
 }
 
-// The counts, as the header has them.
-pub fn read_counts(tables: &[u8], arena: &[u8]) -> RowCounts
-    requires { whole tables.now arena.now ≡ true }
-    ensures { CountsOf (state_of tables.now arena.now) result }
-{
-    let header = mem_layout::headers::read_header(tables);
-    let objects = header.objects as usize;
-    let uploads = header.uploads as usize;
-    let parts = header.parts as usize;
-    RowCounts {
-        objects,
-        uploads,
-        parts,
-        rows: objects + (uploads + parts),
+impl WholeMemory<'_> {
+    // The counts, as the header has them.
+    pub fn counts(self) -> RowCounts
+        ensures { CountsOf (state_of self.entry.tables.now self.entry.arena.now) result }
+    {
+        let header = mem_layout::headers::read_header(self.tables);
+        let objects = header.objects as usize;
+        let uploads = header.uploads as usize;
+        let parts = header.parts as usize;
+        RowCounts {
+            objects,
+            uploads,
+            parts,
+            rows: objects + (uploads + parts),
+        }
     }
 }

@@ -1,16 +1,17 @@
-// Readers of whole memory: where an object stands, how many rows there are, and the lengths of a row's pairs; and what
-// the readers of uploads answer.
+// Readers of whole memory: where an object stands, how many rows there are, a row's head, and the lengths of its pairs;
+// and what the readers of uploads answer.
 #![tactic(auto)]
 
 pub mod counts;
+pub mod memory;
 pub mod objects;
 pub mod row_pairs;
+pub mod rows;
 
 ghost use Rattle.std.specs.Prelude.{◌≡◌};
 ghost use Rattle.mem_find.specs.Places.{lookup_of, place_of};
 
-pub use counts::read_counts;
-pub use objects::{find_object, find_two};
+pub use memory::WholeMemory;
 pub use row_pairs::pairs_size;
 
 // What a search found: whether it is there, the number of its row, where that begins in the tables, and where its data

@@ -18,8 +18,8 @@ use Rattle.mem_layout.specs.Memory.{object_rows, upload_row, part_rows, upload_r
 use Rattle.mem_layout.proofs.UploadLaws.{length-part-rows}
 use Rattle.mem_find.specs.declared.RowPlace.{RowPlace}
 use Rattle.mem_find.specs.declared.Lookup.{Lookup}
-use Rattle.mem_find_uploads.specs.declared.search.Goal.{Goal}
-use Rattle.mem_find_uploads.specs.declared.search.Goal.TheVariants as goal
+use Rattle.mem_find_uploads.specs.Search.{Goal}
+use Rattle.mem_find_uploads.specs.Search as goal
 use Rattle.mem_find.specs.Places.{place_after, lookup_after, place_of, before_object, from_object, object_place, before_upload, before_parts, before_part, through_parts, from_upload, after_upload, from_part, upload_place, part_place, upload_row_of, parts_row_of, passed_parts}
 use Rattle.mem_find.specs.RowPlaces.{row_place_at, IsRow, IsRowPlace}
 use Rattle.mem_find_uploads.specs.Search.{reach, stops_of, sought, due_from, leads}

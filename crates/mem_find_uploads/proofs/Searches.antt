@@ -17,8 +17,8 @@ use Rattle.machine.proofs.Sweeping.{first-due}
 use Rattle.mem_row.specs.Row.{Row}
 use Rattle.mem_layout.specs.Rules.{upload_kind, part_kind}
 use Rattle.mem_layout.specs.Memory.{part_row, part_rows, upload_rows}
-use Rattle.mem_find_uploads.specs.declared.search.Goal.{Goal}
-use Rattle.mem_find_uploads.specs.declared.search.Goal.TheVariants as goal
+use Rattle.mem_find_uploads.specs.Search.{Goal}
+use Rattle.mem_find_uploads.specs.Search as goal
 use Rattle.mem_find_uploads.specs.Search.{reach, stops_at, stops_of, leads}
 
 -- to the end of the rows

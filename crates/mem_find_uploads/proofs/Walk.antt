@@ -1,93 +1,19 @@
 -- A search along the rows, row by row. Assumes nothing.
-use Prim.Native.Nat.{ℕ, suc, ◌+◌, ◌≤◌, ◌<◌}
+use Prim.Native.Nat.{ℕ, suc, ◌+◌, ◌≤◌}
 use mathlib.Core.Path.{◌≡◌, sym, ap, ◌∙◌}
 use mathlib.Core.Bool.{true, false, ◌&&◌}
-use mathlib.Core.List.{List, [], ◌∷◌, ◌++◌}
+use mathlib.Core.List.{List}
 use native.Mathlib.Nat.{add-zero}
-use native.Mathlib.Numerals.{add-one}
 use native.Mathlib.Omega.{arith}
 use lib.Dec.{eqb}
-use lib.ListN.{length, get_or, take, drop, drop_of_length-le}
-use lib.Seq.{drop-cons, take-suc, split_at}
-use Rattle.machine.specs.State.{State}
+use lib.ListN.{length, drop, drop_of_length-le}
 use Rattle.mem_row.specs.declared.Head.{Head}
-use Rattle.mem_row.specs.Row.{Row, encode_rows, contents_of, head_at, head_of, head_length, span}
-use Rattle.mem_layout.specs.Header.{header_length}
-use Rattle.mem_layout.specs.Memory.{rows_of, Stands}
-use Rattle.mem_layout.proofs.RowCounts.{length-rows}
+use Rattle.mem_row.specs.Row.{Row, head_of}
 use Rattle.mem_find.specs.declared.RowPlace.{RowPlace}
-use Rattle.mem_find_uploads.specs.declared.search.Goal.{Goal}
-use Rattle.mem_find.specs.RowPlaces.{row_place_at}
+use Rattle.mem_find_uploads.specs.Search.{Goal}
+use Rattle.mem_find.specs.RowPlaces.{row_place_at, HeadAt}
 use Rattle.mem_find_uploads.specs.Search.{reach, stops_at, stops_of, sought, leads}
-use Rattle.mem_find.proofs.RowsAt.{At, Read, row-at, row_read}
-
-abbrev pub row_place : ℕ → ℕ → ℕ → RowPlace
-row_place row at base = record { row = row; at = at; base = base }
-
--- row i of the rows of s stands at `at`, its data at `base`
-pub record Reached (s : State) (i at base : ℕ) : Type 0 where
-  pub within : i ≤ length (rows_of s)
-  pub rows : at ≡ header_length + length (encode_rows (take i (rows_of s)))
-  pub contents : base ≡ length (contents_of (take i (rows_of s)))
-
-pub reached-place : (s : State) (i at base : ℕ) → Reached s i at base → row_place i at base ≡ row_place_at (rows_of s) i
-unfolding row_place_at
-reached-place s i at base k = λ j. row_place i (k.rows j) (k.contents j)
-
-pub place-reached : (s : State) (p : RowPlace) → p ≡ row_place_at (rows_of s) p.row → p.row ≤ length (rows_of s) → Reached s p.row p.at p.base
-unfolding row_place_at
-place-reached s p e l = record { within = l; rows = ap (λ (q : RowPlace). q.at) e; contents = ap (λ (q : RowPlace). q.base) e }
-
--- how many rows there can be
-pub rows_few : (t a : List ℕ) (s : State) → Stands t a s → length (rows_of s) ≤ 528
-rows_few t a s h =
-    let o = h.valid.paths in
-    let u = h.valid.opens in
-    let p = h.valid.parts in
-    omega (arith, length-rows s)
-
--- what the code knows at row i, by the head that it read there
-pub record Turn (t a : List ℕ) (s : State) (i at base : ℕ) (head : Head) : Type 0 where
-  pub row : Row
-  pub here : drop i (rows_of s) ≡ row ∷ drop (i + 1) (rows_of s)
-  pub same : head ≡ head_of row
-  pub inside : at + span head ≤ length t
-  pub arena-inside : base + head.size ≤ length a
-  pub next : Reached s (i + 1) (at + span head) (base + head.size)
-
-abbrev blank : Row
-blank = record { number = 0; stamp = 0; kind = 0; count = 0; digest = []; path = []; pairs = 0; lengths = []; content = [] }
-
-module _ (t a : List ℕ) (s : State) (h : Stands t a s) (i at base : ℕ) (k : Reached s i at base) (l : i < length (rows_of s)) where
-  abbrev rs : List Row
-  rs = rows_of s
-
-  abbrev r : Row
-  r = get_or rs i blank
-
-  here-at : At t a s h (take i rs) r (drop (suc i) rs)
-  here-at = row-at t a s h (take i rs) r (drop (suc i) rs) (split_at rs i blank l)
-
-  pub row_inside : at + head_length ≤ length t
-  row_inside = let q = k.rows in let z = here-at.inside in omega arith
-
-  pub row-turn : (head : Head) → head ≡ head_at (drop at t) → Turn t a s i at base head
-  row-turn head q =
-      let g : Read t a (take i rs) r at base head = row_read t a s h (take i rs) r (drop (suc i) rs) at base head here-at k.rows k.contents q in
-      let n : take (i + 1) rs ≡ take i rs ++ (r ∷ []) = ap (λ (j : ℕ). take j rs) (add-one i) ∙ take-suc rs i blank l in
-      record {
-        row = r;
-        here = drop-cons rs i blank l ∙ ap (λ (j : ℕ). r ∷ drop j rs) (sym (add-one i));
-        same = g.same;
-        inside = g.inside;
-        arena-inside = g.arena-inside;
-        next =
-            record {
-              within = omega arith;
-              rows = g.next ∙ ap (λ (xs : List Row). header_length + length (encode_rows xs)) (sym n);
-              contents = g.arena-next ∙ ap (λ (xs : List Row). length (contents_of xs)) (sym n);
-            };
-      }
+pub use Rattle.mem_find.proofs.RowHeads.{row_place, Reached, reached-place, place-reached, rows_few, Turn, row_inside, row-turn}
 
 -- The search --------------------------------------------------------------------------------------------------------------
 
@@ -96,21 +22,23 @@ module _ (g : Goal) (rs : List Row) (i : ℕ) where
   unfolding sought reach
   sought-end l = rw (drop_of_length-le rs l, add-zero)
 
-  pub sought-here : (r : Row) → drop i rs ≡ r ∷ drop (i + 1) rs → stops_at g (head_of r) ≡ true → sought g rs i ≡ row_place_at rs i
+module _ (g : Goal) (rs : List Row) (p : RowPlace) (h : Head) (k : HeadAt rs p h) where
+  pub sought-here : stops_at g h ≡ true → sought g rs p.row ≡ row_place_at rs p.row
   unfolding sought reach
-  sought-here r e q = rw (e, q, add-zero)
+  sought-here q = let same : stops_at g (head_of k.row) ≡ true = ap (stops_at g) (sym k.same) ∙ q in rw (k.here, same, add-zero)
 
-  pub sought-on : (r : Row) → drop i rs ≡ r ∷ drop (i + 1) rs → stops_at g (head_of r) ≡ false → sought g rs i ≡ sought g rs (i + 1)
+  pub sought-on : stops_at g h ≡ false → sought g rs p.row ≡ sought g rs (p.row + 1)
   unfolding sought reach
-  sought-on r e q =
-      let n = reach (stops_of g) (drop (i + 1) rs) in
-      let m : i + suc n ≡ i + 1 + n = omega arith in
-      rw (e, q) (ap (row_place_at rs) m)
+  sought-on q =
+      let n = reach (stops_of g) (drop (p.row + 1) rs) in
+      let m : p.row + suc n ≡ p.row + 1 + n = omega arith in
+      let same : stops_at g (head_of k.row) ≡ false = ap (stops_at g) (sym k.same) ∙ q in
+      rw (k.here, same) (ap (row_place_at rs) m)
 
 pub leads-none : (kind number : ℕ) (rs : List Row) (i : ℕ) → length rs ≤ i → leads kind number (drop i rs) ≡ false
 unfolding leads
 leads-none kind number rs i l = rw (drop_of_length-le rs l)
 
-pub leads-row : (kind number : ℕ) (rs : List Row) (i : ℕ) (r : Row) → drop i rs ≡ r ∷ drop (i + 1) rs → leads kind number (drop i rs) ≡ (eqb r.kind kind && eqb r.number number)
+pub leads-row : (kind number : ℕ) (rs : List Row) (p : RowPlace) (h : Head) → HeadAt rs p h → leads kind number (drop p.row rs) ≡ (eqb h.kind kind && eqb h.number number)
 unfolding leads
-leads-row kind number rs i r e = rw e
+leads-row kind number _ p h k = ap (leads kind number) k.here ∙ ap (λ (h : Head). eqb h.kind kind && eqb h.number number) (sym k.same)

@@ -5,13 +5,20 @@ use Rattle.mem_row.specs.Row.{Row, head_of}
 use Rattle.mem_layout.specs.Rules.{upload_kind}
 use Rattle.mem_find.specs.declared.RowPlace.{RowPlace}
 use Rattle.mem_find.specs.RowPlaces.{row_place_at}
-use Rattle.mem_find_uploads.specs.declared.search.Goal.{Goal}
-use Rattle.mem_find_uploads.specs.declared.search.Goal.TheVariants.{End, Upload, NextUpload, Part, Due}
 
 -- how many rows stand before the first that passes a test
 unfoldable pub reach : (Row → Bool) → List Row → ℕ
 reach stop [] = 0
 reach stop (r ∷ rs) = cond (stop r) 0 (suc (reach stop rs))
+
+-- Where a search stops: after all rows; at the upload with a number, or the first above it; at the next upload; at the part with a number,
+-- the first above it, or the next upload; at the next upload that started before a stamp.
+pub data Goal : Type 0 where
+  End : Goal
+  Upload : (number : ℕ) → Goal
+  NextUpload : Goal
+  Part : (number : ℕ) → Goal
+  Due : (stamp : ℕ) → Goal
 
 -- whether a search with a goal stops at a row
 unfoldable pub stops_at : Goal → Head → Bool

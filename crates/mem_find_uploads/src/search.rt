@@ -1,110 +1,80 @@
 // A search along the rows.
-ghost use Rattle.std.specs.Prelude.{◌≡◌, ◌+◌, ◌≤◌, length, drop};
+ghost use Rattle.std.specs.Prelude.{◌≡◌, Bool, ◌+◌, ◌≤◌, length, drop};
+ghost use Rattle.mem_row.specs.declared.Head.{Head};
 ghost use Rattle.mem_layout.specs.Memory.{state_of, object_rows};
-ghost use Rattle.mem_find.specs.RowPlaces.{IsRowPlace, row_place_at};
-ghost use Rattle.mem_find_uploads.specs.Search.{stops_at, sought, leads};
+ghost use Rattle.mem_find.specs.RowPlaces.{IsRow, IsRowPlace, row_place_at};
+ghost use Rattle.mem_find_uploads.specs.Search.{Goal, stops_at, sought, leads};
 ghost use Rattle.mem_find.specs.Places.{first_upload_row};
-ghost use Rattle.mem_scan.specs.Scanned.{Scanned};
-ghost use Rattle.mem_find.specs.Known.{rows_in, WholeRow, WholePlace};
+ghost use Rattle.mem_find.specs.Known.{rows_in};
 
-use mem_find::{RowPlace, read_counts};
+use crate::memory::ScannedMemory;
+use mem_find::{RowPlace, WholeMemory};
 use mem_row::Head;
-use mem_scan::Offsets;
-
-// Where a search along the rows stops: after them all; at the upload with a number, or the first above it; at the next
-// upload; at the part with a number, the first above it, or the next upload; at the next upload that started before a
-// stamp.
-#[derive(Clone, Copy)]
-pub(crate) enum Goal {
-    End,
-    Upload(u32),
-    NextUpload,
-    Part(u16),
-    Due(u64),
-}
-
-// Whether a search stops at the row with this head.
-fn stops(h: Head, goal: Goal) -> bool
-    ensures { result ≡ stops_at goal h }
-{
-    match goal {
-        Goal::End => false,
-        Goal::Upload(u) => h.kind == mem_layout::UPLOAD_KIND && u <= h.number,
-        Goal::NextUpload => h.kind == mem_layout::UPLOAD_KIND,
-        Goal::Part(n) => h.kind == mem_layout::UPLOAD_KIND || n as u32 <= h.number,
-        Goal::Due(t) => h.kind == mem_layout::UPLOAD_KIND && h.stamp < t,
-    }
-}
 
 // The row after a row.
-pub fn next_row(tables: &[u8], arena: &[u8], from: RowPlace) -> RowPlace
-    requires { WholeRow tables.now arena.now from }
-    ensures { result ≡ row_place_at (rows_in tables.now arena.now) (from.row + 1) }
+pub fn next_row(memory: WholeMemory, from: RowPlace) -> RowPlace
+    requires { IsRow (rows_in memory.tables.now memory.arena.now) from }
+    ensures { result ≡ row_place_at (rows_in memory.entry.tables.now memory.entry.arena.now) (from.row + 1) }
 {
-    let at = from.at;
-    let h = mem_row::read_head(tables, at);
+    let h = memory.row_head(from);
     RowPlace {
         row: from.row + 1,
-        at: at + mem_row::span(h),
+        at: from.at + mem_row::span(h),
         base: from.base + h.size as usize,
     }
 }
 
 // Passes rows that have no pairs, as most have none, up to one at which the search stops. The next row begins where the
 // path ends, which is known sooner than where pairs do.
-fn pass_rows(tables: &[u8], arena: &[u8], from: RowPlace, goal: Goal) -> RowPlace
-    requires { WholePlace tables.now arena.now from }
-    ensures { (from.row ≤ result.row)
-        × IsRowPlace (rows_in tables.now arena.now) result
-        × (sought goal (rows_in tables.now arena.now) from.row
-        ≡ sought goal (rows_in tables.now arena.now) result.row) }
+fn pass_rows<F: Fn(Head) -> bool>(memory: WholeMemory, from: RowPlace, stops: &F) -> RowPlace
+    requires place { IsRowPlace (rows_in memory.tables.now memory.arena.now) from }
+    requires stops { F.IsAlwaysCallable stops.now }
+    ensures on { from.row ≤ result.row }
+    ensures place { IsRowPlace (rows_in memory.entry.tables.now memory.entry.arena.now) result }
+    ensures same { (goal : Goal) → ((h : Head) (r : Bool) → F.post stops.now h r → r ≡ stops_at goal h)
+        → sought goal (rows_in memory.entry.tables.now memory.entry.arena.now) from.row ≡ sought goal (rows_in memory.entry.tables.now memory.entry.arena.now) result.row }
 {
-    let counts = read_counts(tables, arena);
-    let rows = counts.rows;
-    let mut row = from.row;
-    let mut at = from.at;
-    let mut base = from.base;
-    while row < rows {
-        let h = mem_row::read_head(tables, at);
-        if h.pairs != 0 {
-            return RowPlace { row, at, base };
-        }
-        if stops(h, goal) {
-            return RowPlace { row, at, base };
-        }
-        at += mem_row::HEAD_LENGTH + h.pathlen as usize;
-        base += h.size as usize;
-        row += 1;
-    }
-    RowPlace { row, at, base }
-}
-
-// From a row on, the first row at which the search stops, or the end of the rows.
-pub(crate) fn seek(tables: &[u8], arena: &[u8], from: RowPlace, goal: Goal) -> RowPlace
-    requires { WholePlace tables.now arena.now from }
-    ensures { result ≡ sought goal (rows_in tables.now arena.now) from.row }
-{
-    let counts = read_counts(tables, arena);
-    let rows = counts.rows;
-    let mut here = pass_rows(tables, arena, from, goal);
+    let rows = memory.counts().rows;
+    let mut here = from;
     while here.row < rows {
-        let h = mem_row::read_head(tables, here.at);
-        if stops(h, goal) {
+        let h = memory.row_head(here);
+        if h.pairs != 0 || stops(h) {
             return here;
         }
-        let next = next_row(tables, arena, here);
-        here = pass_rows(tables, arena, next, goal);
+        here = RowPlace {
+            row: here.row + 1,
+            at: here.at + (mem_row::HEAD_LENGTH + h.pathlen as usize),
+            base: here.base + h.size as usize,
+        };
     }
     here
 }
 
-// The place of the first upload's row, or where it would stand. `offsets` is what the test "whole" found.
-pub fn first_upload(tables: &[u8], arena: &[u8], offsets: Offsets) -> RowPlace
-    requires { Scanned tables.now arena.now offsets }
-    ensures { result ≡ first_upload_row (state_of tables.now arena.now) }
+// From a row on, the first row at which the search stops, or the end of the rows.
+pub(crate) fn seek<F: Fn(Head) -> bool>(memory: WholeMemory, from: RowPlace, stops: &F) -> RowPlace
+    requires place { IsRowPlace (rows_in memory.tables.now memory.arena.now) from }
+    requires stops { F.IsAlwaysCallable stops.now }
+    ensures { (goal : Goal) → ((h : Head) (r : Bool) → F.post stops.now h r → r ≡ stops_at goal h)
+        → result ≡ sought goal (rows_in memory.entry.tables.now memory.entry.arena.now) from.row }
 {
-    let counts = read_counts(tables, arena);
-    let uploads = offsets.uploads;
+    let rows = memory.counts().rows;
+    let mut here = pass_rows(memory, from, stops);
+    while here.row < rows {
+        if stops(memory.row_head(here)) {
+            return here;
+        }
+        let next = next_row(memory, here);
+        here = pass_rows(memory, next, stops);
+    }
+    here
+}
+
+// The place of the first upload's row, or where it would stand.
+pub fn first_upload(memory: ScannedMemory) -> RowPlace
+    ensures { result ≡ first_upload_row (state_of memory.entry.whole.tables.now memory.entry.whole.arena.now) }
+{
+    let counts = memory.whole.counts();
+    let uploads = memory.offsets.uploads;
     RowPlace {
         row: counts.objects,
         at: uploads.at,
@@ -113,24 +83,24 @@ pub fn first_upload(tables: &[u8], arena: &[u8], offsets: Offsets) -> RowPlace
 }
 
 // The search from there on.
-pub(crate) fn seek_uploads(tables: &[u8], arena: &[u8], offsets: Offsets, goal: Goal) -> RowPlace
-    requires { Scanned tables.now arena.now offsets }
-    ensures { result ≡ sought goal (rows_in tables.now arena.now)
-        (length (object_rows (state_of tables.now arena.now).O)) }
+pub(crate) fn seek_uploads<F: Fn(Head) -> bool>(memory: ScannedMemory, stops: &F) -> RowPlace
+    requires { F.IsAlwaysCallable stops.now }
+    ensures { (goal : Goal) → ((h : Head) (r : Bool) → F.post stops.now h r → r ≡ stops_at goal h)
+        → result ≡ sought goal (rows_in memory.entry.whole.tables.now memory.entry.whole.arena.now)
+        (length (object_rows (state_of memory.entry.whole.tables.now memory.entry.whole.arena.now).O)) }
 {
-    let first = first_upload(tables, arena, offsets);
-    seek(tables, arena, first, goal)
+    let first = first_upload(memory);
+    seek(memory.whole, first, stops)
 }
 
 // Whether a row of this kind with this number stands there.
-pub(crate) fn stands(tables: &[u8], arena: &[u8], here: RowPlace, kind: u8, number: u32) -> bool
-    requires { WholePlace tables.now arena.now here }
-    ensures { result ≡ leads kind number (drop here.row (rows_in tables.now arena.now)) }
+pub(crate) fn stands(memory: WholeMemory, here: RowPlace, kind: u8, number: u32) -> bool
+    requires { IsRowPlace (rows_in memory.tables.now memory.arena.now) here }
+    ensures { result ≡ leads kind number (drop here.row (rows_in memory.entry.tables.now memory.entry.arena.now)) }
 {
-    let counts = read_counts(tables, arena);
-    if counts.rows <= here.row {
+    if memory.counts().rows <= here.row {
         return false;
     }
-    let h = mem_row::read_head(tables, here.at);
+    let h = memory.row_head(here);
     h.kind == kind && h.number == number
 }

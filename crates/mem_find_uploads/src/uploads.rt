@@ -1,22 +1,22 @@
-// Where an upload and its parts stand, and where the rows end. `offsets` is what the test "whole" found.
+// Where an upload and its parts stand, and where the rows end.
 ghost use Rattle.std.specs.Prelude.{◌≡◌, ◌+◌, ◌≤◌, length};
 ghost use Rattle.mem_layout.specs.Memory.{state_of};
+ghost use Rattle.mem_find.specs.RowPlaces.{IsRow, IsRowPlace};
 ghost use Rattle.mem_find.specs.Places.{place_of, place_after, upload_place, part_place, passed_parts};
-ghost use Rattle.mem_scan.specs.Scanned.{Scanned};
-ghost use Rattle.mem_find.specs.Known.{rows_in, WholeRow, WholePlace, OfOpenAt, OfOpenBefore};
+ghost use Rattle.mem_find.specs.Known.{rows_in, OfOpenAt, OfOpenBefore};
 ghost use Rattle.mem_find_uploads.specs.Search.{due_from};
 
-use crate::search::{Goal, next_row, seek, seek_uploads, stands};
-use mem_find::{Lookup, PassedParts, RowPlace, lookup_at, place_of, read_counts};
-use mem_scan::Offsets;
+use crate::memory::ScannedMemory;
+use crate::search::{next_row, seek, seek_uploads, stands};
+use mem_find::{Lookup, PassedParts, RowPlace, WholeMemory, lookup_at, place_of};
+use mem_row::Head;
 
 // The end of the rows.
-pub fn rows_end(tables: &[u8], arena: &[u8], offsets: Offsets) -> RowPlace
-    requires { Scanned tables.now arena.now offsets }
-    ensures { result ≡ place_after (rows_in tables.now arena.now) }
+pub fn rows_end(memory: ScannedMemory) -> RowPlace
+    ensures { result ≡ place_after (rows_in memory.entry.whole.tables.now memory.entry.whole.arena.now) }
 {
-    let counts = read_counts(tables, arena);
-    let end = offsets.end;
+    let counts = memory.whole.counts();
+    let end = memory.offsets.end;
     RowPlace {
         row: counts.rows,
         at: end.at,
@@ -25,54 +25,56 @@ pub fn rows_end(tables: &[u8], arena: &[u8], offsets: Offsets) -> RowPlace
 }
 
 // The same by a search from the place that a lookup answers on.
-pub fn rows_end_from(tables: &[u8], arena: &[u8], place: Lookup) -> RowPlace
-    requires { WholePlace tables.now arena.now (place_of place) }
-    ensures { result ≡ place_after (rows_in tables.now arena.now) }
+pub fn rows_end_from(memory: WholeMemory, place: Lookup) -> RowPlace
+    requires { IsRowPlace (rows_in memory.tables.now memory.arena.now) (place_of place) }
+    ensures { result ≡ place_after (rows_in memory.entry.tables.now memory.entry.arena.now) }
 {
     let from = place_of(place);
-    seek(tables, arena, from, Goal::End)
+    seek(memory, from, &|_| false)
 }
 
 // The place of the upload with this number.
-pub fn find_upload(tables: &[u8], arena: &[u8], offsets: Offsets, upload: u32) -> Lookup
-    requires { Scanned tables.now arena.now offsets }
-    ensures { result ≡ upload_place (state_of tables.now arena.now) upload }
+pub fn find_upload(memory: ScannedMemory, upload: u32) -> Lookup
+    ensures { result ≡ upload_place (state_of memory.entry.whole.tables.now memory.entry.whole.arena.now) upload }
 {
-    let here = seek_uploads(tables, arena, offsets, Goal::Upload(upload));
-    let found = stands(tables, arena, here, mem_layout::UPLOAD_KIND, upload);
+    let reached = |h: Head| h.kind == mem_layout::UPLOAD_KIND && upload <= h.number;
+    let here = seek_uploads(memory, &reached);
+    let found = stands(memory.whole, here, mem_layout::UPLOAD_KIND, upload);
     lookup_at(found, here)
 }
 
 // The place of a part of an open upload, `first` being the row after the upload's.
-pub fn find_part_from(tables: &[u8], arena: &[u8], first: RowPlace, number: u16) -> Lookup
-    requires { WholePlace tables.now arena.now first }
-    ensures { OfOpenBefore tables.now arena.now first
+pub fn find_part_from(memory: WholeMemory, first: RowPlace, number: u16) -> Lookup
+    requires { IsRowPlace (rows_in memory.tables.now memory.arena.now) first }
+    ensures { OfOpenBefore memory.entry.tables.now memory.entry.arena.now first
         (λ s u x. result ≡ part_place s u x number) }
 {
-    let here = seek(tables, arena, first, Goal::Part(number));
-    let found = stands(tables, arena, here, mem_layout::PART_KIND, number as u32);
+    let reached = |h: Head| h.kind == mem_layout::UPLOAD_KIND || number as u32 <= h.number;
+    let here = seek(memory, first, &reached);
+    let found = stands(memory, here, mem_layout::PART_KIND, number as u32);
     lookup_at(found, here)
 }
 
 // The place of a part of the open upload that a lookup found.
-pub fn find_part_after(tables: &[u8], arena: &[u8], upload: Lookup, number: u16) -> Lookup
-    requires { WholeRow tables.now arena.now (place_of upload) }
-    ensures { OfOpenAt tables.now arena.now (place_of upload)
+pub fn find_part_after(memory: WholeMemory, upload: Lookup, number: u16) -> Lookup
+    requires { IsRow (rows_in memory.tables.now memory.arena.now) (place_of upload) }
+    ensures { OfOpenAt memory.entry.tables.now memory.entry.arena.now (place_of upload)
         (λ s u x. result ≡ part_place s u x number) }
 {
     let here = place_of(upload);
-    let first = next_row(tables, arena, here);
-    find_part_from(tables, arena, first, number)
+    let first = next_row(memory, here);
+    find_part_from(memory, first, number)
 }
 
 // How many parts an open upload has, `first` being the row after the upload's, and the row after them. `from` is a
 // part's row, or the row after the parts: the search goes on from there.
-pub fn pass_parts_from(tables: &[u8], arena: &[u8], first: RowPlace, from: RowPlace) -> PassedParts
-    requires { WholePlace tables.now arena.now from × (first.row ≤ from.row) }
-    ensures { OfOpenBefore tables.now arena.now first
+pub fn pass_parts_from(memory: WholeMemory, first: RowPlace, from: RowPlace) -> PassedParts
+    requires { IsRowPlace (rows_in memory.tables.now memory.arena.now) from × (first.row ≤ from.row) }
+    ensures { OfOpenBefore memory.entry.tables.now memory.entry.arena.now first
         (λ s u x. from.row ≤ first.row + length x.parts → result ≡ passed_parts s u x) }
 {
-    let next = seek(tables, arena, from, Goal::NextUpload);
+    let is_upload = |h: Head| h.kind == mem_layout::UPLOAD_KIND;
+    let next = seek(memory, from, &is_upload);
     PassedParts {
         count: next.row - first.row,
         next,
@@ -80,18 +82,19 @@ pub fn pass_parts_from(tables: &[u8], arena: &[u8], first: RowPlace, from: RowPl
 }
 
 // The same of the upload whose row stands there.
-pub fn pass_parts(tables: &[u8], arena: &[u8], here: RowPlace) -> PassedParts
-    requires { WholeRow tables.now arena.now here }
-    ensures { OfOpenAt tables.now arena.now here (λ s u x. result ≡ passed_parts s u x) }
+pub fn pass_parts(memory: WholeMemory, here: RowPlace) -> PassedParts
+    requires { IsRow (rows_in memory.tables.now memory.arena.now) here }
+    ensures { OfOpenAt memory.entry.tables.now memory.entry.arena.now here (λ s u x. result ≡ passed_parts s u x) }
 {
-    let first = next_row(tables, arena, here);
-    pass_parts_from(tables, arena, first, first)
+    let first = next_row(memory, here);
+    pass_parts_from(memory, first, first)
 }
 
 // From a row on, the first upload that started before a stamp, or the end of the rows.
-pub fn find_due(tables: &[u8], arena: &[u8], from: RowPlace, stamp: u64) -> RowPlace
-    requires { WholePlace tables.now arena.now from }
-    ensures { result ≡ due_from stamp (rows_in tables.now arena.now) from.row }
+pub fn find_due(memory: WholeMemory, from: RowPlace, stamp: u64) -> RowPlace
+    requires { IsRowPlace (rows_in memory.tables.now memory.arena.now) from }
+    ensures { result ≡ due_from stamp (rows_in memory.entry.tables.now memory.entry.arena.now) from.row }
 {
-    seek(tables, arena, from, Goal::Due(stamp))
+    let is_due = |h: Head| h.kind == mem_layout::UPLOAD_KIND && h.stamp < stamp;
+    seek(memory, from, &is_due)
 }

@@ -117,11 +117,9 @@ fn take_upload(
     let count = b.count as u16;
     let h = mem_layout::headers::read_header(tables);
     let header = Header {
-        arena: h.arena,
-        next: h.next,
-        objects: h.objects,
         uploads: h.uploads - 1,
         parts: h.parts - count,
+        ..h
     };
     let digest = mem_join_order::arrange(tables, arena, b.first, b.parts, list, ascends);
     let end = cut(tables, arena, b, header);

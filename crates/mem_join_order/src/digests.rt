@@ -13,12 +13,10 @@ fn gather(tables: &[u8], at: usize, count: usize, all: &mut [u8])
     ensures { (k : OrderedAt tables.now at count)
         → take (16 * count) all.new ≡ digests k.listed }
 {
-    let mut i: usize = 0;
-    while i < count {
+    for i in 0..count {
         let from = at + mem_row::HEAD_LENGTH * i + mem_row::NUMBERS_LENGTH;
         let to = from + 16;
         base_buffer::copy_at(all, 16 * i, &tables[from..to]);
-        i += 1;
     }
 }
 

@@ -32,29 +32,15 @@ pub fn write_header(tables: &mut [u8], h: Header)
 }
 
 // The header of a store whose tables and arena have these lengths, by a layout whose tables have `length` bytes.
+#[tactic(auto, using(machine::proofs::Tests::tests), unfolding(crate::specs::Rules::all, crate::specs::Memory::header_ok))]
 pub fn header_ok(h: Header, length: usize, tables: usize, arena: usize) -> bool
     ensures { result ≡ header_ok length tables arena h }
 {
-    if tables != length {
-        return false;
-    }
-    if crate::ARENA_MOST < arena {
-        return false;
-    }
-    if h.arena as usize != arena {
-        return false;
-    }
-    if h.next < 1 {
-        return false;
-    }
-    if 4294967296 < h.next {
-        return false;
-    }
-    if crate::OBJECTS_MOST < h.objects as usize {
-        return false;
-    }
-    if crate::UPLOADS_MOST < h.uploads as usize {
-        return false;
-    }
-    h.parts as usize <= crate::PARTS_MOST
+    tables == length
+        && arena <= crate::ARENA_MOST
+        && h.arena as usize == arena
+        && (1..=4294967296).contains(&h.next)
+        && h.objects as usize <= crate::OBJECTS_MOST
+        && h.uploads as usize <= crate::UPLOADS_MOST
+        && h.parts as usize <= crate::PARTS_MOST
 }

@@ -18,42 +18,24 @@ use Rattle.mem_layout.proofs.WholeLaws.{header_is}
 use Rattle.mem_scan_rows.specs.declared.Offset.{Offset}
 use Rattle.mem_layout.specs.Header.{header_at, header_length}
 use Rattle.mem_scan.specs.declared.Offsets.{Offsets}
-use Rattle.mem_scan_rows.specs.declared.Scan.{Scan}
-use Rattle.mem_scan_rows.specs.declared.Scan.TheVariants.{Bad, Good}
 use Rattle.mem_scan_rows.specs.Scan.{past, past_all, first}
 use Rattle.mem_scan_objects.specs.Scan.{object_scan}
-use Rattle.mem_scan.specs.declared.StoreScan.{StoreScan}
-use Rattle.mem_scan.specs.declared.StoreScan.TheVariants as store
 use Rattle.mem_scan.specs.Scan.{entries_ok, entry_scan, upload_scan, front_ok}
 use Rattle.mem_scan.specs.Scanned.{uploads_from, rows_end, offsets_in}
+use Rattle.std.specs.Prelude.{Option, Some, None, is_some}
 
 -- what the answer of a scan of rows tells of them
-end-bad : {b : Bool} {r : Scan} (o : Offset) → r ≡ cond b (Good o) Bad → r ≡ Bad → b ≡ false
+pub end-bad : {A : Type 0} {b : Bool} {r : Option A} (o : A) → r ≡ cond b (Some o) None → r ≡ None → b ≡ false
 end-bad {b} o e q = pick b (sym e ∙ q)
   where
-    pick : (x : Bool) → cond x (Good o) Bad ≡ Bad → x ≡ false
+    pick : (x : Bool) → cond x (Some o) None ≡ None → x ≡ false
     pick true k = cc
     pick false k = refl
 
-end-good : {b : Bool} {o p : Offset} {r : Scan} → r ≡ cond b (Good o) Bad → r ≡ Good p → (b ≡ true) × (p ≡ o)
+pub end-good : {A : Type 0} {b : Bool} {o p : A} {r : Option A} → r ≡ cond b (Some o) None → r ≡ Some p → (b ≡ true) × (p ≡ o)
 end-good {b} {o} {p} e q = pick b (sym e ∙ q)
   where
-    pick : (x : Bool) → cond x (Good o) Bad ≡ Good p → (x ≡ true) × (p ≡ o)
-    pick true k = (refl, cc)
-    pick false k = (cc, cc)
-
--- and that of a store
-pub found-bad : {b : Bool} {r : StoreScan} (o : Offsets) → r ≡ cond b (store.Good o) store.Bad → r ≡ store.Bad → b ≡ false
-found-bad {b} o e q = pick b (sym e ∙ q)
-  where
-    pick : (x : Bool) → cond x (store.Good o) store.Bad ≡ store.Bad → x ≡ false
-    pick true k = cc
-    pick false k = refl
-
-pub found-good : {b : Bool} {o p : Offsets} {r : StoreScan} → r ≡ cond b (store.Good o) store.Bad → r ≡ store.Good p → (b ≡ true) × (p ≡ o)
-found-good {b} {o} {p} e q = pick b (sym e ∙ q)
-  where
-    pick : (x : Bool) → cond x (store.Good o) store.Bad ≡ store.Good p → (x ≡ true) × (p ≡ o)
+    pick : (x : Bool) → cond x (Some o) None ≡ Some p → (x ≡ true) × (p ≡ o)
     pick true k = (refl, cc)
     pick false k = (cc, cc)
 
@@ -97,10 +79,10 @@ module _ (S : Type 0) (ok : S → Row → Bool) (next : S → Row → S) where
 -- Tables t over arena a, by a layout whose tables have T bytes
 module _ (T most : ℕ) (t a : List ℕ) where
   -- where the rows of uploads begin, if header and objects stand
-  abbrev front : Scan
-  front = cond (front_ok T most t a) (Good (uploads_from t)) Bad
+  abbrev front : Option Offset
+  front = cond (front_ok T most t a) (Some (uploads_from t)) None
 
-  pub too_short : length t < header_length → header_length ≤ T → Bad ≡ front
+  pub too_short : length t < header_length → header_length ≤ T → None ≡ front
   unfolding front_ok header_ok all
   too_short l room = rw (ne_eqb (length t) T (λ e. omega arith))
 
@@ -108,11 +90,11 @@ module _ (T most : ℕ) (t a : List ℕ) where
     judged : header_ok T (length t) (length a) (header_at t) ≡ b
     judged = ap (header_ok T (length t) (length a)) (sym e) ∙ sym q
 
-    pub header-bad : not b ≡ true → Bad ≡ front
+    pub header-bad : not b ≡ true → None ≡ front
     unfolding front_ok
     header-bad n = rw (judged, not-true b n)
 
-    pub header-good : not b ≡ false → (r : Scan) → r ≡ object_scan most h.objects [] first t a → r ≡ front
+    pub header-good : not b ≡ false → (r : Option Offset) → r ≡ object_scan most h.objects [] first t a → r ≡ front
     unfolding front_ok object_scan uploads_from
     header-good n r q = rw (judged, not-false b n, ← e) q
 
@@ -125,11 +107,11 @@ module _ (T most : ℕ) (t a : List ℕ) where
   whole_is =
       rw (and-true, zero-add, past-tables (header_at t).objects first t, past-arena (header_at t).objects first t a, and_assoc)
 
-  module _ (r : Scan) (e : r ≡ front) where
-    pub front-bad : r ≡ Bad → whole_of T most t a ≡ false
+  module _ (r : Option Offset) (e : r ≡ front) where
+    pub front-bad : r ≡ None → whole_of T most t a ≡ false
     front-bad q = let no : front_ok T most t a ≡ false = end-bad _ e q in rw (whole_is, no)
 
-    module _ (p : Offset) (q : r ≡ Good p) where
+    module _ (p : Offset) (q : r ≡ Some p) where
       stood : (front_ok T most t a ≡ true) × (p ≡ uploads_from t)
       stood = end-good e q
 
@@ -142,16 +124,23 @@ module _ (T most : ℕ) (t a : List ℕ) where
           let z = past-inside (List ℕ) (object_ok most) object_next (header_at t).objects [] first t a k.1 l (omega arith) in
           (l, rw stood.1 z.0, rw stood.1 z.1)
 
-      module _ (x : Scan) (y : x ≡ upload_scan most p t a) where
+      module _ (x : Option Offset) (y : x ≡ upload_scan most p t a) where
         whole_by : whole_of T most t a ≡ entries p
         whole_by = rw (whole_is, stood.0, stood.1)
 
-        pub uploads-bad : x ≡ Bad → whole_of T most t a ≡ false
+        pub uploads-bad : x ≡ None → whole_of T most t a ≡ false
         unfolding entry_scan
         uploads-bad n = let no : entries p ≡ false = end-bad _ y n in whole_by ∙ no
 
-        pub uploads-good : (z : Offset) → x ≡ Good z → (whole_of T most t a ≡ true) × (record { uploads = p; end = z } ≡ offsets_in t)
+        pub uploads-good : (z : Offset) → x ≡ Some z → (whole_of T most t a ≡ true) × (record { uploads = p; end = z } ≡ offsets_in t)
         unfolding entry_scan rows_end
         uploads-good z n =
             let w : (entries p ≡ true) × (z ≡ past_all ((header_at t).uploads + (header_at t).parts) p t) = end-good y n in
             (whole_by ∙ w.0, rw (w.1, stood.1))
+
+        pub uploads-said : is_some x ≡ whole_of T most t a
+        uploads-said = pick x refl
+          where
+            pick : (z : Option Offset) → x ≡ z → is_some z ≡ whole_of T most t a
+            pick None n = sym (uploads-bad n)
+            pick (Some z) n = sym (uploads-good z n).0

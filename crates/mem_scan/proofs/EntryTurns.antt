@@ -12,8 +12,6 @@ use Rattle.mem_row.specs.declared.Head.{Head}
 use Rattle.mem_row.specs.Row.{Row, row_at, rows_at, head_length}
 use Rattle.mem_layout.specs.declared.Mark.{Mark}
 use Rattle.mem_scan_rows.specs.declared.Offset.{Offset}
-use Rattle.mem_scan_rows.specs.declared.Reading.TheVariants.{Short, Full}
-use Rattle.mem_scan_rows.specs.declared.Scan.TheVariants.{Bad, Good}
 use Rattle.mem_layout.specs.Rules.{entry_rule, part_rule, upload_kind, entry_ok, entry_next, mark_after}
 use Rattle.mem_layout.specs.Memory.{uploads_among}
 use Rattle.mem_scan_rows.specs.Scan.{reading_of, past}
@@ -21,6 +19,7 @@ use Rattle.mem_scan.specs.Scan.{opens_one, entries_ok, entry_scan}
 use borrow.Author.Tests.{eq-eqb, ne_eqb, not-true, not-false}
 use Rattle.mem_scan.proofs.Readings.{part-is}
 use Rattle.mem_scan_rows.proofs.Turns.{digest_part, path_part, lengths_part, content_part, head-of, digest-of, path-of, lengths-of, content-of, rest-tables, rest-arena, more, good-end, past_end, good-short, good-wrong, good-next, past_next}
+use Rattle.std.specs.Prelude.{Option, Some, None}
 
 pub opens_small : (h : Head) → opens_one h ≤ 1
 unfolding opens_one
@@ -31,24 +30,24 @@ opens_small h = small (eqb h.kind upload_kind)
     small false = lit≤ tt
 
 module _ (t a : List ℕ) (most N uploads opened n i : ℕ) (m : Mark) (o : Offset) where
-  entries-end : n ≤ i → entry_scan most N uploads opened (n - i) m o t a ≡ cond (eqb opened uploads) (Good o) Bad
+  entries-end : n ≤ i → entry_scan most N uploads opened (n - i) m o t a ≡ cond (eqb opened uploads) (Some o) None
   unfolding entry_scan entries_ok rows_at uploads_among
   entries-end l =
       let z : n - i ≡ 0 = omega arith in
       rw (good-end Mark (entry_ok most N) entry_next t a n i m o l, past_end Mark (entry_ok most N) entry_next t a n i m o l, z, add-zero)
 
-  pub entries-counted : n ≤ i → opened ≡ uploads → entry_scan most N uploads opened (n - i) m o t a ≡ Good o
+  pub entries-counted : n ≤ i → opened ≡ uploads → entry_scan most N uploads opened (n - i) m o t a ≡ Some o
   entries-counted l e = entries-end l ∙ rw (eq-eqb opened uploads e)
 
-  pub entries-miscounted : n ≤ i → (opened ≡ uploads → ⊥) → entry_scan most N uploads opened (n - i) m o t a ≡ Bad
+  pub entries-miscounted : n ≤ i → (opened ≡ uploads → ⊥) → entry_scan most N uploads opened (n - i) m o t a ≡ None
   entries-miscounted l e = entries-end l ∙ rw (ne_eqb opened uploads e)
 
   module _ (l : i < n) where
-    pub entries-short : reading_of (drop o.at t) (drop o.base a) ≡ Short → entry_scan most N uploads opened (n - i) m o t a ≡ Bad
+    pub entries-short : reading_of (drop o.at t) (drop o.base a) ≡ None → entry_scan most N uploads opened (n - i) m o t a ≡ None
     unfolding entry_scan entries_ok
     entries-short e = rw (good-short Mark (entry_ok most N) entry_next t a n i m o l e)
 
-    module _ (bytes : AreBytes t) (h : Head) (f : reading_of (drop o.at t) (drop o.base a) ≡ Full h) where
+    module _ (bytes : AreBytes t) (h : Head) (f : reading_of (drop o.at t) (drop o.base a) ≡ Some h) where
       -- the row at o
       abbrev here : Row
       here = row_at (drop o.at t) (drop o.base a)
@@ -70,7 +69,7 @@ module _ (t a : List ℕ) (most N uploads opened n i : ℕ) (m : Mark) (o : Offs
             rw (head-of t a o h f bytes, digest-of t a o h f bytes, path-of t a o h f bytes, lengths-of t a o h f bytes, content-of t a o h f bytes)
             (sym e)
 
-        pub entries-wrong : not r ≡ true → entry_scan most N uploads opened (n - i) m o t a ≡ Bad
+        pub entries-wrong : not r ≡ true → entry_scan most N uploads opened (n - i) m o t a ≡ None
         unfolding entry_scan entries_ok
         entries-wrong q = rw (good-wrong Mark (entry_ok most N) entry_next t a n i m o l h f (judged ∙ not-true r q))
 

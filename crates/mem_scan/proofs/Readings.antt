@@ -21,9 +21,9 @@ use Rattle.mem_row.specs.Row.{head_at, head_length}
 use Rattle.mem_layout.specs.declared.Mark.{Mark}
 use Rattle.mem_layout.specs.Rules.{no_digest, part_kind, pairs_rule, part_rule}
 use Rattle.mem_layout.proofs.TestLaws.{all_true}
-use Rattle.mem_scan_rows.specs.declared.Reading.TheVariants.{Full}
 use Rattle.mem_scan_rows.specs.Scan.{reading_of}
 use Rattle.mem_scan_rows.proofs.Readings.{row_fits}
+use Rattle.std.specs.Prelude.{Option, Some, None}
 
 -- sixteen bytes are 0 where the two numbers in them are
 bytes-zeros : (n : ℕ) → AreBytes (replicate n 0)
@@ -52,11 +52,6 @@ module _ (d : List ℕ) (lo hi : ℕ) (b : AreBytes d) (n : length d ≡ 16) (l 
       pick true e = sym (all-zero p (eqb-true hi 0 e))
       pick false e = sym (not-zero (λ z. eqb-false hi 0 e (omega arith)))
 
--- a row that may have its pairs has few lengths
-pub lengths-few : (most : ℕ) (h : Head) (lengths content : List ℕ) → pairs_rule most h lengths content ≡ true → length lengths ≤ 16
-unfolding pairs_rule
-lengths-few most h lengths content e = (block lengths content (both (leb h.pairs most) (block_ok lengths content) e).1).few
-
 -- a part's row is its head alone
 module _ (m : Mark) (h : Head) (e : part_rule m h ≡ true) where
   pub part-is : (h.kind ≡ part_kind) × (h.pathlen ≡ 0) × (h.pairs ≡ 0)
@@ -66,6 +61,6 @@ module _ (m : Mark) (h : Head) (e : part_rule m h ≡ true) where
       (eqb-true _ _ k.0, eqb-true _ _ k.1.1.1.0, eqb-true _ _ k.1.1.1.1.0)
 
   pub part-fits : (t : List ℕ) (at : ℕ) (a : List ℕ) (base : ℕ) → h ≡ head_at (drop at t) → at + head_length ≤ length t → base + h.size ≤ length a
-      → (k : Head) → Full h ≡ Full k → (reading_of (drop at t) (drop base a) ≡ Full k) × (part_rule m k ≡ true)
+      → (k : Head) → Some h ≡ Some k → (reading_of (drop at t) (drop base a) ≡ Some k) × (part_rule m k ≡ true)
   part-fits t at a base q l n k f =
       (row_fits t at a base h q (omega (arith, part-is)) (omega arith) ∙ f, cc)

@@ -7,9 +7,8 @@ use Rattle.mem_layout.specs.Header.{header_length, header_at}
 use Rattle.mem_layout.specs.Rules.{upload_kind, object_ok, object_next, entry_ok, entry_next, start}
 use Rattle.mem_layout.specs.Memory.{uploads_among, header_ok}
 use Rattle.mem_scan_rows.specs.declared.Offset.{Offset}
-use Rattle.mem_scan_rows.specs.declared.Scan.{Scan}
-use Rattle.mem_scan_rows.specs.declared.Scan.TheVariants.{Bad, Good}
 use Rattle.mem_scan_rows.specs.Scan.{past_all}
+use Rattle.std.specs.Prelude.{Option, Some, None}
 
 -- 1 for the row of an upload
 unfoldable pub opens_one : Head → ℕ
@@ -21,11 +20,11 @@ entries_ok most N uploads opened n m o t a =
     good Mark (entry_ok most N) entry_next n m (drop o.at t) (drop o.base a) && eqb (opened + uploads_among (rows_at n (drop o.at t) (drop o.base a))) uploads
 
 -- where these rows end, if they do
-unfoldable pub entry_scan : (most N uploads opened n : ℕ) → Mark → Offset → (t a : List ℕ) → Scan
-entry_scan most N uploads opened n m o t a = cond (entries_ok most N uploads opened n m o t a) (Good (past_all n o t)) Bad
+unfoldable pub entry_scan : (most N uploads opened n : ℕ) → Mark → Offset → (t a : List ℕ) → Option Offset
+entry_scan most N uploads opened n m o t a = cond (entries_ok most N uploads opened n m o t a) (Some (past_all n o t)) None
 
 -- where the rows of uploads and parts from o on end, if they stand there as the header says
-abbrev pub upload_scan : (most : ℕ) → Offset → (t a : List ℕ) → Scan
+abbrev pub upload_scan : (most : ℕ) → Offset → (t a : List ℕ) → Option Offset
 upload_scan most o t a = let h = header_at t in entry_scan most h.next h.uploads 0 (h.uploads + h.parts) start o t a
 
 -- the header is one of tables of T bytes over this arena, and the rows of objects stand after it

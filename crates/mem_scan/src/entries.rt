@@ -1,15 +1,15 @@
 // The rows of uploads and parts, in memory that need not be whole.
-ghost use Rattle.std.specs.Prelude.{◌≡◌, true, ℕ, ◌+◌, ◌-◌, ◌≤◌, length, drop};
+ghost use Rattle.std.specs.Prelude.{◌≡◌, true, ℕ, ◌+◌, ◌-◌, ◌≤◌, length, drop, IfSome};
+ghost use Rattle.mem_row.specs.Row.{head_length};
 ghost use Rattle.base_order.specs.Order.{same};
 ghost use Rattle.mem_layout.specs.Rules.{entry_rule, no_digest, upload_rule, part_rule, mark_after, start};
 ghost use Rattle.mem_scan_rows.specs.Scan.{reading_of};
 ghost use Rattle.mem_scan.specs.Scan.{opens_one, entry_scan};
-ghost use Rattle.mem_scan_rows.specs.declared.Reading.TheVariants.{Full};
 ghost use Rattle.mem_row.specs.declared.Head.{Head};
 
 use mem_layout::Mark;
 use mem_row::Head;
-use mem_scan_rows::{Offset, Reading, Scan};
+use mem_scan_rows::Offset;
 
 // Where a run of parts ends: the number of the next row, its offset, and the mark after the parts.
 #[derive(Clone, Copy)]
@@ -24,13 +24,11 @@ fn is_zero(d: &[u8]) -> bool
     requires { length d.now ≡ 16 }
     ensures { result ≡ same d.now no_digest }
 {
-    if base_number::get_u64(d, 0) != 0 {
-        return false;
-    }
-    base_number::get_u64(d, 8) == 0
+    base_number::get_u64(d, 0) == 0 && base_number::get_u64(d, 8) == 0
 }
 
 // Whether the row of an upload may stand after m, where `next` is the number of the next upload.
+#[tactic(auto, using(machine::proofs::Tests::tests), unfolding(mem_layout::specs::Rules::all, mem_layout::specs::Rules::upload_rule))]
 fn upload_ok(
     most: u8,
     next: u64,
@@ -45,59 +43,33 @@ fn upload_ok(
     ensures { result ≡ upload_rule most next m h digest.now path.now lengths.now
         content.now }
 {
-    if h.count != 0 {
-        return false;
-    }
-    if h.stamp < 1 {
-        return false;
-    }
-    if h.number <= m.upload {
-        return false;
-    }
-    if next <= h.number as u64 {
-        return false;
-    }
-    if !names::stored_path_ok(path) {
-        return false;
-    }
-    if !is_zero(digest) {
-        return false;
-    }
-    if !mem_scan_rows::pairs_ok(most, h, lengths, content) {
-        return false;
-    }
-    h.size as usize == pairs_stored::sum_of(lengths)
+    h.count == 0
+        && 1 <= h.stamp
+        && m.upload < h.number
+        && (h.number as u64) < next
+        && names::stored_path_ok(path)
+        && is_zero(digest)
+        && mem_scan_rows::pairs_ok(most, h, lengths, content)
+        && h.size as usize == pairs_stored::sum_of(lengths)
 }
 
 // Whether the row of a part may stand after m.
+#[tactic(auto, using(machine::proofs::Tests::tests), unfolding(mem_layout::specs::Rules::all, mem_layout::specs::Rules::part_rule))]
 fn part_ok(m: Mark, h: Head) -> bool
     ensures { result ≡ part_rule m h }
 {
-    if h.kind != mem_layout::PART_KIND {
-        return false;
-    }
-    if h.stamp != 0 {
-        return false;
-    }
-    if h.count != 0 {
-        return false;
-    }
-    if h.pathlen != 0 {
-        return false;
-    }
-    if h.pairs != 0 {
-        return false;
-    }
-    if m.upload < 1 {
-        return false;
-    }
-    if h.number <= m.part {
-        return false;
-    }
-    names::stored_part_ok(h.number)
+    h.kind == mem_layout::PART_KIND
+        && h.stamp == 0
+        && h.count == 0
+        && h.pathlen == 0
+        && h.pairs == 0
+        && 1 <= m.upload
+        && m.part < h.number
+        && names::stored_part_ok(h.number)
 }
 
 // Whether the row of an upload or a part may stand after m.
+#[tactic(auto, using(machine::proofs::Tests::tests), unfolding(mem_layout::specs::Rules::entry_rule))]
 fn entry_ok(
     most: u8,
     next: u64,
@@ -120,6 +92,7 @@ fn entry_ok(
 }
 
 // 1 for the row of an upload.
+#[tactic(auto, using(machine::proofs::Tests::tests), unfolding(crate::specs::Scan::opens_one))]
 fn opening(h: Head) -> usize
     ensures { result ≡ opens_one h }
 {
@@ -131,6 +104,7 @@ fn opening(h: Head) -> usize
 }
 
 // The mark after a row with head h.
+#[tactic(auto, using(machine::proofs::Tests::tests), unfolding(mem_layout::specs::Rules::mark_after))]
 fn mark_after(m: Mark, h: Head) -> Mark
     ensures { result ≡ mark_after m h }
 {
@@ -147,24 +121,24 @@ fn mark_after(m: Mark, h: Head) -> Mark
     }
 }
 
-// The head of the row at `at`, with its data at `base`, where it is a part's that fits and may stand after m. `Short`
+// The head of the row at `at`, with its data at `base`, where it is a part's that fits and may stand after m. `None`
 // says nothing of the row.
-fn read_part(t: &[u8], at: usize, arena: &[u8], base: usize, m: Mark) -> Reading
+fn read_part(t: &[u8], at: usize, arena: &[u8], base: usize, m: Mark) -> Option<Head>
     requires { (at ≤ length t.now) × (base ≤ length arena.now) }
-    ensures { (h : Head) → result ≡ Full h
-        → (reading_of (drop at t.now) (drop base arena.now) ≡ Full h) × (part_rule m h ≡ true) }
+    ensures part { IfSome result (λ h. (reading_of (drop at t.now) (drop base arena.now) ≡ Some h) × (part_rule m h ≡ true)) }
+    ensures inside { IfSome result (λ h. (at + head_length ≤ length t.now) × (base + h.size ≤ length arena.now)) }
 {
     if t.len() - at < mem_row::HEAD_LENGTH {
-        return Reading::Short;
+        return None;
     }
     let h = mem_row::read_head(t, at);
     if !part_ok(m, h) {
-        return Reading::Short;
+        return None;
     }
     if arena.len() - base < h.size as usize {
-        return Reading::Short;
+        return None;
     }
-    Reading::Full(h)
+    Some(h)
 }
 
 // Passes the parts that may stand after m, from row `first` at `from` on, and stops at any other of the `rows` rows: that
@@ -183,9 +157,8 @@ fn pass_parts(t: &[u8], arena: &[u8], from: Offset, m: Mark, first: usize, rows:
     let mut at = from.at;
     let mut base = from.base;
     let mut after = m;
-    let mut i = first;
-    while i < rows {
-        let Reading::Full(h) = read_part(t, at, arena, base, after) else {
+    for i in first..rows {
+        let Some(h) = read_part(t, at, arena, base, after) else {
             return Run {
                 row: i,
                 end: Offset { at, base },
@@ -195,10 +168,9 @@ fn pass_parts(t: &[u8], arena: &[u8], from: Offset, m: Mark, first: usize, rows:
         after = mark_after(after, h);
         at += mem_row::HEAD_LENGTH;
         base += h.size as usize;
-        i += 1;
     }
     Run {
-        row: i,
+        row: rows,
         end: Offset { at, base },
         m: after,
     }
@@ -213,7 +185,7 @@ pub(crate) fn scan_entries(
     parts: u16,
     next: u64,
     most: u8,
-) -> Scan
+) -> Option<Offset>
     requires { (from.at ≤ length t.now) × (from.base ≤ length arena.now) }
     ensures { result ≡ entry_scan most next uploads 0 (uploads + parts) start from t.now
         arena.now }
@@ -225,9 +197,7 @@ pub(crate) fn scan_entries(
     let mut opened: usize = 0;
     let mut i: usize = 0;
     while i < rows {
-        let Reading::Full(h) = mem_scan_rows::read_row(t, at, arena, base) else {
-            return Scan::Bad;
-        };
+        let h = mem_scan_rows::read_row(t, at, arena, base)?;
         let digest = at + mem_row::NUMBERS_LENGTH;
         let path = at + mem_row::HEAD_LENGTH;
         let end = path + h.pathlen as usize;
@@ -243,7 +213,7 @@ pub(crate) fn scan_entries(
             &t[end..after],
             &arena[base..data_end],
         ) {
-            return Scan::Bad;
+            return None;
         }
         opened += opening(h);
         let next_row = Offset {
@@ -257,7 +227,7 @@ pub(crate) fn scan_entries(
         i = run.row;
     }
     if opened != uploads as usize {
-        return Scan::Bad;
+        return None;
     }
-    Scan::Good(Offset { at, base })
+    Some(Offset { at, base })
 }

@@ -5,7 +5,7 @@ ghost use Rattle.mem_scan_objects.specs.Scan.{object_scan};
 
 use crate::usual;
 use mem_row::Head;
-use mem_scan_rows::{Offset, Reading, Scan};
+use mem_scan_rows::Offset;
 
 // Whether the row of an object, with its path from `path` to `end` and its block at `base`, may stand after one whose path
 // is `last`. Tests are in the order that takes the least time.
@@ -38,7 +38,14 @@ fn object_ok(
 
 // Whether so many rows of objects stand from `from` on, after one whose path stands from `before` to there, and where they
 // end. The path of the row passed stands from `last` to `last_end`.
-fn scan_from(t: &[u8], arena: &[u8], from: Offset, before: usize, rows: u16, most: u8) -> Scan
+fn scan_from(
+    t: &[u8],
+    arena: &[u8],
+    from: Offset,
+    before: usize,
+    rows: u16,
+    most: u8,
+) -> Option<Offset>
     requires { (before ≤ from.at) × (from.at ≤ length t.now) × (from.base ≤ length arena.now) }
     ensures { result ≡ object_scan most rows (take (from.at - before) (drop before t.now)) from
         t.now arena.now }
@@ -47,39 +54,34 @@ fn scan_from(t: &[u8], arena: &[u8], from: Offset, before: usize, rows: u16, mos
     let mut base = from.base;
     let mut last = before;
     let mut last_end = at;
-    let mut i: u16 = 0;
-    while i < rows {
-        let Reading::Full(h) = mem_scan_rows::read_row(t, at, arena, base) else {
-            return Scan::Bad;
-        };
+    for i in 0..rows {
+        let h = mem_scan_rows::read_row(t, at, arena, base)?;
         let path = at + mem_row::HEAD_LENGTH;
         let end = path + h.pathlen as usize;
         let next = end + 2 * h.pairs as usize;
         let data_end = base + h.size as usize;
         if !object_ok(most, &t[last..last_end], h, t, path, end, arena, base) {
-            return Scan::Bad;
+            return None;
         }
         last = path;
         last_end = end;
         at = next;
         base = data_end;
-        i += 1;
     }
-    Scan::Good(Offset { at, base })
+    Some(Offset { at, base })
 }
 
 // Whether the rows of objects stand from `from` on, and where they end: the usual ones first, and all from the first other
 // one on by `scan_from`. The path of the row passed stands from `last` to `at`.
-pub fn scan_objects(t: &[u8], arena: &[u8], from: Offset, rows: u16, most: u8) -> Scan
+pub fn scan_objects(t: &[u8], arena: &[u8], from: Offset, rows: u16, most: u8) -> Option<Offset>
     requires { (from.at ≤ length t.now) × (from.base ≤ length arena.now) }
     ensures { result ≡ object_scan most rows [] from t.now arena.now }
 {
     let mut at = from.at;
     let mut base = from.base;
     let mut last = at;
-    let mut i: u16 = 0;
-    while i < rows {
-        let Reading::Full(h) = usual::read_usual(t, at, arena, base) else {
+    for i in 0..rows {
+        let Some(h) = usual::read_usual(t, at, arena, base) else {
             return scan_from(t, arena, Offset { at, base }, last, rows - i, most);
         };
         let path = at + mem_row::HEAD_LENGTH;
@@ -90,7 +92,6 @@ pub fn scan_objects(t: &[u8], arena: &[u8], from: Offset, rows: u16, most: u8) -
         last = path;
         at = end;
         base += h.size as usize;
-        i += 1;
     }
-    Scan::Good(Offset { at, base })
+    Some(Offset { at, base })
 }

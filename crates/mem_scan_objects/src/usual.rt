@@ -1,36 +1,35 @@
 // The usual row of an object: it has no pairs, and its path is 1 to 32 bytes of visible ASCII. What is asked here only
 // accepts such a row; of any other it says nothing.
-ghost use Rattle.std.specs.Prelude.{◌≡◌, true, List, ℕ, ◌-◌, ◌*◌, ◌≤◌, length, take, drop};
+ghost use Rattle.std.specs.Prelude.{◌≡◌, true, List, ℕ, ◌+◌, ◌-◌, ◌*◌, ◌≤◌, length, take, drop, IfSome};
+ghost use Rattle.mem_row.specs.Row.{span};
 ghost use Rattle.mem_row.specs.declared.Head.{Head};
 ghost use Rattle.mem_layout.specs.Rules.{object_rule};
-ghost use Rattle.mem_scan_rows.specs.declared.Reading.TheVariants.{Full};
 ghost use Rattle.mem_scan_rows.specs.Scan.{reading_of};
 
 use mem_row::Head;
-use mem_scan_rows::Reading;
 
 // The head of the row at `at`, with its data at `base`, where it has no pairs, is all in t, and its data all in the arena.
-// `Short` says nothing of the row.
-pub(crate) fn read_usual(t: &[u8], at: usize, arena: &[u8], base: usize) -> Reading
+// `None` says nothing of the row.
+pub(crate) fn read_usual(t: &[u8], at: usize, arena: &[u8], base: usize) -> Option<Head>
     requires { (at ≤ length t.now) × (base ≤ length arena.now) }
-    ensures { (h : Head) → result ≡ Full h
-        → (reading_of (drop at t.now) (drop base arena.now) ≡ Full h) × (h.pairs ≡ 0) }
+    ensures usual { IfSome result (λ h. (reading_of (drop at t.now) (drop base arena.now) ≡ Some h) × (h.pairs ≡ 0)) }
+    ensures inside { IfSome result (λ h. (at + span h ≤ length t.now) × (base + h.size ≤ length arena.now)) }
 {
     let path = at + mem_row::HEAD_LENGTH;
     if t.len() < path {
-        return Reading::Short;
+        return None;
     }
     let h = mem_row::read_head(t, at);
     if h.pairs != 0 {
-        return Reading::Short;
+        return None;
     }
     if t.len() < path + h.pathlen as usize {
-        return Reading::Short;
+        return None;
     }
     if arena.len() < base + h.size as usize {
-        return Reading::Short;
+        return None;
     }
-    Reading::Full(h)
+    Some(h)
 }
 
 // Whether the row of an object without pairs, with its path from `path` to `end`, may stand after one whose path is `last`.

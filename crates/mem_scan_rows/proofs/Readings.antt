@@ -11,18 +11,18 @@ use Rattle.pairs_stored.specs.Stored.{block_ok}
 use Rattle.pairs_stored.proofs.Blocks.{block_none}
 use Rattle.mem_row.specs.declared.Head.{Head}
 use Rattle.mem_row.specs.Row.{head_at, span_at, inside, head_length, span}
-use Rattle.mem_scan_rows.specs.declared.Reading.TheVariants.{Short, Full}
 use Rattle.mem_scan_rows.specs.Scan.{reading_of}
+use Rattle.std.specs.Prelude.{Option, Some, None}
 
 -- the tests of `read_row`
 pub reading-is : (t : List ℕ) (at : ℕ) (a : List ℕ) (base : ℕ) (h : Head) (n : ℕ) → h ≡ head_at (drop at t) → n ≡ span h
-    → reading_of (drop at t) (drop base a) ≡ cond (leb head_length (length t - at) && (leb n (length t - at) && leb h.size (length a - base))) (Full h) Short
+    → reading_of (drop at t) (drop base a) ≡ cond (leb head_length (length t - at) && (leb n (length t - at) && leb h.size (length a - base))) (Some h) None
 unfolding reading_of inside span_at
 reading-is t at a base h n e f = rw (length-drop at t, length-drop base a, f, e)
 
 -- a row is read where it ends in t, and its data in a
 pub row_fits : (t : List ℕ) (at : ℕ) (a : List ℕ) (base : ℕ) (h : Head) → h ≡ head_at (drop at t) → at + span h ≤ length t → base + h.size ≤ length a
-    → reading_of (drop at t) (drop base a) ≡ Full h
+    → reading_of (drop at t) (drop base a) ≡ Some h
 row_fits t at a base h e l m =
     reading-is t at a base h (span h) e refl
     ∙ rw (le-leb head_length (length t - at) (omega arith), le-leb (span h) (length t - at) (omega arith), le-leb h.size (length a - base) (omega arith))

@@ -13,22 +13,26 @@ use Rattle.mem_row.specs.declared.Head.{Head}
 use Rattle.mem_row.specs.Row.{Row, head_at, digest_at, path_at, lengths_at, span_at, row_at, inside, head_of, good, numbers_length, head_length, span}
 use Rattle.mem_row.proofs.RowLaws.{Inside, inside-true, head_at_lem}
 use Rattle.mem_scan_rows.specs.declared.Offset.{Offset}
-use Rattle.mem_scan_rows.specs.declared.Reading.TheVariants.{Short, Full}
 use Rattle.mem_scan_rows.specs.Scan.{reading_of, past, past_all}
+use Rattle.std.specs.Prelude.{Option, Some, None}
 
-reading-short : (t a : List ℕ) → reading_of t a ≡ Short → inside t a ≡ false
+-- an offset, by its two places
+abbrev pub offset_at : (at base : ℕ) → Offset
+offset_at at base = record { at = at; base = base }
+
+reading-short : (t a : List ℕ) → reading_of t a ≡ None → inside t a ≡ false
 unfolding reading_of
 reading-short t a e = pick (inside t a) e
   where
-    pick : (b : Bool) → cond b (Full (head_at t)) Short ≡ Short → b ≡ false
+    pick : (b : Bool) → cond b (Some (head_at t)) None ≡ None → b ≡ false
     pick true q = cc
     pick false q = refl
 
-reading-fits : (t a : List ℕ) (h : Head) → reading_of t a ≡ Full h → (inside t a ≡ true) × (h ≡ head_at t)
+reading-fits : (t a : List ℕ) (h : Head) → reading_of t a ≡ Some h → (inside t a ≡ true) × (h ≡ head_at t)
 unfolding reading_of
 reading-fits t a h e = pick (inside t a) e
   where
-    pick : (b : Bool) → cond b (Full (head_at t)) Short ≡ Full h → (b ≡ true) × (h ≡ head_at t)
+    pick : (b : Bool) → cond b (Some (head_at t)) None ≡ Some h → (b ≡ true) × (h ≡ head_at t)
     pick true q = (refl, cc)
     pick false q = (cc, cc)
 
@@ -47,7 +51,7 @@ abbrev pub content_part : (a : List ℕ) → Offset → Head → List ℕ
 content_part a o h = take (o.base + h.size - o.base) (drop o.base a)
 
 -- a row that fits at o
-module _ (t a : List ℕ) (o : Offset) (h : Head) (f : reading_of (drop o.at t) (drop o.base a) ≡ Full h) where
+module _ (t a : List ℕ) (o : Offset) (h : Head) (f : reading_of (drop o.at t) (drop o.base a) ≡ Some h) where
   abbrev s : List ℕ
   s = drop o.at t
 
@@ -133,7 +137,7 @@ module _ (S : Type 0) (ok : S → Row → Bool) (next : S → Row → S) (t a : 
   pub more : i < n → n - i ≡ suc (n - (i + 1))
   more l = omega arith
 
-  pub good-short : i < n → reading_of (drop o.at t) (drop o.base a) ≡ Short → good S ok next (n - i) σ (drop o.at t) (drop o.base a) ≡ false
+  pub good-short : i < n → reading_of (drop o.at t) (drop o.base a) ≡ None → good S ok next (n - i) σ (drop o.at t) (drop o.base a) ≡ false
   unfolding good
   good-short l e = rw (more l, reading-short (drop o.at t) (drop o.base a) e)
 
@@ -145,7 +149,7 @@ module _ (S : Type 0) (ok : S → Row → Bool) (next : S → Row → S) (t a : 
   unfolding past_all
   past_end l = let z : n - i ≡ 0 = omega arith in rw z
 
-  module _ (l : i < n) (h : Head) (f : reading_of (drop o.at t) (drop o.base a) ≡ Full h) where
+  module _ (l : i < n) (h : Head) (f : reading_of (drop o.at t) (drop o.base a) ≡ Some h) where
     pub good-wrong : ok σ (row_at (drop o.at t) (drop o.base a)) ≡ false → good S ok next (n - i) σ (drop o.at t) (drop o.base a) ≡ false
     unfolding good
     good-wrong e = rw (more l, is-inside t a o h f, e)

@@ -3,13 +3,12 @@ use Rattle.std.specs.Prelude.{ℕ, zero, suc, ◌+◌, ◌*◌, cond, List, drop
 use Rattle.mem_row.specs.declared.Head.{Head}
 use Rattle.mem_row.specs.Row.{head_at, inside, head_length}
 use Rattle.mem_scan_rows.specs.declared.Offset.{Offset}
-use Rattle.mem_scan_rows.specs.declared.Reading.{Reading}
-use Rattle.mem_scan_rows.specs.declared.Reading.TheVariants.{Short, Full}
 use Rattle.mem_layout.specs.Header.{header_length}
+use Rattle.std.specs.Prelude.{Option, Some, None}
 
 -- the head of the row at the front of t, where the row is all in t and its data all in a
-unfoldable pub reading_of : (t a : List ℕ) → Reading
-reading_of t a = cond (inside t a) (Full (head_at t)) Short
+unfoldable pub reading_of : (t a : List ℕ) → Option Head
+reading_of t a = cond (inside t a) (Some (head_at t)) None
 
 -- after a row with this head
 abbrev pub past : Offset → Head → Offset

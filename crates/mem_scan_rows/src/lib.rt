@@ -1,20 +1,14 @@
 // One row, in memory that need not be whole, and where rows stand.
 #![tactic(auto)]
 
-ghost use Rattle.std.specs.Prelude.{◌≡◌, ◌&&◌, cond, List, ℕ, ◌+◌, ◌*◌, ◌≤◌, eqb, length, take, drop};
+ghost use Rattle.std.specs.Prelude.{◌≡◌, true, ◌&&◌, cond, List, ℕ, ◌+◌, ◌*◌, ◌≤◌, eqb, length, take, drop, IfSome};
+ghost use Rattle.mem_row.specs.Row.{span};
 ghost use Rattle.base_order.specs.Order.{is_below};
 ghost use Rattle.machine.specs.Names.{stored_path_ok};
 ghost use Rattle.mem_layout.specs.Rules.{plain_kind, parts_most, pairs_rule, object_rule};
 ghost use Rattle.mem_scan_rows.specs.Scan.{reading_of};
 
 use mem_row::Head;
-
-// What stands at an offset: the head of a row that fits there with its data.
-#[derive(Clone, Copy)]
-pub enum Reading {
-    Short,
-    Full(Head),
-}
 
 // Where a row stands in the tables, and its data in the arena.
 #[derive(Clone, Copy)]
@@ -23,33 +17,28 @@ pub struct Offset {
     pub base: usize,
 }
 
-// What a scan of rows finds: that they do not stand, or where they end.
-#[derive(Clone, Copy)]
-pub enum Scan {
-    Bad,
-    Good(Offset),
-}
-
 // The head of the row at `at`, with its data at `base`, where the row is all in t and its data all in the arena.
-pub fn read_row(t: &[u8], at: usize, arena: &[u8], base: usize) -> Reading
+pub fn read_row(t: &[u8], at: usize, arena: &[u8], base: usize) -> Option<Head>
     requires { (at ≤ length t.now) × (base ≤ length arena.now) }
-    ensures { result ≡ reading_of (drop at t.now) (drop base arena.now) }
+    ensures reading { result ≡ reading_of (drop at t.now) (drop base arena.now) }
+    ensures inside { IfSome result (λ h. (at + span h ≤ length t.now) × (base + h.size ≤ length arena.now)) }
 {
     let left = t.len() - at;
     if left < mem_row::HEAD_LENGTH {
-        return Reading::Short;
+        return None;
     }
     let h = mem_row::read_head(t, at);
     if left < mem_row::span(h) {
-        return Reading::Short;
+        return None;
     }
     if arena.len() - base < h.size as usize {
-        return Reading::Short;
+        return None;
     }
-    Reading::Full(h)
+    Some(h)
 }
 
 // The most parts that an etag of this kind can count.
+#[tactic(auto, using(machine::proofs::Tests::tests))]
 fn most_parts(kind: u8) -> u16
     ensures { result ≡ cond (eqb kind plain_kind) 0 parts_most }
 {
@@ -80,13 +69,12 @@ pub fn numbers_ok(h: Head) -> bool
 }
 
 // Whether a row may have its pairs, by a layout whose rows have at most `most`: its block begins with them.
+#[tactic(auto, using(machine::proofs::Tests::tests), unfolding(mem_layout::specs::Rules::pairs_rule))]
 pub fn pairs_ok(most: u8, h: Head, lengths: &[u8], content: &[u8]) -> bool
-    ensures { result ≡ pairs_rule most h lengths.now content.now }
+    ensures rule { result ≡ pairs_rule most h lengths.now content.now }
+    ensures few { result ≡ true → length lengths.now ≤ 16 }
 {
-    if most < h.pairs {
-        return false;
-    }
-    pairs_stored::block_ok(lengths, content)
+    h.pairs <= most && pairs_stored::block_ok(lengths, content)
 }
 
 // The same of a row whose lengths stand at `at` and its block at `base`.

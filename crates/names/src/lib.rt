@@ -9,19 +9,14 @@ fn path_ok(p: &[u8]) -> bool
     ensures { result ≡ path_ok p.now }
 {
     let n = p.len();
-    if n < 1 {
+    if n < 1 || 128 < n {
         return false;
     }
-    if 128 < n {
-        return false;
-    }
-    if names_ascii::plain(p) {
-        return true;
-    }
-    names_utf8::path(p)
+    names_ascii::plain(p) || names_utf8::path(p)
 }
 
 // A path that GET, HEAD, DELETE or COPY's source may name.
+#[tactic(auto, unfolding(machine::specs::Names::request_path_ok))]
 pub fn request_path_ok(p: &[u8]) -> bool
     ensures { result ≡ request_path_ok p.now }
 {
@@ -29,6 +24,7 @@ pub fn request_path_ok(p: &[u8]) -> bool
 }
 
 // A path that PUT, INITIATE or COPY's destination may make.
+#[tactic(auto, unfolding(machine::specs::Names::new_path_ok))]
 pub fn new_path_ok(p: &[u8]) -> bool
     ensures { result ≡ new_path_ok p.now }
 {
@@ -36,6 +32,7 @@ pub fn new_path_ok(p: &[u8]) -> bool
 }
 
 // A path that an object or an upload may have.
+#[tactic(auto, unfolding(machine::specs::Names::stored_path_ok))]
 pub fn stored_path_ok(p: &[u8]) -> bool
     ensures { result ≡ stored_path_ok p.now }
 {
@@ -49,16 +46,10 @@ pub fn stored_path_ok_at(t: &[u8], from: usize, to: usize) -> bool
     ensures { result ≡ stored_path_ok (take (to - from) (drop from t.now)) }
 {
     let length = to - from;
-    if length < 1 {
+    if length < 1 || 128 < length {
         return false;
     }
-    if 128 < length {
-        return false;
-    }
-    if names_ascii::plain_at(t, from, to) {
-        return true;
-    }
-    names_utf8::path(&t[from..to])
+    names_ascii::plain_at(t, from, to) || names_utf8::path(&t[from..to])
 }
 
 // Whether they are 1 to 32 bytes of visible ASCII that an object may have as its path. `false` says nothing of them.
@@ -67,10 +58,7 @@ pub fn short_path_ok_at(t: &[u8], from: usize, to: usize) -> bool
     ensures { result ≡ true → stored_path_ok (take (to - from) (drop from t.now)) ≡ true }
 {
     let length = to - from;
-    if length < 1 {
-        return false;
-    }
-    if 32 < length {
+    if length < 1 || 32 < length {
         return false;
     }
     names_ascii::short_at(t, from, to)
@@ -84,21 +72,17 @@ pub fn stamp_ok(stamp: u64) -> bool
 }
 
 // A part number that PART may name.
+#[tactic(auto, using(machine::proofs::Tests::tests), unfolding(machine::specs::Names::request_part_ok))]
 pub fn request_part_ok(n: u16) -> bool
     ensures { result ≡ request_part_ok n }
 {
-    if n < 1 {
-        return false;
-    }
-    n <= 10000
+    (1..=10000).contains(&n)
 }
 
 // A part number that an upload may hold: since E7 it may be one that PART no longer takes.
+#[tactic(auto, using(machine::proofs::Tests::tests), unfolding(machine::specs::Names::stored_part_ok, machine::specs::Names::number_ok))]
 pub fn stored_part_ok(n: u32) -> bool
     ensures { result ≡ stored_part_ok n }
 {
-    if n < 1 {
-        return false;
-    }
-    n <= 11000
+    (1..=11000).contains(&n)
 }

@@ -5,21 +5,15 @@ ghost use Rattle.std.specs.Prelude.{◌≡◌, cond, ◌+◌, ◌-◌, ◌≤◌
 ghost use Rattle.names_ascii.specs.Faults.{fault_of, faults_beside, clean, run};
 
 // 1 where b may not stand after `before` in a path of visible ASCII.
+#[tactic(auto, using(machine::proofs::Tests::tests), unfolding(crate::specs::Faults::fault_of, crate::specs::Faults::stands))]
 fn fault(before: u8, b: u8) -> u8
     ensures { result ≡ fault_of before b }
 {
-    if b < 33 {
-        return 1;
+    if b < 33 || 126 < b || (before == b'/' && b == b'/') {
+        1
+    } else {
+        0
     }
-    if 126 < b {
-        return 1;
-    }
-    if before == 47 {
-        if b == 47 {
-            return 1;
-        }
-    }
-    0
 }
 
 // Whether p is visible ASCII without "//" and a "/" first. Every byte is looked at: a loop without an early end goes many bytes at a time.
@@ -27,14 +21,11 @@ pub fn plain(p: &[u8]) -> bool
     requires { length p.now ≤ 128 }
     ensures { result ≡ clean 47 p.now }
 {
-    let mut before: u8 = 47;
-    let mut bad: u8 = 0;
-    let mut i = 0;
-    while i < p.len() {
-        let b = p[i];
-        bad += fault(before, b);
-        before = b;
-        i += 1;
+    let mut before = b'/';
+    let mut bad = 0;
+    for b in p {
+        bad += fault(before, *b);
+        before = *b;
     }
     bad == 0
 }
@@ -52,13 +43,11 @@ fn faults(before: &[u8], s: &[u8], n: usize) -> u8
     requires { (length before.now ≡ 32) × (length s.now ≡ 32) × (n ≤ 32) }
     ensures { result ≡ faults_beside (drop (32 - n) before.now) (drop (32 - n) s.now) }
 {
-    let mut bad: u8 = 0;
-    let mut k: u8 = n as u8;
-    let mut i: usize = 0;
-    while i < 32 {
+    let mut bad = 0;
+    let mut k = n as u8;
+    for i in 0..32 {
         bad += counted(k, fault(before[i], s[i]));
         k += 1;
-        i += 1;
     }
     bad
 }
@@ -77,10 +66,7 @@ pub fn short_at(t: &[u8], from: usize, to: usize) -> bool
     requires { (33 ≤ from) × (from < to) × (to - from ≤ 32) × (to ≤ length t.now) }
     ensures { result ≡ clean 47 (take (to - from) (drop from t.now)) }
 {
-    if t[from] == 47 {
-        return false;
-    }
-    block(t, to, to - from) == 0
+    t[from] != b'/' && block(t, to, to - from) == 0
 }
 
 // The same of at most 128 bytes: more than 32 are the block at their start and those at their end.
@@ -91,7 +77,7 @@ pub fn plain_at(t: &[u8], from: usize, to: usize) -> bool
     if to - from <= 32 {
         return short_at(t, from, to);
     }
-    if t[from] == 47 {
+    if t[from] == b'/' {
         return false;
     }
     let first = from + 32;

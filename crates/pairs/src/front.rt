@@ -19,10 +19,7 @@ fn fits(rest: &[u8]) -> bool
         return false;
     }
     let m = middle(rest);
-    if n <= m {
-        return false;
-    }
-    m + 1 + base_number::wide(rest[m]) as usize <= n
+    m < n && m + 1 + base_number::wide(rest[m]) as usize <= n
 }
 
 // How many bytes it has.
@@ -57,13 +54,7 @@ pub fn value(rest: &[u8]) -> &[u8]
 pub fn pair_ok(rest: &[u8]) -> bool
     ensures { result ≡ (front_fits rest.now && pair_ok (front_pair rest.now)) }
 {
-    if !fits(rest) {
-        return false;
-    }
-    if !crate::rules::key_ok(key(rest)) {
-        return false;
-    }
-    crate::rules::value_ok(value(rest))
+    fits(rest) && crate::rules::key_ok(key(rest)) && crate::rules::value_ok(value(rest))
 }
 
 // Where the pair at `at` ends.

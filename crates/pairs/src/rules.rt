@@ -1,31 +1,38 @@
 // The rule of a pair.
 ghost use Rattle.std.specs.Prelude.{◌≡◌};
+ghost use Rattle.std.specs.List.{list_all};
 ghost use Rattle.machine.specs.Pairs.{key_byte, value_byte, key_ok, value_ok, system_key};
 
-// A lower-case letter, a digit or a hyphen.
+// A lower-case letter, a digit or a hyphen. Letters, the most, are told by the first two tests.
+#[tactic(auto, using(machine::proofs::Tests::tests), unfolding(machine::specs::Pairs::key_byte))]
 fn key_byte(b: u8) -> bool
     ensures { result ≡ key_byte b }
 {
-    if 97 <= b {
-        return b <= 122;
+    if b'a' <= b {
+        b <= b'z'
+    } else {
+        b == b'-' || (b'0' <= b && b <= b'9')
     }
-    if b == 45 {
-        return true;
-    }
-    if b < 48 {
-        return false;
-    }
-    b <= 57
 }
 
 // A byte from 32 to 126.
+#[tactic(auto, using(machine::proofs::Tests::tests), unfolding(machine::specs::Pairs::value_byte))]
 fn value_byte(b: u8) -> bool
     ensures { result ≡ value_byte b }
 {
-    if b < 32 {
-        return false;
-    }
-    b <= 126
+    (32..=126).contains(&b)
+}
+
+fn all_key_bytes(k: &[u8]) -> bool
+    ensures { result ≡ list_all key_byte k.now }
+{
+    k.iter().all(|b| key_byte(*b))
+}
+
+fn all_value_bytes(v: &[u8]) -> bool
+    ensures { result ≡ list_all value_byte v.now }
+{
+    v.iter().all(|b| value_byte(*b))
 }
 
 // Whether it is a key: 1 to 32 such bytes.
@@ -33,49 +40,24 @@ pub fn key_ok(k: &[u8]) -> bool
     ensures { result ≡ key_ok k.now }
 {
     let n = k.len();
-    if n < 1 {
+    if n < 1 || 32 < n {
         return false;
     }
-    if 32 < n {
-        return false;
-    }
-    let mut i = 0;
-    while i < n {
-        if !key_byte(k[i]) {
-            return false;
-        }
-        i += 1;
-    }
-    true
+    all_key_bytes(k)
 }
 
 // Whether it is a value: 0 to 64 such bytes.
 pub fn value_ok(v: &[u8]) -> bool
     ensures { result ≡ value_ok v.now }
 {
-    let n = v.len();
-    if 64 < n {
-        return false;
-    }
-    let mut i = 0;
-    while i < n {
-        if !value_byte(v[i]) {
-            return false;
-        }
-        i += 1;
-    }
-    true
+    v.len() <= 64 && all_value_bytes(v)
 }
 
 // Whether pairs with this key are dropped.
 pub fn system_key(k: &[u8]) -> bool
     ensures { result ≡ system_key k.now }
 {
-    if base_order::equal(k, b"size") {
-        return true;
-    }
-    if base_order::equal(k, b"created") {
-        return true;
-    }
-    base_order::equal(k, b"etag")
+    base_order::equal(k, b"size")
+        || base_order::equal(k, b"created")
+        || base_order::equal(k, b"etag")
 }

@@ -64,8 +64,7 @@ pub fn count(pairs: &[u8]) -> usize
     requires { every pair_ok (pair_list pairs.now) ≡ true }
     ensures { result ≡ length (kept (pair_list pairs.now)) }
 {
-    let all = kept_all(pairs);
-    all.pairs
+    kept_all(pairs).pairs
 }
 
 // How many bytes of keys and values are kept.
@@ -73,8 +72,7 @@ pub fn held(pairs: &[u8]) -> usize
     requires { every pair_ok (pair_list pairs.now) ≡ true }
     ensures { result ≡ pairs_held (kept (pair_list pairs.now)) }
 {
-    let all = kept_all(pairs);
-    all.bytes
+    kept_all(pairs).bytes
 }
 
 // Whether one of the pairs has the key.
@@ -100,11 +98,7 @@ fn comes_again(rest: &[u8]) -> bool
         (pair_list (drop (front_size rest.now) rest.now))) }
 {
     let key = pairs::front::key(rest);
-    if pairs::rules::system_key(key) {
-        return false;
-    }
-    let n = pairs::front::size(rest);
-    has_key(&rest[n..], key)
+    !pairs::rules::system_key(key) && has_key(&rest[pairs::front::size(rest)..], key)
 }
 
 // Whether no two kept pairs have equal keys.
@@ -129,8 +123,7 @@ pub fn judge(pairs: &[u8]) -> bool
     if !formed(pairs) {
         return false;
     }
-    if pairs::PAIRS_MOST < count(pairs) {
-        return false;
-    }
-    all_distinct(pairs)
+    let n = count(pairs);
+    let few = n <= pairs::PAIRS_MOST;
+    few && all_distinct(pairs)
 }

@@ -13,8 +13,5 @@ pub fn block_ok(lengths: &[u8], block: &[u8]) -> bool
         return false;
     }
     let n = crate::stored::sum_of(lengths);
-    if block.len() < n {
-        return false;
-    }
-    crate::stored::stored_ok(lengths, &block[..n])
+    n <= block.len() && crate::stored::stored_ok(lengths, &block[..n])
 }

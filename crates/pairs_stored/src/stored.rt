@@ -4,19 +4,14 @@ ghost use Rattle.machine.specs.Pairs.{kept_after, kept_from};
 ghost use Rattle.pairs_stored.specs.Stored.{sum_of, pairs_at, stored_ok};
 
 // Whether a pair may stand after one with the key `last`.
+#[tactic(auto, unfolding(machine::specs::Pairs::kept_after, machine::specs::Pairs::pair_ok))]
 fn kept_after(last: &[u8], key: &[u8], value: &[u8]) -> bool
     ensures { result ≡ kept_after last.now (key.now, value.now) }
 {
-    if !pairs::rules::key_ok(key) {
-        return false;
-    }
-    if !pairs::rules::value_ok(value) {
-        return false;
-    }
-    if pairs::rules::system_key(key) {
-        return false;
-    }
-    base_order::is_below(last, key)
+    pairs::rules::key_ok(key)
+        && pairs::rules::value_ok(value)
+        && !pairs::rules::system_key(key)
+        && base_order::is_below(last, key)
 }
 
 // Where the key or value ends that begins at `at` and has the length at i.
@@ -33,10 +28,8 @@ pub fn sum_of(lengths: &[u8]) -> usize
     ensures { result ≡ sum_of lengths.now }
 {
     let mut n = 0;
-    let mut i = 0;
-    while i < lengths.len() {
+    for i in 0..lengths.len() {
         n = end(lengths, i, n);
-        i += 1;
     }
     n
 }
@@ -71,11 +64,7 @@ fn all_kept(lengths: &[u8], bytes: &[u8]) -> bool
 pub fn stored_ok(lengths: &[u8], bytes: &[u8]) -> bool
     ensures { result ≡ stored_ok lengths.now bytes.now }
 {
-    if 2 * pairs::PAIRS_MOST < lengths.len() {
-        return false;
-    }
-    if sum_of(lengths) != bytes.len() {
-        return false;
-    }
-    all_kept(lengths, bytes)
+    lengths.len() <= 2 * pairs::PAIRS_MOST
+        && sum_of(lengths) == bytes.len()
+        && all_kept(lengths, bytes)
 }

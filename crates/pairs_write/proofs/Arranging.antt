@@ -1,9 +1,9 @@
 -- The kept pairs written to memory in the map's order. Assumes nothing.
 use Prim.Native.Nat.{ℕ, ◌+◌, ◌≤◌, ◌<◌}
 use mathlib.Core.Path.{◌≡◌, refl, sym, ap, ap₂, ◌∙◌, subst}
-use mathlib.Core.Bool.{Bool, true, false}
+use mathlib.Core.Bool.{Bool, true}
 use mathlib.Core.List.{List, [], ◌∷◌, ◌++◌, append_assoc, append-nil}
-use mathlib.Core.Option.{none, some}
+use Rattle.std.specs.Prelude.{Option, Some, None}
 use native.Mathlib.Omega.{arith}
 use lib.ListN.{length, take, drop, length-append, take-append-drop}
 use lib.Seq.{length-take-le}
@@ -13,25 +13,27 @@ use Rattle.base_order.specs.Order.{by_bytes}
 use Rattle.machine.specs.Map.{Map, Ascending}
 use Rattle.machine.specs.Names.{Bytes}
 use Rattle.machine.specs.Pairs.{Pair, pair_ok, kept, pair_map, front_key, front_value, pair_list}
-use Rattle.machine.proofs.Options.{none-some}
 use Rattle.machine.proofs.MapKeep.{records-append}
 use Rattle.machine.proofs.PairLaws.{Passes, key-short, value-short, map-ascending, map-passes, map-above}
 use Rattle.pairs.proofs.Passing.{Formed, from, from_is}
-use Rattle.pairs_write.specs.declared.sorting.Pick.{Pick}
 use Rattle.pairs_stored.specs.Stored.{lengths_of, bytes_of, pair_lengths, pair_bytes}
-use Rattle.pairs_write.specs.Picking.{next_above, picked_from, picked_at, IsPick, Next}
+use Rattle.pairs_write.specs.Picking.{next_above, picked_at, IsPick, Next}
 use Rattle.pairs_write.proofs.Picking.{first, above, next-first, above-all, above-middle}
+
+-- no pair is not a pair
+none-some : {X : Type 0} {x : X} → None ≡ Some x → ⊥
+none-some h = let z : ◌≡◌ {A = ℕ} 0 1 = cc in omega arith
 
 -- what is picked first, and what is picked after a key
 module _ (bs : Bytes) where
   abbrev l : List Pair
   l = pair_list bs
 
-  first-picked : Formed bs → next_above [] none (kept l) ≡ first (pair_map l)
+  first-picked : Formed bs → next_above [] None (kept l) ≡ first (pair_map l)
   unfolding pair_map
   first-picked e = next-first [] (kept l) [] tt ∙ ap first (above-all [] (pair_map l) (map-ascending l) (map-above (pair_map l) (map-passes pair_ok l e)))
 
-  next-picked : (e : Pair) (a b : Map Bytes Bytes) → pair_map l ≡ a ++ e ∷ b → next_above e.0 none (kept l) ≡ first b
+  next-picked : (e : Pair) (a b : Map Bytes Bytes) → pair_map l ≡ a ++ e ∷ b → next_above e.0 None (kept l) ≡ first b
   unfolding pair_map
   next-picked e a b s =
       next-first e.0 (kept l) [] tt
@@ -94,7 +96,7 @@ filled-all : (b₀ b x : Bytes) (start end : ℕ) → Filled b₀ b x start end 
 filled-all b₀ b x start end w = w.told ∙ ap (λ (n : ℕ). (take start b₀ ++ x) ++ drop n b₀) w.size
 
 -- the first pairs of the map are written, and the next is picked
-pub record Arranged (bs l₀ l b₀ b : Bytes) (to at i j : ℕ) (pick : Pick) : Type 0 where
+pub record Arranged (bs l₀ l b₀ b : Bytes) (to at i j : ℕ) (pick : Option ℕ) : Type 0 where
   pub done : Map Bytes Bytes
   pub left : Map Bytes Bytes
   pub split : pair_map (pair_list bs) ≡ done ++ left
@@ -103,9 +105,9 @@ pub record Arranged (bs l₀ l b₀ b : Bytes) (to at i j : ℕ) (pick : Pick) :
   pub lengths : Filled l₀ l (pair_lengths done) to i
   pub bytes : Filled b₀ b (pair_bytes done) at j
 
-pub arranged-none : (bs l b : Bytes) (to at : ℕ) (pick : Pick) → Formed bs → to ≤ length l → at ≤ length b → Next bs [] pick → Arranged bs l l b b to at to at pick
+pub arranged-none : {bs l b : Bytes} {to at : ℕ} {pick : Option ℕ} → Formed bs → to ≤ length l → at ≤ length b → Next bs [] pick → Arranged bs l l b b to at to at pick
 unfolding pair_lengths pair_bytes
-arranged-none bs l b to at pick f h g p =
+arranged-none {bs} {l} {b} {to} {at} f h g p =
     record {
       done = [];
       left = pair_map (pair_list bs);
@@ -125,38 +127,36 @@ pub record Here (bs : Bytes) (done : Map Bytes Bytes) (to at i j : ℕ) (k v : B
   pub lengths-room : i + 2 ≤ to + length (pair_lengths (pair_map (pair_list bs)))
   pub bytes-room : j + (length k + length v) ≤ at + length (pair_bytes (pair_map (pair_list bs)))
 
-module _ (bs l₀ l b₀ b : Bytes) (to at i j : ℕ) (pick : Pick) (w : Arranged bs l₀ l b₀ b to at i j pick) where
+module _ {bs l₀ l b₀ b : Bytes} {to at i j : ℕ} {pick : Option ℕ} (w : Arranged bs l₀ l b₀ b to at i j pick) where
   abbrev m : Map Bytes Bytes
   m = pair_map (pair_list bs)
 
-  told : (x : Bool) → pick.found ≡ x → picked_from x (drop pick.at bs) ≡ first w.left
-  told x f = sym (ap (λ (c : Bool). picked_from c (drop pick.at bs)) f) ∙ w.picked
+  told : (x : Option ℕ) → pick ≡ x → picked_at bs x ≡ first w.left
+  told x f = sym (ap (picked_at bs) f) ∙ w.picked
 
-  pub arranged-all : pick.found ≡ false → (l ≡ written l₀ to (pair_lengths m)) × (b ≡ written b₀ at (pair_bytes m))
-  unfolding picked_from
+  pub arranged-all : pick ≡ None → (l ≡ written l₀ to (pair_lengths m)) × (b ≡ written b₀ at (pair_bytes m))
   arranged-all f = go w.left refl
     where
       go : (x : Map Bytes Bytes) → w.left ≡ x → (l ≡ written l₀ to (pair_lengths m)) × (b ≡ written b₀ at (pair_bytes m))
-      go (e ∷ x) q = absurd (none-some (told false f ∙ ap first q))
+      go (e ∷ x) q = absurd (none-some (told None f ∙ ap first q))
       go [] q =
           let d : w.done ≡ m = sym (w.split ∙ ap (λ (x : Map Bytes Bytes). w.done ++ x) q ∙ append-nil w.done) in (
             filled-all l₀ l (pair_lengths w.done) to i w.lengths ∙ ap (λ (x : Map Bytes Bytes). written l₀ to (pair_lengths x)) d,
             filled-all b₀ b (pair_bytes w.done) at j w.bytes ∙ ap (λ (x : Map Bytes Bytes). written b₀ at (pair_bytes x)) d,
           )
 
-  pub arranged-here : Formed bs → pick.found ≡ true → (k v : Bytes) → k ≡ front_key (from bs pick.at) → v ≡ front_value (from bs pick.at) → Here bs w.done to at i j k v
-  unfolding picked_from
-  arranged-here h f k v ke ve = go w.left refl
+  pub arranged-here : Formed bs → {place : ℕ} → pick ≡ Some place → {k v : Bytes} → k ≡ front_key (from bs place) → v ≡ front_value (from bs place) → Here bs w.done to at i j k v
+  arranged-here h {place} f {k} {v} ke ve = go w.left refl
     where
-      p : some (k, v) ≡ first w.left
+      p : Some (k, v) ≡ first w.left
       p =
-          ap₂ (λ (x y : Bytes). some (x, y)) (ke ∙ ap front_key (from_is bs pick.at)) (ve ∙ ap front_value (from_is bs pick.at))
-          ∙ told true f
+          ap₂ (λ (x y : Bytes). Some (x, y)) (ke ∙ ap front_key (from_is bs place)) (ve ∙ ap front_value (from_is bs place))
+          ∙ told (Some place) f
 
       go : (x : Map Bytes Bytes) → w.left ≡ x → Here bs w.done to at i j k v
       go [] q = absurd (none-some (sym (p ∙ ap first q)))
       go (e ∷ x) q =
-          let n : some (k, v) ≡ some e = p ∙ ap first q in
+          let n : Some (k, v) ≡ Some e = p ∙ ap first q in
           let r : (k, v) ≡ e = cc in
           let s : m ≡ w.done ++ (k, v) ∷ x = w.split ∙ ap (λ (y : Map Bytes Bytes). w.done ++ y) q ∙ ap (λ (y : Pair). w.done ++ y ∷ x) (sym r) in
           let ok = passes-middle pair_ok (k, v) w.done x (subst (Passes pair_ok) s (map-passes pair_ok (pair_list bs) h)) in
@@ -169,10 +169,10 @@ module _ (bs l₀ l b₀ b : Bytes) (to at i j : ℕ) (pick : Pick) (w : Arrange
             bytes-room = omega (arith, w.bytes.size, ap (λ (y : Map Bytes Bytes). length (pair_bytes y)) s, bytes-within w.done k v x);
           }
 
-  pub arranged-next : (k v : Bytes) → Here bs w.done to at i j k v → (l' b' : Bytes) (pick' : Pick)
+  pub arranged-next : {k v : Bytes} → Here bs w.done to at i j k v → {l' b' : Bytes} → {pick' : Option ℕ}
       → l' ≡ replaced_at l i (lengths_of k v) 2 → length l' ≡ length l → b' ≡ replaced_at b j (bytes_of k v) (length k + length v) → length b' ≡ length b
       → Next bs k pick' → Arranged bs l₀ l' b₀ b' to at (i + 2) (j + (length k + length v)) pick'
-  arranged-next k v h l' b' pick' el sl eb sb p =
+  arranged-next {k} {v} h {l'} {b'} {pick'} el sl eb sb p =
       let n = length k + length v in
       record {
         done = w.done ++ (k, v) ∷ [];

@@ -1,6 +1,6 @@
 -- Pairs written one after the other. Assumes nothing.
-use Prim.Native.Nat.{ℕ, ◌+◌, ◌-◌, ◌*◌, ◌≤◌, ◌<◌}
-use mathlib.Core.Path.{◌≡◌, refl, sym, ap, ap₂, ◌∙◌}
+use Prim.Native.Nat.{ℕ, ◌+◌, ◌-◌, ◌*◌, ◌≤◌}
+use mathlib.Core.Path.{◌≡◌, refl, sym, ap, ap₂, ◌∙◌, subst}
 use mathlib.Core.Bool.{true}
 use mathlib.Core.List.{List, [], ◌∷◌, ◌++◌, append_assoc, append-nil}
 use native.Mathlib.Omega.{arith}
@@ -11,7 +11,7 @@ use Rattle.base_number.proofs.Halves.{write-next}
 use Rattle.machine.specs.Names.{Bytes}
 use Rattle.machine.specs.Pairs.{Pair, pair_record, encode_pairs}
 use Rattle.machine.proofs.PairBytes.{length-pair}
-use Rattle.pairs_stored.specs.Stored.{lengths_of, bytes_of, sum_of, pairs_at, stored_ok}
+use Rattle.pairs_stored.specs.Stored.{bytes_of, sum_of, pairs_at, stored_ok}
 use Rattle.pairs_stored.proofs.StoredLaws.{stored-sum, stored-even, stored-few}
 use Rattle.pairs_stored.proofs.Storing.{Ends, no_lengths, stored_here, ends-here, sum-all}
 
@@ -21,10 +21,6 @@ after : (b b₁ b₂ x y : List ℕ) (at k j place : ℕ) → length x ≡ k →
 after b b₁ b₂ x y at k j place n room e one two = two ∙ ap₂ (λ (c : List ℕ) (i : ℕ). replaced_at c i y j) one e ∙ write-next b at x y k j n room
 
 module _ (b : List ℕ) (k v : Bytes) (at : ℕ) where
-  pub lengths-written : (b₁ b₂ : List ℕ) → at + 2 ≤ length b → b₁ ≡ replaced_at b at (length k ∷ []) 1 → b₂ ≡ replaced_at b₁ (at + 1) (length v ∷ []) 1
-      → b₂ ≡ replaced_at b at (lengths_of k v) 2
-  lengths-written b₁ b₂ room e₁ e₂ = after b b₁ b₂ (length k ∷ []) (length v ∷ []) at 1 1 (at + 1) refl (omega arith) refl e₁ e₂
-
   pub bytes-written : (b₁ b₂ : List ℕ) → at + (length k + length v) ≤ length b → b₁ ≡ replaced_at b at k (length k) → b₂ ≡ replaced_at b₁ (at + length k) v (length v)
       → b₂ ≡ replaced_at b at (bytes_of k v) (length k + length v)
   bytes-written b₁ b₂ room e₁ e₂ = after b b₁ b₂ k v at (length k) (length v) (at + length k) refl (omega arith) refl e₁ e₂
@@ -74,21 +70,7 @@ encoded-none ls bs b s =
 abbrev pub part : Bytes → (from to : ℕ) → Bytes
 part bs from to = take (to - from) (drop from bs)
 
--- what `write_pair` asks of the pair whose key stands from `at` to k, and whose value from k to v
-pub record Here (bs b : Bytes) (at i k v : ℕ) : Type 0 where
-  pub inside : v ≤ length bs
-  pub key-small : length (part bs at k) < 256
-  pub value-small : length (part bs k v) < 256
-  pub fits : i + at + (2 + length (part bs at k) + length (part bs k v)) ≤ length b
-
-module _ (ls bs b₀ b : Bytes) (at i : ℕ) (w : Encoded ls bs b₀ b at i) where
-  pub encoded-more : i < length ls → i + 2 ≤ length ls
-  encoded-more h = go (pairs_at (drop i ls) (drop at bs)) w.even
-    where
-      go : (m : List Pair) → length ls ≡ i + 2 * length m → i + 2 ≤ length ls
-      go [] e = absurd (omega arith)
-      go (p ∷ m) e = omega arith
-
+module _ {ls bs b₀ b : Bytes} {at i : ℕ} (w : Encoded ls bs b₀ b at i) where
   pub encoded-all : length ls ≤ i → b ≡ encode_pairs (pairs_at ls bs) ++ drop (length ls + length bs) b₀
   unfolding encode_pairs
   encoded-all h =
@@ -98,7 +80,7 @@ module _ (ls bs b₀ b : Bytes) (at i : ℕ) (w : Encoded ls bs b₀ b at i) whe
       w.told ∙ ap₂ (λ (x : Bytes) (n : ℕ). x ++ drop n b₀) q y
 
   -- the next pair, from `at` to v
-  module _ (k v : ℕ) (more : i + 2 ≤ length ls) (key : Ends ls i at k) (value : Ends ls (i + 1) k v) where
+  module _ {k v : ℕ} (more : i + 2 ≤ length ls) (key : Ends ls i at k) (value : Ends ls (i + 1) k v) where
     abbrev key_at : Bytes
     key_at = part bs at k
 
@@ -114,25 +96,15 @@ module _ (ls bs b₀ b : Bytes) (at i : ℕ) (w : Encoded ls bs b₀ b at i) whe
     value-length : length value_at ≡ v - k
     value-length = length-take-le (v - k) (drop k bs) (omega (arith, ends, length-drop k bs))
 
-    -- it is inside, and has room
-    pub encoded-here : length ls + length bs ≤ length b₀ → Here bs b at i k v
-    encoded-here room =
-        record {
-          inside = omega (arith, ends);
-          key-small = omega (arith, key-length, key.1);
-          value-small = omega (arith, value-length, value.1);
-          fits = omega (arith, ends, key-length, value-length, key.0, value.0, w.same);
-        }
-
-    pub encoded-next : (b' : Bytes) → b' ≡ replaced_at b (i + at) (pair_record key_at value_at) (2 + length key_at + length value_at) → length b' ≡ length b
-        → Encoded ls bs b₀ b' v (i + 2)
+    pub encoded-next : {b' : Bytes} {next : ℕ} → next ≡ i + 2 → b' ≡ replaced_at b (i + at) (pair_record key_at value_at) (2 + length key_at + length value_at) → length b' ≡ length b
+        → Encoded ls bs b₀ b' v next
     unfolding encode_pairs
-    encoded-next b' e same =
+    encoded-next {b'} told e same =
         let pair = pair_record key_at value_at in
         let n = 2 + length key_at + length value_at in
         let q : i + at + n ≡ i + 2 + v = omega (arith, key-length, value-length, key.0, value.0) in
         let here = stored_here ls bs i at k v more key value in
-        record {
+        subst (Encoded ls bs b₀ b' v) (sym told) (record {
           front = w.front ++ pair;
           told = front-next b₀ b b' w.front pair (i + at) n w.told w.size e ∙ ap (λ (n : ℕ). (w.front ++ pair) ++ drop n b₀) q;
           size = omega (arith, length-append w.front pair, length-pair key_at value_at, w.size);
@@ -145,4 +117,4 @@ module _ (ls bs b₀ b : Bytes) (at i : ℕ) (w : Encoded ls bs b₀ b at i) whe
           short = w.short;
           few = omega (arith, w.few, key.1, value.1);
           same = omega (arith, w.same);
-        }
+        })

@@ -1,10 +1,10 @@
 -- The kept pair with the smallest key above the last is the next of the map. Assumes nothing.
 use Prim.Native.Nat.{Ordering}
 use Prim.Native.Nat.{ℕ, ◌+◌, ◌≤◌, ◌<◌}
-use mathlib.Core.Path.{◌≡◌, refl, sym, ap, ap₂, ◌∙◌}
+use mathlib.Core.Path.{◌≡◌, refl, sym, ap, subst, ◌∙◌}
 use mathlib.Core.Bool.{Bool, true, false, not, ◌&&◌, cond}
 use mathlib.Core.List.{List, [], ◌∷◌, ◌++◌}
-use mathlib.Core.Option.{Option, none, some}
+use Rattle.std.specs.Prelude.{Option, Some, None}
 use native.Mathlib.Omega.{arith}
 use lib.ListN.{length, drop}
 use Rattle.base_order.specs.Order.{by_bytes, is_below}
@@ -16,13 +16,12 @@ use Rattle.machine.proofs.MapLaws.{above-chain, ascending-insert}
 use Rattle.machine.proofs.MapSplits.{Below, below-middle}
 use Rattle.machine.proofs.MapKeep.{keep_append}
 use Rattle.pairs.proofs.Passing.{Formed, from, from_is, here-fits, pair-here, next-formed, none_left}
-use Rattle.pairs_write.specs.declared.sorting.Pick.{Pick}
-use Rattle.pairs_write.specs.Picking.{not_above, picks, next_above, is_better, picked_from, picked_at, IsPick, Better, Next}
+use Rattle.pairs_write.specs.Picking.{not_above, picks, next_above, is_better, picked_at, IsPick, Better, Next}
 
 -- the first of a map
 abbrev pub first : Map Bytes Bytes → Option Pair
-first [] = none
-first (e ∷ m) = some e
+first [] = None
+first (e ∷ m) = Some e
 
 -- the entries above a key
 abbrev pub above : Bytes → Map Bytes Bytes → Map Bytes Bytes
@@ -44,13 +43,13 @@ same x y false = refl
 
 -- one pair more
 abbrev Picked : (last : Bytes) (e : Pair) (m : Map Bytes Bytes) → Type 0
-Picked last e m = cond (picks last (first (above last m)) e) (some e) (first (above last m)) ≡ first (above last (insert by_bytes e.0 e.1 m))
+Picked last e m = cond (picks last (first (above last m)) e) (Some e) (first (above last m)) ≡ first (above last (insert by_bytes e.0 e.1 m))
 
 pick-insert : (last : Bytes) (e : Pair) (m : Map Bytes Bytes) → Ascending by_bytes m → Picked last e m
 unfolding picks
 pick-insert last e [] s = go (is_below last e.0) refl
   where
-    go : (b : Bool) → is_below last e.0 ≡ b → cond (is_below last e.0 && true) (some e) none ≡ first (above last (e ∷ []))
+    go : (b : Bool) → is_below last e.0 ≡ b → cond (is_below last e.0 && true) (Some e) None ≡ first (above last (e ∷ []))
     go true q = rw q
     go false q = rw q
 pick-insert last e (f ∷ m) s =
@@ -76,7 +75,7 @@ pick-insert last e (f ∷ m) s =
     more : by_bytes e.0 f.0 ≡ Ordering.gt → Picked last e m → (b : Bool) → is_below last f.0 ≡ b → Picked last e (f ∷ m)
     more q r true p =
         let t : by_bytes f.0 e.0 ≡ Ordering.lt = bytes.over e.0 f.0 q in
-        rw (q, p, t) (same (some e) (some f) (is_below last e.0))
+        rw (q, p, t) (same (Some e) (Some f) (is_below last e.0))
     more q r false p = rw (q, p) r
 
 -- a list of pairs more: what is picked from the list is the first above the last of the map that it is put into
@@ -108,75 +107,76 @@ above-middle e a b s =
 
 -- The code's tests, in their order -------------------------------------------------------------------------------------------
 
-module _ (last rest best key : Bytes) (found system : Bool) (told : key ≡ front_key rest) (said : system ≡ system_key key) where
-  own : system_key (front_key rest) ≡ system
-  own = sym (said ∙ ap system_key told)
+-- the key that the code reads
+here-key : (bs key : Bytes) (at : ℕ) → key ≡ front_key (from bs at) → key ≡ front_key (drop at bs)
+here-key bs key at told = told ∙ ap front_key (from_is bs at)
 
-  pub better-system : system ≡ true → false ≡ is_better last rest (picked_from found best)
-  better-system s = rw (own ∙ s)
+-- it is tested against that of the pair that is picked
+over : (bs key other : Bytes) (pick : Option ℕ) (best : ℕ) (b : Bool) → pick ≡ Some best → other ≡ front_key (from bs best) → b ≡ is_below other key
+    → not_above (picked_at bs pick) key ≡ not b
+over bs key other pick best b is said e = rw is (ap not (sym (e ∙ ap (λ (x : Bytes). is_below x key) (here-key bs other best said))))
 
-  module _ (s : system ≡ false) where
-    pub better-low : is_below last key ≡ false → false ≡ is_better last rest (picked_from found best)
-    unfolding picks
-    better-low b = rw (own ∙ s, sym (ap (is_below last) told) ∙ b)
+module _ {bs last : Bytes} {pick : Option ℕ} {at : ℕ} where
+  settled : (d : Bool) → is_better last (drop at bs) (picked_at bs pick) ≡ d
+      → {r : Option ℕ} → picked_at bs r ≡ cond d (Some (front_pair (drop at bs))) (picked_at bs pick) → IsPick bs r → Better bs last pick at r
+  settled d e q p = record { picked = q ∙ sym (ap (λ (x : Bool). cond x (Some (front_pair (drop at bs))) (picked_at bs pick)) e); is = p }
 
-    pub better-first : is_below last key ≡ true → found ≡ false → true ≡ is_better last rest (picked_from found best)
-    unfolding picks picked_from
-    better-first b f = rw (own ∙ s, sym (ap (is_below last) told) ∙ b, f)
+  module _ {key : Bytes} (told : key ≡ front_key (from bs at)) where
+    pub better-system : IsPick bs pick → system_key key ≡ true → Better bs last pick at pick
+    better-system p s = settled false (rw (sym (ap system_key (here-key bs key at told)) ∙ s)) refl p
 
-    pub better-key : is_below last key ≡ true → found ≡ true → (other : Bytes) (r : Bool) → other ≡ front_key best → r ≡ is_below other key
-        → not r ≡ is_better last rest (picked_from found best)
-    unfolding picks picked_from
-    better-key b f other r o e = rw (own ∙ s, sym (ap (is_below last) told) ∙ b, f) (ap not (e ∙ ap₂ is_below o told))
+    module _ (s : system_key key ≡ false) where
+      pub better-low : IsPick bs pick → is_below last key ≡ false → Better bs last pick at pick
+      unfolding picks
+      better-low p b =
+          let k = here-key bs key at told in
+          settled false (rw (sym (ap system_key k) ∙ s, sym (ap (is_below last) k) ∙ b)) refl p
 
--- the pair at `at`, or the one that is picked
-module _ (bs last : Bytes) (pick : Pick) (at : ℕ) where
-  -- what `is_better` is asked
-  abbrev pub test : Bool
-  test = is_better last (from bs at) (picked_from pick.found (from bs pick.at))
+      module _ (b : is_below last key ≡ true) where
+        -- the last test decides
+        decided : (d : Bool) → not_above (picked_at bs pick) key ≡ d
+            → {r : Option ℕ} → picked_at bs r ≡ cond d (Some (front_pair (drop at bs))) (picked_at bs pick) → IsPick bs r → Better bs last pick at r
+        unfolding picks
+        decided d e =
+            let k = here-key bs key at told in
+            settled d (rw (sym (ap system_key k) ∙ s, sym (ap (is_below last) k) ∙ b) (ap (not_above (picked_at bs pick)) (sym k) ∙ e))
 
-  module _ (b : Bool) (said : b ≡ test) where
-    test-is : is_better last (drop at bs) (picked_at bs pick) ≡ b
-    test-is = sym (said ∙ ap₂ (λ (x y : Bytes). is_better last x (picked_from pick.found y)) (from_is bs at) (from_is bs pick.at))
+        pub better-first : at < length bs → front_fits (drop at bs) ≡ true → pick ≡ None → Better bs last pick at (Some at)
+        better-first h f e = decided true (rw e refl) refl (omega arith, f)
 
-    choice : (x : Bool) → b ≡ x
-        → cond x (some (front_pair (drop at bs))) (picked_at bs pick) ≡ cond (is_better last (drop at bs) (picked_at bs pick)) (some (front_pair (drop at bs))) (picked_at bs pick)
-    choice x e = sym (ap (λ (y : Bool). cond y (some (front_pair (drop at bs))) (picked_at bs pick)) (test-is ∙ e))
+        module _ {best : ℕ} (is : pick ≡ Some best) {other : Bytes} (said : other ≡ front_key (from bs best)) where
+          pub better-pick : IsPick bs pick → true ≡ is_below other key → Better bs last pick at (Some best)
+          better-pick p e = subst (Better bs last pick at) is (decided false (over bs key other pick best true is said e) refl p)
 
-    pub better-yes : at < length bs → front_fits (drop at bs) ≡ true → b ≡ true → Better bs last pick at (record { found = true; at = at })
-    unfolding picked_from
-    better-yes h f e = record { picked = choice true e; is = record { within = omega arith; fits = λ _. f } }
-
-    pub better-no : IsPick bs pick → b ≡ false → Better bs last pick at pick
-    better-no p e = record { picked = choice false e; is = p }
+          pub better-at : at < length bs → front_fits (drop at bs) ≡ true → false ≡ is_below other key → Better bs last pick at (Some at)
+          better-at h f e = decided true (over bs key other pick best false is said e) refl (omega arith, f)
 
 -- one pair passed
 pass : (last : Bytes) (best : Option Pair) (e : Pair) (l : List Pair)
-    → next_above last best (kept (e ∷ l)) ≡ next_above last (cond (not (system_key e.0) && picks last best e) (some e) best) (kept l)
+    → next_above last best (kept (e ∷ l)) ≡ next_above last (cond (not (system_key e.0) && picks last best e) (Some e) best) (kept l)
 pass last best e l = go (system_key e.0) refl
   where
     go : (b : Bool) → system_key e.0 ≡ b
-        → next_above last best (kept (e ∷ l)) ≡ next_above last (cond (not (system_key e.0) && picks last best e) (some e) best) (kept l)
+        → next_above last best (kept (e ∷ l)) ≡ next_above last (cond (not (system_key e.0) && picks last best e) (Some e) best) (kept l)
     go true q = rw q
     go false q = rw q
 
 -- the pairs not yet passed decide, with the one that is picked
-pub record Picking (bs last : Bytes) (pick : Pick) (at : ℕ) : Type 0 where
+pub record Picking (bs last : Bytes) (pick : Option ℕ) (at : ℕ) : Type 0 where
   pub within : at ≤ length bs
   pub formed : Formed (drop at bs)
   pub is : IsPick bs pick
-  pub same : next_above last (picked_at bs pick) (kept (pair_list (drop at bs))) ≡ next_above last none (kept (pair_list bs))
+  pub same : next_above last (picked_at bs pick) (kept (pair_list (drop at bs))) ≡ next_above last None (kept (pair_list bs))
 
-pub picking-none : (bs last : Bytes) → Formed bs → Picking bs last (record { found = false; at = 0 }) 0
-unfolding picked_from
-picking-none bs last f = record { within = omega arith; formed = f; is = record { within = omega arith; fits = λ e. cc }; same = refl }
+pub picking-none : (bs last : Bytes) → Formed bs → Picking bs last None 0
+picking-none bs last f = record { within = omega arith; formed = f; is = tt; same = refl }
 
-module _ (bs last : Bytes) (pick : Pick) (at : ℕ) (w : Picking bs last pick at) where
+module _ {bs last : Bytes} {pick : Option ℕ} {at : ℕ} (w : Picking bs last pick at) where
   pub picking-all : length bs ≤ at → Next bs last pick
   picking-all h = record { picked = sym (ap (λ (l : List Pair). next_above last (picked_at bs pick) (kept l)) (none_left bs at h)) ∙ w.same; is = w.is }
 
-  pub picking-next : (r : Pick) (n : ℕ) → at < length bs → n ≡ at + front_size (drop at bs) → n ≤ length bs → Better bs last pick at r → Picking bs last r n
-  picking-next r n inside e more b =
+  pub picking-next : {r : Option ℕ} {n : ℕ} → at < length bs → n ≡ at + front_size (drop at bs) → n ≤ length bs → Better bs last pick at r → Picking bs last r n
+  picking-next {r} {n} inside e more b =
       let tail = pair_list (drop n bs) in
       let s = pair-here bs at inside (here-fits bs at inside w.formed) n e in
       record {

@@ -3,55 +3,29 @@ ghost use Rattle.std.specs.Prelude.{◌≡◌, true, ◌+◌, ◌≤◌, ◌<◌
 ghost use Rattle.base_number.specs.Number.{written};
 ghost use Rattle.machine.specs.Pairs.{every, pair_ok, pair_map, front_fits, pair_list};
 ghost use Rattle.pairs_stored.specs.Stored.{pair_lengths, pair_bytes};
-ghost use Rattle.pairs_write.specs.Picking.{is_better, picked_from, IsPick, Better, Next};
+ghost use Rattle.pairs_write.specs.Picking.{IsPick, Better, Next};
 
-// The pair that is picked, if one is: where it begins.
-#[derive(Clone, Copy)]
-pub struct Pick {
-    pub found: bool,
-    pub at: usize,
-}
-
-// Whether the first pair of `rest` is kept, its key above `last` and not above that of the first of `best`, if that one
-// is picked.
-fn is_better(rest: &[u8], last: &[u8], found: bool, best: &[u8]) -> bool
-    requires { (front_fits rest.now ≡ true) × (found ≡ true → front_fits best.now ≡ true) }
-    ensures { result ≡ is_better last.now rest.now (picked_from found best.now) }
-{
-    let key = pairs::front::key(rest);
-    if pairs::rules::system_key(key) {
-        return false;
-    }
-    if !base_order::is_below(last, key) {
-        return false;
-    }
-    if !found {
-        return true;
-    }
-    !base_order::is_below(pairs::front::key(best), key)
-}
-
-// The pair at `at` where it is better than the one that is picked, else that one.
-fn better(pairs: &[u8], last: &[u8], pick: Pick, at: usize) -> Pick
+// The pair at `at` if it is kept, its key above `last` and not above that of the one at `pick`; else the one at `pick`.
+fn better(pairs: &[u8], last: &[u8], pick: Option<usize>, at: usize) -> Option<usize>
     requires { (at < length pairs.now) × (front_fits (drop at pairs.now) ≡ true) × IsPick pairs.now pick }
     ensures { Better pairs.now last.now pick at result }
 {
-    let place = pick.at;
-    if is_better(&pairs[at..], last, pick.found, &pairs[place..]) {
-        return Pick { found: true, at };
+    let key = pairs::front::key(&pairs[at..]);
+    if pairs::rules::system_key(key) || !base_order::is_below(last, key) {
+        return pick;
     }
-    pick
+    match pick {
+        Some(best) if base_order::is_below(pairs::front::key(&pairs[best..]), key) => pick,
+        _ => Some(at),
+    }
 }
 
-// The kept pair with the smallest key above `last`.
-fn next_above(pairs: &[u8], last: &[u8]) -> Pick
+// Where the kept pair with the smallest key above `last` begins.
+fn next_above(pairs: &[u8], last: &[u8]) -> Option<usize>
     requires { every pair_ok (pair_list pairs.now) ≡ true }
     ensures { Next pairs.now last.now result }
 {
-    let mut pick = Pick {
-        found: false,
-        at: 0,
-    };
+    let mut pick = None;
     let mut at = 0;
     while at < pairs.len() {
         pick = better(pairs, last, pick, at);
@@ -73,8 +47,7 @@ pub fn write_kept(pairs: &[u8], lengths: &mut [u8], to: usize, bytes: &mut [u8],
     let mut l = to;
     let mut b = at;
     let mut pick = next_above(pairs, b"");
-    while pick.found {
-        let place = pick.at;
+    while let Some(place) = pick {
         let rest = &pairs[place..];
         let key = pairs::front::key(rest);
         let value = pairs::front::value(rest);

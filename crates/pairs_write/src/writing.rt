@@ -56,12 +56,10 @@ pub fn encode(lengths: &[u8], bytes: &[u8], answer: &mut [u8])
         ++ drop (length lengths.now + length bytes.now) answer.old }
 {
     let mut at = 0;
-    let mut i = 0;
-    while i < lengths.len() {
-        let k = pairs_stored::end(lengths, i, at);
-        let v = pairs_stored::end(lengths, i + 1, k);
-        write_pair(answer, i + at, &bytes[at..k], &bytes[k..v]);
+    for i in 0..lengths.len() / 2 {
+        let k = pairs_stored::end(lengths, 2 * i, at);
+        let v = pairs_stored::end(lengths, 2 * i + 1, k);
+        write_pair(answer, 2 * i + at, &bytes[at..k], &bytes[k..v]);
         at = v;
-        i += 2;
     }
 }

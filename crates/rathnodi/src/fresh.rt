@@ -14,5 +14,6 @@ pub fn rathnodi_tables_len() -> usize
 pub fn rathnodi_fresh(tables: &mut [u8], arena: &mut [u8]) -> u32
     ensures { MadeFresh (memory tables.old arena.old) result (memory tables.new arena.new) }
 {
-    store::fresh(tables, arena) as u32
+    let made = store::fresh(tables, arena);
+    c_reply::done(made)
 }

@@ -48,7 +48,7 @@ pub fn rathnodi_get(
         return 1;
     }
     let got = store::get(tables, arena, path, answer, pairs);
-    c_reply::found(got, reply)
+    c_reply::tell(got, reply)
 }
 
 // HEAD: the object's pairs to the front of the second answer buffer, and its metadata to the reply.
@@ -71,7 +71,7 @@ pub fn rathnodi_head(
         return 1;
     }
     let head = store::head(tables, arena, path, pairs);
-    c_reply::found(head, reply)
+    c_reply::tell(head, reply)
 }
 
 // DELETE: the object at path is taken out.
@@ -143,5 +143,5 @@ pub fn rathnodi_list(
         return 1;
     }
     let listed = store::list(tables, arena, prefix, suffix, answer);
-    c_reply::written(listed, reply)
+    c_reply::tell(listed, reply)
 }

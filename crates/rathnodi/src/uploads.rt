@@ -30,7 +30,7 @@ pub fn rathnodi_initiate(
         return 1;
     }
     let opened = store::initiate(tables, arena, Stamp(stamp), path, pairs);
-    c_reply::opened(opened, reply)
+    c_reply::tell(opened, reply)
 }
 
 // PART: a part of an open upload is set, its etag to the reply.
@@ -60,7 +60,7 @@ pub fn rathnodi_part(
         PartNumber(part),
         content,
     );
-    c_reply::stored(set, reply)
+    c_reply::tell(set, reply)
 }
 
 // COMMIT: the parts, joined in listed order, become the object at the upload's path.
@@ -106,7 +106,7 @@ pub fn rathnodi_sweep(
         return 1;
     }
     let swept = store::sweep(tables, arena, Stamp(stamp), most);
-    c_reply::swept(swept, reply)
+    c_reply::tell(swept, reply)
 }
 
 // UPLOADS: a record of each open upload under the prefix to the front of the answer buffer, their counts to the reply.
@@ -129,5 +129,5 @@ pub fn rathnodi_uploads(
         return 1;
     }
     let listed = store::uploads(tables, arena, prefix, answer);
-    c_reply::written(listed, reply)
+    c_reply::tell(listed, reply)
 }

@@ -9,7 +9,7 @@ use Rattle.recording_lists.proofs.PairSteps.{MappedRead, unmapped, unmapped-no}
 
 module _ {X Y : Type 0} (r : Reader X) (f : X → Y) (s : Bytes) (at : ℕ) where
   module _ (b : ℕ) where
-    pub no_byte : (get_or s at 0 ≡ b → ⊥) → no ≡ map_read f (past b r) (drop at s)
+    pub no_byte : (at < length s → get_or s at 0 ≡ b → ⊥) → no ≡ map_read f (past b r) (drop at s)
     no_byte other = ap (λ (x : Read X). and_then x (λ y l. got (f y) l)) (sym (past-not r s at b other))
 
     pub after-byte : at < length s → get_or s at 0 ≡ b → map_read f r (drop (at + 1) s) ≡ map_read f (past b r) (drop at s)
@@ -25,7 +25,7 @@ module _ {X Y : Type 0} (r : Reader X) (f : X → Y) (s : Bytes) (at : ℕ) wher
     so : map_read f (past 41 (got u.value)) (drop next s) ≡ map_read f (closed r) (drop at s)
     so = ap (λ (x : Read X). and_then (and_then x (λ y. past 41 (got y))) (λ y l. got (f y) l)) u.here
 
-    pub no-close : (get_or s next 0 ≡ 41 → ⊥) → no ≡ map_read f (closed r) (drop at s)
+    pub no-close : (next < length s → get_or s next 0 ≡ 41 → ⊥) → no ≡ map_read f (closed r) (drop at s)
     no-close other = ap (λ (x : Read X). and_then x (λ y l. got (f y) l)) (sym (past-not (got u.value) s next 41 other)) ∙ so
 
     pub is-closed : next < length s → get_or s next 0 ≡ 41 → got y (drop (next + 1) s) ≡ map_read f (closed r) (drop at s)

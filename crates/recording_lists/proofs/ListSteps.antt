@@ -30,8 +30,8 @@ advances s at v next e =
 -- One item at a place --------------------------------------------------------------------------------------------------
 
 module _ {X : Type 0} (r : Reader X) (f : ℕ) (xs : List X) (s : Bytes) (i : ℕ) where
-  pub no_item : (get_or s i 0 ≡ 32 → ⊥) → items_on r (suc f) xs (drop i s) ≡ got xs (drop i s)
-  no_item n = within_or_not s i (λ h. rw (at_place s i h, ne_eqb (get_or s i 0) 32 n)) (λ h. rw (at-end s i h))
+  pub no_item : (i < length s → get_or s i 0 ≡ 32 → ⊥) → items_on r (suc f) xs (drop i s) ≡ got xs (drop i s)
+  no_item n = within_or_not s i (λ h. rw (at_place s i h, ne_eqb (get_or s i 0) 32 (n h))) (λ h. rw (at-end s i h))
 
   module _ (h : i < length s) (e : get_or s i 0 ≡ 32) where
     pub item-at : items_on r (suc f) xs (drop i s) ≡ and_then (r (drop (i + 1) s)) (λ x. items_on r f (xs ++ x ∷ []))
@@ -76,7 +76,7 @@ unfolding packed
 nothing s out at e = rw (← e)
 
 module _ (all : Read (List ℕ)) (s out : Bytes) (n i : ℕ) (so : SoFar all s out n i) where
-  pub finish : (get_or s i 0 ≡ 32 → ⊥) → got (take n out) (drop i s) ≡ and_then all (λ ns l. got (packed ns) l)
+  pub finish : (i < length s → get_or s i 0 ≡ 32 → ⊥) → got (take n out) (drop i s) ≡ and_then all (λ ns l. got (packed ns) l)
   finish other =
       ap (λ (m : Bytes). got m (drop i s)) so.bytes
       ∙ ap (λ (r : Read (List ℕ)). and_then r (λ ns l. got (packed ns) l)) (sym (no_item read_number so.left so.ns s i other) ∙ so.here)

@@ -19,7 +19,7 @@ module _ (s out : Bytes) (n at : ℕ) where
   none : no ≡ read_pair (drop at s) → no ≡ pair_after (take n out) (drop at s)
   none e = ap (λ (r : Read Pair). and_then r (λ x m. got (take n out ++ counted_pair x) m)) e
 
-  pub no-bracket : (get_or s at 0 ≡ 40 → ⊥) → no ≡ pair_after (take n out) (drop at s)
+  pub no-bracket : (at < length s → get_or s at 0 ≡ 40 → ⊥) → no ≡ pair_after (take n out) (drop at s)
   unfolding read_pair
   no-bracket other = none (sym (past-not (closed two) s at 40 other))
 
@@ -41,7 +41,7 @@ module _ (s out : Bytes) (n at : ℕ) where
       no_other : no ≡ past 32 read_string (drop b s) → no ≡ pair_after (take n out) (drop at s)
       no_other e = no-two (no_second read_string (past 32 read_string) (drop (at + 1) s) k.value (drop b s) k.here e)
 
-      pub no-space : (get_or s b 0 ≡ 32 → ⊥) → no ≡ pair_after (take n out) (drop at s)
+      pub no-space : (b < length s → get_or s b 0 ≡ 32 → ⊥) → no ≡ pair_after (take n out) (drop at s)
       no-space other = no_other (sym (past-not read_string s b 32 other))
 
       module _ (b-in : b < length s) (space : get_or s b 0 ≡ 32) where
@@ -58,7 +58,7 @@ module _ (s out : Bytes) (n at : ℕ) where
               (both_read read_string (past 32 read_string) (drop (at + 1) s) k.value (drop b s) k.here v.value (drop next s) (v.here ∙ sym (past-at read_string s b 32 b-in space)))
               ∙ pair-at
 
-          pub no_end : (get_or s next 0 ≡ 41 → ⊥) → no ≡ pair_after (take n out) (drop at s)
+          pub no_end : (next < length s → get_or s next 0 ≡ 41 → ⊥) → no ≡ pair_after (take n out) (drop at s)
           no_end other = none (sym (past-not (got (k.value, v.value)) s next 41 other) ∙ read)
 
           bytes : take len out₂ ≡ take n out ++ counted_pair (k.value, v.value)

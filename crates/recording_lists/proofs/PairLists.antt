@@ -31,7 +31,7 @@ unfolding packed_pairs
 begin s out at = record { ps = []; left = length (drop at s); enough = omega (arith, length-drop at s); bytes = refl; here = refl }
 
 module _ (all : Read (List Pair)) (s out : Bytes) (n i : ℕ) (so : SoFar all s out n i) where
-  pub finish : (get_or s i 0 ≡ 32 → ⊥) → got (take n out) (drop i s) ≡ and_then all (λ ps l. got (packed_pairs ps) l)
+  pub finish : (i < length s → get_or s i 0 ≡ 32 → ⊥) → got (take n out) (drop i s) ≡ and_then all (λ ps l. got (packed_pairs ps) l)
   finish other =
       ap (λ (m : Bytes). got m (drop i s)) so.bytes
       ∙ ap (λ (r : Read (List Pair)). and_then r (λ ps l. got (packed_pairs ps) l)) (sym (no_item read_pair so.left so.ps s i other) ∙ so.here)

@@ -73,7 +73,7 @@ module _ (l out xs : Bytes) (n len : ℕ) (room : n + 1 ≤ length out) (fits : 
 -- One counted string ---------------------------------------------------------------------------------------------------
 
 module _ (s out : Bytes) (at n : ℕ) where
-  pub no-quote : (get_or s at 0 ≡ 34 → ⊥) → no ≡ string_after (take n out) (drop at s)
+  pub no-quote : (at < length s → get_or s at 0 ≡ 34 → ⊥) → no ≡ string_after (take n out) (drop at s)
   unfolding read_string
   no-quote other = ap (λ (r : Read Bytes). and_then r (λ xs m. got (take n out ++ counted xs) m)) (sym (past-not (hex_on []) s at 34 other))
 

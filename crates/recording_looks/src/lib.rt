@@ -10,9 +10,7 @@ ghost use Rattle.recording.specs.Entry as entry;
 ghost use Rattle.recording.specs.Parse.{path_rest, list_rest, whole};
 ghost use Rattle.recording_line.specs.Replayed.{Replayed};
 
-use call_types::{GetAnswer, ListAnswer};
-use recording_arguments::ListRead;
-use recording_read::StringRead;
+use call_types::{Counts, Metadata, Refusal};
 
 // The rest of a line that begins with "(get", which ends at `at`.
 pub fn get_line(
@@ -22,7 +20,7 @@ pub fn get_line(
     at: usize,
     answer: &mut [u8],
     pairs: &mut [u8],
-) -> GetAnswer
+) -> Result<Metadata, Refusal>
     requires { length line.now ≤ 4096 }
     ensures { Replayed (whole (path_rest entry.get (drop at line.now)))
         answer.old pairs.old
@@ -32,25 +30,21 @@ pub fn get_line(
         (memory tables.now arena.now) }
 {
     let mut path = [0u8; 2048];
-    let StringRead::Got { len, next } = recording_read::string_field(line, at, &mut path) else {
-        return GetAnswer::Refused(recording_line::refusal(
-            tables,
-            arena,
-            recording_line::NOT_A_LINE,
-        ));
+    let read = recording_read::string_field(line, at, &mut path);
+    let Some(len) = recording_read::closed(line, read) else {
+        return Err(recording_line::refusal(tables, arena, Refusal::NotALine));
     };
-    if !recording_read::ends_line(line, next) {
-        return GetAnswer::Refused(recording_line::refusal(
-            tables,
-            arena,
-            recording_line::NOT_A_LINE,
-        ));
-    }
     call_get::get(tables, arena, &path[..len], answer, pairs)
 }
 
 // The rest of a line that begins with "(head", which ends at `at`; b is an answer buffer that it does not have.
-pub fn head_line(tables: &[u8], arena: &[u8], line: &[u8], at: usize, pairs: &mut [u8]) -> GetAnswer
+pub fn head_line(
+    tables: &[u8],
+    arena: &[u8],
+    line: &[u8],
+    at: usize,
+    pairs: &mut [u8],
+) -> Result<Metadata, Refusal>
     requires { length line.now ≤ 4096 }
     ensures { (b : Bytes) → Replayed (whole (path_rest entry.head (drop at line.now)))
         b pairs.old
@@ -60,20 +54,10 @@ pub fn head_line(tables: &[u8], arena: &[u8], line: &[u8], at: usize, pairs: &mu
         (memory tables.now arena.now) }
 {
     let mut path = [0u8; 2048];
-    let StringRead::Got { len, next } = recording_read::string_field(line, at, &mut path) else {
-        return GetAnswer::Refused(recording_line::refusal(
-            tables,
-            arena,
-            recording_line::NOT_A_LINE,
-        ));
+    let read = recording_read::string_field(line, at, &mut path);
+    let Some(len) = recording_read::closed(line, read) else {
+        return Err(recording_line::refusal(tables, arena, Refusal::NotALine));
     };
-    if !recording_read::ends_line(line, next) {
-        return GetAnswer::Refused(recording_line::refusal(
-            tables,
-            arena,
-            recording_line::NOT_A_LINE,
-        ));
-    }
     call_get::head(tables, arena, &path[..len], pairs)
 }
 
@@ -84,7 +68,7 @@ pub fn uploads_line(
     line: &[u8],
     at: usize,
     answer: &mut [u8],
-) -> ListAnswer
+) -> Result<Counts, Refusal>
     requires { length line.now ≤ 4096 }
     ensures { (p : Bytes) → Replayed (whole (path_rest entry.uploads (drop at line.now)))
         answer.old p
@@ -94,20 +78,10 @@ pub fn uploads_line(
         (memory tables.now arena.now) }
 {
     let mut path = [0u8; 2048];
-    let StringRead::Got { len, next } = recording_read::string_field(line, at, &mut path) else {
-        return ListAnswer::Refused(recording_line::refusal(
-            tables,
-            arena,
-            recording_line::NOT_A_LINE,
-        ));
+    let read = recording_read::string_field(line, at, &mut path);
+    let Some(len) = recording_read::closed(line, read) else {
+        return Err(recording_line::refusal(tables, arena, Refusal::NotALine));
     };
-    if !recording_read::ends_line(line, next) {
-        return ListAnswer::Refused(recording_line::refusal(
-            tables,
-            arena,
-            recording_line::NOT_A_LINE,
-        ));
-    }
     call_uploads::uploads(tables, arena, &path[..len], answer)
 }
 
@@ -118,7 +92,7 @@ pub fn list_line(
     line: &[u8],
     at: usize,
     answer: &mut [u8],
-) -> ListAnswer
+) -> Result<Counts, Refusal>
     requires { length line.now ≤ 4096 }
     ensures { (p : Bytes) → Replayed (whole (list_rest (drop at line.now)))
         answer.old p
@@ -129,24 +103,11 @@ pub fn list_line(
 {
     let mut p = [0u8; 2048];
     let mut d = [0u8; 2048];
-    let ListRead::Got {
-        prefix,
-        suffix,
-        next,
-    } = recording_arguments::read_list(line, at, &mut p, &mut d)
-    else {
-        return ListAnswer::Refused(recording_line::refusal(
-            tables,
-            arena,
-            recording_line::NOT_A_LINE,
-        ));
+    let read = recording_arguments::read_list(line, at, &mut p, &mut d);
+    let Some(list) = recording_read::closed(line, read) else {
+        return Err(recording_line::refusal(tables, arena, Refusal::NotALine));
     };
-    if !recording_read::ends_line(line, next) {
-        return ListAnswer::Refused(recording_line::refusal(
-            tables,
-            arena,
-            recording_line::NOT_A_LINE,
-        ));
-    }
-    call_list::list(tables, arena, &p[..prefix], &d[..suffix], answer)
+    let prefix = &p[..list.prefix];
+    let suffix = &d[..list.suffix];
+    call_list::list(tables, arena, prefix, suffix, answer)
 }

@@ -8,12 +8,10 @@ ghost use Rattle.recording.specs.Entry as entry;
 ghost use Rattle.recording.specs.Parse.{put_rest, path_rest, copy_rest, whole};
 ghost use Rattle.recording_line.specs.Replayed.{ReplayedAlone};
 
-use call_types::{DoneAnswer, Stamp};
-use recording_arguments::{CopyRead, PutRead};
-use recording_read::StringRead;
+use call_types::{Refusal, Stamp};
 
 // The rest of a line that begins with "(put", which ends at `at`.
-pub fn put_line(tables: &mut [u8], arena: &mut [u8], line: &[u8], at: usize) -> DoneAnswer
+pub fn put_line(tables: &mut [u8], arena: &mut [u8], line: &[u8], at: usize) -> Result<(), Refusal>
     requires { length line.now ≤ 4096 }
     ensures { ReplayedAlone (whole (put_rest (drop at line.now)))
         (memory tables.old arena.old)
@@ -23,39 +21,27 @@ pub fn put_line(tables: &mut [u8], arena: &mut [u8], line: &[u8], at: usize) -> 
     let mut p = [0u8; 2048];
     let mut d = [0u8; 2048];
     let mut m = [0u8; 2048];
-    let PutRead::Got {
-        stamp,
-        path,
-        content,
-        pairs,
-        next,
-    } = recording_arguments::read_put(line, at, &mut p, &mut d, &mut m)
-    else {
-        return DoneAnswer::Refused(recording_line::refusal(
-            tables,
-            arena,
-            recording_line::NOT_A_LINE,
-        ));
+    let read = recording_arguments::read_put(line, at, &mut p, &mut d, &mut m);
+    let Some(put) = recording_read::closed(line, read) else {
+        return Err(recording_line::refusal(tables, arena, Refusal::NotALine));
     };
-    if !recording_read::ends_line(line, next) {
-        return DoneAnswer::Refused(recording_line::refusal(
-            tables,
-            arena,
-            recording_line::NOT_A_LINE,
-        ));
-    }
     call_put::put(
         tables,
         arena,
-        Stamp(stamp),
-        &p[..path],
-        &d[..content],
-        &m[..pairs],
+        Stamp(put.stamp),
+        &p[..put.path],
+        &d[..put.content],
+        &m[..put.pairs],
     )
 }
 
 // The rest of a line that begins with "(delete", which ends at `at`.
-pub fn delete_line(tables: &mut [u8], arena: &mut [u8], line: &[u8], at: usize) -> DoneAnswer
+pub fn delete_line(
+    tables: &mut [u8],
+    arena: &mut [u8],
+    line: &[u8],
+    at: usize,
+) -> Result<(), Refusal>
     requires { length line.now ≤ 4096 }
     ensures { ReplayedAlone (whole (path_rest entry.delete (drop at line.now)))
         (memory tables.old arena.old)
@@ -63,25 +49,15 @@ pub fn delete_line(tables: &mut [u8], arena: &mut [u8], line: &[u8], at: usize) 
         (memory tables.new arena.new) }
 {
     let mut path = [0u8; 2048];
-    let StringRead::Got { len, next } = recording_read::string_field(line, at, &mut path) else {
-        return DoneAnswer::Refused(recording_line::refusal(
-            tables,
-            arena,
-            recording_line::NOT_A_LINE,
-        ));
+    let read = recording_read::string_field(line, at, &mut path);
+    let Some(len) = recording_read::closed(line, read) else {
+        return Err(recording_line::refusal(tables, arena, Refusal::NotALine));
     };
-    if !recording_read::ends_line(line, next) {
-        return DoneAnswer::Refused(recording_line::refusal(
-            tables,
-            arena,
-            recording_line::NOT_A_LINE,
-        ));
-    }
     call_delete::delete(tables, arena, &path[..len])
 }
 
 // The rest of a line that begins with "(copy", which ends at `at`.
-pub fn copy_line(tables: &mut [u8], arena: &mut [u8], line: &[u8], at: usize) -> DoneAnswer
+pub fn copy_line(tables: &mut [u8], arena: &mut [u8], line: &[u8], at: usize) -> Result<(), Refusal>
     requires { length line.now ≤ 4096 }
     ensures { ReplayedAlone (whole (copy_rest (drop at line.now)))
         (memory tables.old arena.old)
@@ -90,25 +66,11 @@ pub fn copy_line(tables: &mut [u8], arena: &mut [u8], line: &[u8], at: usize) ->
 {
     let mut p = [0u8; 2048];
     let mut d = [0u8; 2048];
-    let CopyRead::Got {
-        stamp,
-        source,
-        destination,
-        next,
-    } = recording_arguments::read_copy(line, at, &mut p, &mut d)
-    else {
-        return DoneAnswer::Refused(recording_line::refusal(
-            tables,
-            arena,
-            recording_line::NOT_A_LINE,
-        ));
+    let read = recording_arguments::read_copy(line, at, &mut p, &mut d);
+    let Some(copy) = recording_read::closed(line, read) else {
+        return Err(recording_line::refusal(tables, arena, Refusal::NotALine));
     };
-    if !recording_read::ends_line(line, next) {
-        return DoneAnswer::Refused(recording_line::refusal(
-            tables,
-            arena,
-            recording_line::NOT_A_LINE,
-        ));
-    }
-    call_copy::copy(tables, arena, Stamp(stamp), &p[..source], &d[..destination])
+    let source = &p[..copy.source];
+    let destination = &d[..copy.destination];
+    call_copy::copy(tables, arena, Stamp(copy.stamp), source, destination)
 }

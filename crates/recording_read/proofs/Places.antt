@@ -30,8 +30,8 @@ module _ {X : Type 0} (r : Reader X) (s : Bytes) (i b : ℕ) where
   pub past-at : i < length s → get_or s i 0 ≡ b → past b r (drop i s) ≡ r (drop (i + 1) s)
   past-at h e = rw (at_place s i h, eq-eqb (get_or s i 0) b e)
 
-  pub past-not : (get_or s i 0 ≡ b → ⊥) → past b r (drop i s) ≡ no
-  past-not n = within_or_not s i (λ h. rw (at_place s i h, ne_eqb (get_or s i 0) b n)) (λ h. rw (at-end s i h))
+  pub past-not : (i < length s → get_or s i 0 ≡ b → ⊥) → past b r (drop i s) ≡ no
+  past-not n = within_or_not s i (λ h. rw (at_place s i h, ne_eqb (get_or s i 0) b (n h))) (λ h. rw (at-end s i h))
 
 -- how many bytes are left
 module _ (s : Bytes) (i : ℕ) where

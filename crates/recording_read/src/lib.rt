@@ -7,10 +7,18 @@ mod verbs;
 
 ghost use Rattle.std.specs.Prelude.{◌≡◌, ◌<◌, length, drop, get_or};
 ghost use Rattle.recording.specs.Parse.{ends_line};
+ghost use Rattle.recording_read.specs.Meant.{AfterByte, closed_meant};
 
-pub use numbers::{NumberRead, number_field, read_number};
-pub use strings::{StringRead, decode, string_field};
-pub use verbs::verb;
+pub use numbers::{number_field, read_number};
+pub use strings::{decode, string_field};
+pub use verbs::Verb;
+
+// What was read, and the place after it.
+#[derive(Clone, Copy)]
+pub struct Field<T> {
+    pub value: T,
+    pub next: usize,
+}
 
 // The byte at a place; 0 past the end.
 pub fn byte_at(s: &[u8], at: usize) -> u8
@@ -20,6 +28,16 @@ pub fn byte_at(s: &[u8], at: usize) -> u8
         return s[at];
     }
     0
+}
+
+// The place after the byte b, where it stands at a place.
+pub fn after(s: &[u8], at: usize, b: u8) -> Option<usize>
+    ensures { AfterByte b s.now at result }
+{
+    if at < s.len() && s[at] == b {
+        return Some(at + 1);
+    }
+    None
 }
 
 // Whether just a ")" is left.
@@ -33,4 +51,15 @@ pub fn ends_line(s: &[u8], at: usize) -> bool
         return false;
     }
     s[at] == b')'
+}
+
+// What was read, where just a ")" is left after it.
+pub fn closed<T: Copy>(s: &[u8], read: Option<Field<T>>) -> Option<T>
+    ensures { result ≡ closed_meant s.now read }
+{
+    let Field { value, next } = read?;
+    if ends_line(s, next) {
+        return Some(value);
+    }
+    None
 }

@@ -1,25 +1,20 @@
 -- A line by its verb. Assumes nothing.
-use Prim.Native.Nat.{ℕ, zero, suc, ◌≤◌, ◌<◌}
+use Prim.Native.Nat.{ℕ, ◌≤◌, ◌<◌}
 use mathlib.Core.Path.{◌≡◌, refl, sym, ap, ap₂, subst, ◌∙◌}
-use mathlib.Core.Bool.{true, false}
 use mathlib.Core.List.{[], ◌++◌, append-nil}
 use mathlib.Core.Option.{Option, none}
 use native.Mathlib.Omega.{arith}
 use lib.ListN.{length, drop_of_length-le}
-use borrow.Author.Tests.{eqb-true, ne_eqb, le-leb, lt-leb}
+use borrow.Author.Tests.{le-leb, lt-leb}
 use Rattle.machine.specs.Names.{Bytes}
 use Rattle.machine.specs.Calls.{Reply, Answer, Buffers, buffers, no_buffers}
 use Rattle.machine.specs.Steps.{over, written}
-use Rattle.call_types.specs.declared.DoneAnswer.{DoneAnswer}
-use Rattle.call_types.specs.declared.DoneAnswer.TheVariants as done
-use Rattle.call_types.specs.declared.GetAnswer.{GetAnswer}
-use Rattle.call_types.specs.declared.GetAnswer.TheVariants as get
-use Rattle.call_types.specs.declared.ListAnswer.{ListAnswer}
-use Rattle.call_types.specs.declared.ListAnswer.TheVariants as list
-use Rattle.call_types.specs.declared.InitiateAnswer.{InitiateAnswer}
-use Rattle.call_types.specs.declared.InitiateAnswer.TheVariants as initiate
-use Rattle.call_types.specs.declared.PartAnswer.{PartAnswer}
-use Rattle.call_types.specs.declared.PartAnswer.TheVariants as part
+use Rattle.std.specs.Prelude.{Result, Ok, Err}
+use Rattle.call_types.specs.declared.Refusal.{Refusal}
+use Rattle.call_types.specs.declared.Metadata.{Metadata}
+use Rattle.call_types.specs.declared.Etag.{Etag}
+use Rattle.call_types.specs.declared.UploadNumber.{UploadNumber}
+use Rattle.call_types.specs.declared.Counts.{Counts}
 use Rattle.call_contract.specs.Answers.{refused, done_reply, get_reply, list_reply, initiate_reply, part_reply}
 use Rattle.call_contract.specs.Made.{Memory, whole_memory}
 use Rattle.c_reply.specs.Reply.{reply_over, reply_after}
@@ -29,41 +24,8 @@ use Rattle.recording.specs.Parse.{verbs, verb_index, by_index, parse, entry_of, 
 use Rattle.recording.proofs.Readers.{by-test}
 use Rattle.recording.proofs.Wholes.{parse-at}
 use Rattle.recording_line.specs.Replayed.{refusal_over, not_a_line, Replayed, ReplayedAlone}
-use Rattle.recording_replay.specs.Replayed.{LineDone, LineReplayed, changing, sending, looking}
+use Rattle.recording_replay.specs.Replayed.{LineDone, LineReplayed}
 use Rattle.recording_replay.proofs.Tells.{LinesTell}
-
--- Which verb -----------------------------------------------------------------------------------------------------------------
-
-pub last-change : (v : ℕ) → changing v ≡ true → (v ≡ 0 → ⊥) → (v ≡ 3 → ⊥) → (v ≡ 4 → ⊥) → (v ≡ 8 → ⊥) → v ≡ 9
-unfolding changing
-last-change v h a b c d = eqb-true v 9 (rw (ne_eqb v 0 a, ne_eqb v 3 b, ne_eqb v 4 c, ne_eqb v 8 d) at h)
-
-pub last-send : (v : ℕ) → sending v ≡ true → (v ≡ 6 → ⊥) → v ≡ 7
-unfolding sending
-last-send v h a = eqb-true v 7 (rw (ne_eqb v 6 a) at h)
-
-pub last-look : (v : ℕ) → looking v ≡ true → (v ≡ 1 → ⊥) → (v ≡ 2 → ⊥) → (v ≡ 5 → ⊥) → v ≡ 10
-unfolding looking
-last-look v h a b c = eqb-true v 10 (rw (ne_eqb v 1 a, ne_eqb v 2 b, ne_eqb v 5 c) at h)
-
-never : {B : Type 0} → true ≡ false → B
-never e = let z : ◌≡◌ {A = ℕ} 0 1 = cc in absurd (omega arith)
-
--- no verb has another index
-none-at : (v : ℕ) → looking v ≡ false → sending v ≡ false → changing v ≡ false → (l : Bytes) → whole (by_index verbs v l) ≡ none
-unfolding looking sending changing
-none-at zero a b c l = never c
-none-at (suc zero) a b c l = never a
-none-at (suc (suc zero)) a b c l = never a
-none-at (suc (suc (suc zero))) a b c l = never c
-none-at (suc (suc (suc (suc zero)))) a b c l = never c
-none-at (suc (suc (suc (suc (suc zero))))) a b c l = never a
-none-at (suc (suc (suc (suc (suc (suc zero)))))) a b c l = never b
-none-at (suc (suc (suc (suc (suc (suc (suc zero))))))) a b c l = never b
-none-at (suc (suc (suc (suc (suc (suc (suc (suc zero)))))))) a b c l = never c
-none-at (suc (suc (suc (suc (suc (suc (suc (suc (suc zero))))))))) a b c l = never c
-none-at (suc (suc (suc (suc (suc (suc (suc (suc (suc (suc zero)))))))))) a b c l = never a
-none-at (suc (suc (suc (suc (suc (suc (suc (suc (suc (suc (suc v))))))))))) a b c l = refl
 
 -- the entry of a line that is not too long
 module _ (l : Bytes) where
@@ -75,13 +37,10 @@ module _ (l : Bytes) where
   unfolding entry_of
   entry-parsed h = rw (le-leb (length l) 4096 h)
 
-  pub no-verb : (v : ℕ) → v ≡ verb_index verbs l → looking v ≡ false → sending v ≡ false → changing v ≡ false → parse l ≡ none
-  no-verb v e a b c = parse-at l v e ∙ none-at v a b c l
+  pub no-verb : 11 ≡ verb_index verbs l → parse l ≡ none
+  no-verb e = parse-at l 11 e
 
   -- what was replayed after the verb was replayed for the line
-  pub by-verb : {m m' : Memory} {r : Reply} (i : ℕ) → i ≡ verb_index verbs l → ReplayedAlone (whole (by_index verbs i l)) m r m' → ReplayedAlone (parse l) m r m'
-  by-verb {m} {m'} {r} i e h = subst (λ (o : Option Entry). ReplayedAlone o m r m') (sym (parse-at l i e)) h
-
   module _ {b b' : Buffers} {m m' : Memory} {n : ℕ} {o o' : Bytes} where
     pub line-by-verb : (i : ℕ) → i ≡ verb_index verbs l → LineDone (whole (by_index verbs i l)) b m o n b' o' m' → LineDone (parse l) b m o n b' o' m'
     line-by-verb i e h = subst (λ (x : Option Entry). LineDone x b m o n b' o' m') (sym (parse-at l i e)) h
@@ -99,41 +58,41 @@ over-all b' b e =
     let h : length b ≤ length b' = omega arith in
     sym (ap (λ (l : Bytes). b' ++ l) (drop_of_length-le b h) ∙ append-nil b')
 
-get-buffers : (a : GetAnswer) (x : Buffers) → (get_reply a x).buffers ≡ x
-get-buffers (get.Refused n) x = refl
-get-buffers (get.Found m) x = refl
+get-buffers : (a : Result Metadata Refusal) (x : Buffers) → (get_reply a x).buffers ≡ x
+get-buffers (Err n) x = refl
+get-buffers (Ok m) x = refl
 
-get-result : (a : GetAnswer) (x y : Buffers) → (get_reply a x).result ≡ (get_reply a y).result
-get-result (get.Refused n) x y = refl
-get-result (get.Found m) x y = refl
+get-result : (a : Result Metadata Refusal) (x y : Buffers) → (get_reply a x).result ≡ (get_reply a y).result
+get-result (Err n) x y = refl
+get-result (Ok m) x y = refl
 
-get-answer : (a : GetAnswer) (x y : Buffers) → (get_reply a x).answer ≡ (get_reply a y).answer
-get-answer (get.Refused n) x y = refl
-get-answer (get.Found m) x y = refl
+get-answer : (a : Result Metadata Refusal) (x y : Buffers) → (get_reply a x).answer ≡ (get_reply a y).answer
+get-answer (Err n) x y = refl
+get-answer (Ok m) x y = refl
 
-list-buffers : (a : ListAnswer) (b : Bytes) → (list_reply a b).buffers ≡ buffers b []
-list-buffers (list.Refused n) b = refl
-list-buffers (list.Written k) b = refl
+list-buffers : (a : Result Counts Refusal) (b : Bytes) → (list_reply a b).buffers ≡ buffers b []
+list-buffers (Err n) b = refl
+list-buffers (Ok k) b = refl
 
-list-result : (a : ListAnswer) (b c : Bytes) → (list_reply a b).result ≡ (list_reply a c).result
-list-result (list.Refused n) b c = refl
-list-result (list.Written k) b c = refl
+list-result : (a : Result Counts Refusal) (b c : Bytes) → (list_reply a b).result ≡ (list_reply a c).result
+list-result (Err n) b c = refl
+list-result (Ok k) b c = refl
 
-list-answer : (a : ListAnswer) (b c : Bytes) → (list_reply a b).answer ≡ (list_reply a c).answer
-list-answer (list.Refused n) b c = refl
-list-answer (list.Written k) b c = refl
+list-answer : (a : Result Counts Refusal) (b c : Bytes) → (list_reply a b).answer ≡ (list_reply a c).answer
+list-answer (Err n) b c = refl
+list-answer (Ok k) b c = refl
 
-done-buffers : (a : DoneAnswer) → (done_reply a).buffers ≡ no_buffers
-done-buffers (done.Refused n) = refl
-done-buffers done.Done = refl
+done-buffers : (a : Result (Unit {0}) Refusal) → (done_reply a).buffers ≡ no_buffers
+done-buffers (Err n) = refl
+done-buffers (Ok u) = refl
 
-initiate-buffers : (a : InitiateAnswer) → (initiate_reply a).buffers ≡ no_buffers
-initiate-buffers (initiate.Refused n) = refl
-initiate-buffers (initiate.Opened u) = refl
+initiate-buffers : (a : Result UploadNumber Refusal) → (initiate_reply a).buffers ≡ no_buffers
+initiate-buffers (Err n) = refl
+initiate-buffers (Ok u) = refl
 
-part-buffers : (a : PartAnswer) → (part_reply a).buffers ≡ no_buffers
-part-buffers (part.Refused n) = refl
-part-buffers (part.Stored e) = refl
+part-buffers : (a : Result Etag Refusal) → (part_reply a).buffers ≡ no_buffers
+part-buffers (Err n) = refl
+part-buffers (Ok e) = refl
 
 -- Lines ----------------------------------------------------------------------------------------------------------------------
 
@@ -178,7 +137,7 @@ module _ {x : Option Entry} {m m' : Memory} (b p b' p' o o' : Bytes) (n : ℕ) (
   }
 
 module _ {x : Option Entry} {m m' : Memory} (b p o o' : Bytes) (n : ℕ) where
-  pub line-done : (a : DoneAnswer) → n ≡ (done_reply a).result → o' ≡ reply_after (done_reply a) o → ReplayedAlone x m (done_reply a) m' → LineDone x (buffers b p) m o n (buffers b p) o' m'
+  pub line-done : (a : Result (Unit {0}) Refusal) → n ≡ (done_reply a).result → o' ≡ reply_after (done_reply a) o → ReplayedAlone x m (done_reply a) m' → LineDone x (buffers b p) m o n (buffers b p) o' m'
   line-done a n-is o_is r = record {
     form = λ e q. record {
       reply = done_reply a;
@@ -200,13 +159,13 @@ module _ {x : Option Entry} {m m' : Memory} (b p o o' : Bytes) (n : ℕ) where
     alone : (r : Reply) → r.buffers ≡ no_buffers → n ≡ r.result → o' ≡ reply_over r.answer o → ReplayedAlone x m r m' → LineDone x (buffers b p) m o n (buffers b p) o' m'
     alone r own n-is o_is d = telling-line b p b p o o' n tells no_buffers r n-is o_is (ap (λ (z : Buffers). written z (buffers b p)) (sym own)) (λ _. refl) (d b p)
 
-    pub line-opened : (a : InitiateAnswer) → n ≡ (initiate_reply a).result → o' ≡ reply_over (initiate_reply a).answer o → ReplayedAlone x m (initiate_reply a) m' → LineDone x (buffers b p) m o n (buffers b p) o' m'
+    pub line-opened : (a : Result UploadNumber Refusal) → n ≡ (initiate_reply a).result → o' ≡ reply_over (initiate_reply a).answer o → ReplayedAlone x m (initiate_reply a) m' → LineDone x (buffers b p) m o n (buffers b p) o' m'
     line-opened a n-is o_is d = alone (initiate_reply a) (initiate-buffers a) n-is o_is d
 
-    pub line-stored : (a : PartAnswer) → n ≡ (part_reply a).result → o' ≡ reply_over (part_reply a).answer o → ReplayedAlone x m (part_reply a) m' → LineDone x (buffers b p) m o n (buffers b p) o' m'
+    pub line-stored : (a : Result Etag Refusal) → n ≡ (part_reply a).result → o' ≡ reply_over (part_reply a).answer o → ReplayedAlone x m (part_reply a) m' → LineDone x (buffers b p) m o n (buffers b p) o' m'
     line-stored a n-is o_is d = alone (part_reply a) (part-buffers a) n-is o_is d
 
-    pub line-got : (a : GetAnswer) (b' p' : Bytes) → n ≡ (get_reply a no_buffers).result → o' ≡ reply_over (get_reply a no_buffers).answer o → length b' ≡ length b → length p' ≡ length p
+    pub line-got : (a : Result Metadata Refusal) (b' p' : Bytes) → n ≡ (get_reply a no_buffers).result → o' ≡ reply_over (get_reply a no_buffers).answer o → length b' ≡ length b → length p' ≡ length p
         → Replayed x b p (buffers b p) m (get_reply a (buffers b' p')) m' → LineDone x (buffers b p) m o n (buffers b' p') o' m'
     line-got a b' p' n-is o_is s t d =
         telling-line b p b' p' o o' n tells (buffers b p) (get_reply a (buffers b' p')) (n-is ∙ get-result a no_buffers (buffers b' p')) (o_is ∙ ap (λ (y : Answer). reply_over y o) (get-answer a no_buffers (buffers b' p')))
@@ -214,7 +173,7 @@ module _ {x : Option Entry} {m m' : Memory} (b p o o' : Bytes) (n : ℕ) where
         (λ e. sym (get-buffers a (buffers b' p')) ∙ e)
         d
 
-    pub line-head : (a : GetAnswer) (p' : Bytes) → n ≡ (get_reply a no_buffers).result → o' ≡ reply_over (get_reply a no_buffers).answer o → length p' ≡ length p
+    pub line-head : (a : Result Metadata Refusal) (p' : Bytes) → n ≡ (get_reply a no_buffers).result → o' ≡ reply_over (get_reply a no_buffers).answer o → length p' ≡ length p
         → Replayed x b p (buffers [] p) m (get_reply a (buffers [] p')) m' → LineDone x (buffers b p) m o n (buffers b p') o' m'
     line-head a p' n-is o_is t d =
         telling-line b p b p' o o' n tells (buffers [] p) (get_reply a (buffers [] p')) (n-is ∙ get-result a no_buffers (buffers [] p')) (o_is ∙ ap (λ (y : Answer). reply_over y o) (get-answer a no_buffers (buffers [] p')))
@@ -222,7 +181,7 @@ module _ {x : Option Entry} {m m' : Memory} (b p o o' : Bytes) (n : ℕ) where
         (λ e. ap (λ (z : Buffers). buffers b z.pairs) (sym (get-buffers a (buffers [] p')) ∙ e))
         d
 
-    pub line-listed : (a : ListAnswer) (b' : Bytes) → n ≡ (list_reply a []).result → o' ≡ reply_over (list_reply a []).answer o → length b' ≡ length b
+    pub line-listed : (a : Result Counts Refusal) (b' : Bytes) → n ≡ (list_reply a []).result → o' ≡ reply_over (list_reply a []).answer o → length b' ≡ length b
         → Replayed x b p (buffers b []) m (list_reply a b') m' → LineDone x (buffers b p) m o n (buffers b' p) o' m'
     line-listed a b' n-is o_is s d =
         telling-line b p b' p o o' n tells (buffers b []) (list_reply a b') (n-is ∙ list-result a [] b') (o_is ∙ ap (λ (y : Answer). reply_over y o) (list-answer a [] b'))

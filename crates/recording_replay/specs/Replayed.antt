@@ -1,5 +1,5 @@
 -- What the replay of a line promises. Assumes nothing.
-use Rattle.std.specs.Prelude.{ℕ, ◌≡◌, Bool, ◌||◌, eqb, length}
+use Rattle.std.specs.Prelude.{ℕ, ◌≡◌, length}
 use Rattle.std.proofs.Math.Option.{Option, none, some}
 use Rattle.machine.specs.Names.{Bytes}
 use Rattle.machine.specs.Calls.{Call, Buffers, Reply}
@@ -28,14 +28,3 @@ pub record LineDone (e : Option Entry) (b : Buffers) (m : Memory) (o : Bytes) (n
 pub record LineReplayed (l : Bytes) (b : Buffers) (m : Memory) (o : Bytes) (n : ℕ) (b' : Buffers) (o' : Bytes) (m' : Memory) : Type 0 where
   pub done : length o ≡ reply_length → LineDone (entry_of l) b m o n b' o' m'
   pub another : (length o ≡ reply_length → ⊥) → (n ≡ 1) × (b' ≡ b) × (o' ≡ o) × (m' ≡ m)
-
--- the verbs by their index: those that answer their number alone (put, delete, copy, commit, abort), those of an upload that answer more
--- (initiate, part), and those that change nothing (get, head, list, uploads)
-unfoldable pub changing : ℕ → Bool
-changing v = eqb v 0 || (eqb v 3 || (eqb v 4 || (eqb v 8 || eqb v 9)))
-
-unfoldable pub sending : ℕ → Bool
-sending v = eqb v 6 || eqb v 7
-
-unfoldable pub looking : ℕ → Bool
-looking v = eqb v 1 || (eqb v 2 || (eqb v 5 || eqb v 10))

@@ -9,6 +9,7 @@ ghost use Rattle.recording.specs.Parse.{entry_of};
 ghost use Rattle.recording_split.specs.Held.{Holds};
 ghost use Rattle.recording_run.specs.Run.{Store, LineRun, PieceRun, InputRun};
 
+use call_types::Refusal;
 use recording_split::LineStep;
 
 // The line of which the buffer `line` holds `held` bytes, as the splitter leaves them: it is replayed, and its result answered.
@@ -27,7 +28,7 @@ pub fn held_line(
         → LineRun A size s (entry_of l) result (memory tables.new arena.new)) × (result < 10) }
 {
     if 4096 < held {
-        return recording_line::refusal(tables, arena, recording_line::NOT_A_LINE) as u32;
+        return c_reply::done(Err(recording_line::refusal(tables, arena, Refusal::NotALine)));
     }
     let mut reply = [0u8; 48];
     recording_replay::replay_line(tables, arena, &line[..held], answer, pairs, &mut reply)

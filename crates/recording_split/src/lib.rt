@@ -36,8 +36,7 @@ pub fn next_line(s: &[u8], at: usize, line: &mut [u8], held: usize) -> LineStep
         × Within (length s.now) at (length line.old) result }
 {
     let mut n = held;
-    let mut i = at;
-    while i < s.len() {
+    for i in at..s.len() {
         let b = s[i];
         if b == 10 {
             return LineStep::Line {
@@ -46,7 +45,6 @@ pub fn next_line(s: &[u8], at: usize, line: &mut [u8], held: usize) -> LineStep
             };
         }
         n = keep(line, n, b);
-        i += 1;
     }
     LineStep::More { held: n }
 }

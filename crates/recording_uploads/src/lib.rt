@@ -7,12 +7,15 @@ ghost use Rattle.call_contract.specs.Made.{memory};
 ghost use Rattle.recording.specs.Parse.{initiate_rest, part_rest, commit_rest, abort_rest, whole};
 ghost use Rattle.recording_line.specs.Replayed.{ReplayedAlone};
 
-use call_types::{DoneAnswer, InitiateAnswer, PartAnswer, PartNumber, Stamp, UploadNumber};
-use recording_arguments::{CommitRead, InitiateRead, PartRead};
-use recording_read::NumberRead;
+use call_types::{Etag, PartNumber, Refusal, Stamp, UploadNumber};
 
 // The rest of a line that begins with "(initiate", which ends at `at`.
-pub fn initiate_line(tables: &mut [u8], arena: &mut [u8], line: &[u8], at: usize) -> InitiateAnswer
+pub fn initiate_line(
+    tables: &mut [u8],
+    arena: &mut [u8],
+    line: &[u8],
+    at: usize,
+) -> Result<UploadNumber, Refusal>
     requires { length line.now ≤ 4096 }
     ensures { ReplayedAlone (whole (initiate_rest (drop at line.now)))
         (memory tables.old arena.old)
@@ -21,31 +24,26 @@ pub fn initiate_line(tables: &mut [u8], arena: &mut [u8], line: &[u8], at: usize
 {
     let mut p = [0u8; 2048];
     let mut m = [0u8; 2048];
-    let InitiateRead::Got {
-        stamp,
-        path,
-        pairs,
-        next,
-    } = recording_arguments::read_initiate(line, at, &mut p, &mut m)
-    else {
-        return InitiateAnswer::Refused(recording_line::refusal(
-            tables,
-            arena,
-            recording_line::NOT_A_LINE,
-        ));
+    let read = recording_arguments::read_initiate(line, at, &mut p, &mut m);
+    let Some(initiate) = recording_read::closed(line, read) else {
+        return Err(recording_line::refusal(tables, arena, Refusal::NotALine));
     };
-    if !recording_read::ends_line(line, next) {
-        return InitiateAnswer::Refused(recording_line::refusal(
-            tables,
-            arena,
-            recording_line::NOT_A_LINE,
-        ));
-    }
-    call_initiate::initiate(tables, arena, Stamp(stamp), &p[..path], &m[..pairs])
+    call_initiate::initiate(
+        tables,
+        arena,
+        Stamp(initiate.stamp),
+        &p[..initiate.path],
+        &m[..initiate.pairs],
+    )
 }
 
 // The rest of a line that begins with "(part", which ends at `at`.
-pub fn part_line(tables: &mut [u8], arena: &mut [u8], line: &[u8], at: usize) -> PartAnswer
+pub fn part_line(
+    tables: &mut [u8],
+    arena: &mut [u8],
+    line: &[u8],
+    at: usize,
+) -> Result<Etag, Refusal>
     requires { length line.now ≤ 4096 }
     ensures { ReplayedAlone (whole (part_rest (drop at line.now)))
         (memory tables.old arena.old)
@@ -53,43 +51,32 @@ pub fn part_line(tables: &mut [u8], arena: &mut [u8], line: &[u8], at: usize) ->
         (memory tables.new arena.new) }
 {
     let mut d = [0u8; 2048];
-    let PartRead::Got {
-        upload,
-        number,
-        content,
-        next,
-    } = recording_arguments::read_part(line, at, &mut d)
-    else {
-        return PartAnswer::Refused(recording_line::refusal(
-            tables,
-            arena,
-            recording_line::NOT_A_LINE,
-        ));
+    let read = recording_arguments::read_part(line, at, &mut d);
+    let Some(part) = recording_read::closed(line, read) else {
+        return Err(recording_line::refusal(tables, arena, Refusal::NotALine));
     };
-    if !recording_read::ends_line(line, next) {
-        return PartAnswer::Refused(recording_line::refusal(
-            tables,
-            arena,
-            recording_line::NOT_A_LINE,
-        ));
-    }
-    if 4294967295 < upload {
-        return PartAnswer::Refused(recording_line::refusal(tables, arena, call_types::BAD_REQUEST));
-    }
-    if 65535 < number {
-        return PartAnswer::Refused(recording_line::refusal(tables, arena, call_types::BAD_REQUEST));
-    }
+    let Ok(upload) = u32::try_from(part.upload) else {
+        return Err(recording_line::refusal(tables, arena, Refusal::BadRequest));
+    };
+    let Ok(number) = u16::try_from(part.number) else {
+        return Err(recording_line::refusal(tables, arena, Refusal::BadRequest));
+    };
     call_part::part(
         tables,
         arena,
-        UploadNumber(upload as u32),
-        PartNumber(number as u16),
-        &d[..content],
+        UploadNumber(upload),
+        PartNumber(number),
+        &d[..part.content],
     )
 }
 
 // The rest of a line that begins with "(commit", which ends at `at`.
-pub fn commit_line(tables: &mut [u8], arena: &mut [u8], line: &[u8], at: usize) -> DoneAnswer
+pub fn commit_line(
+    tables: &mut [u8],
+    arena: &mut [u8],
+    line: &[u8],
+    at: usize,
+) -> Result<(), Refusal>
     requires { length line.now ≤ 4096 }
     ensures { ReplayedAlone (whole (commit_rest (drop at line.now)))
         (memory tables.old arena.old)
@@ -97,51 +84,34 @@ pub fn commit_line(tables: &mut [u8], arena: &mut [u8], line: &[u8], at: usize) 
         (memory tables.new arena.new) }
 {
     let mut parts = [0u8; 4096];
-    let CommitRead::Got { upload, list, next } = recording_arguments::read_commit(
-        line, at, &mut parts,
-    ) else {
-        return DoneAnswer::Refused(recording_line::refusal(
-            tables,
-            arena,
-            recording_line::NOT_A_LINE,
-        ));
+    let read = recording_arguments::read_commit(line, at, &mut parts);
+    let Some(commit) = recording_read::closed(line, read) else {
+        return Err(recording_line::refusal(tables, arena, Refusal::NotALine));
     };
-    if !recording_read::ends_line(line, next) {
-        return DoneAnswer::Refused(recording_line::refusal(
-            tables,
-            arena,
-            recording_line::NOT_A_LINE,
-        ));
-    }
-    if 4294967295 < upload {
-        return DoneAnswer::Refused(recording_line::refusal(tables, arena, call_types::BAD_REQUEST));
-    }
-    call_commit::commit(tables, arena, UploadNumber(upload as u32), &parts[..list])
+    let Ok(upload) = u32::try_from(commit.upload) else {
+        return Err(recording_line::refusal(tables, arena, Refusal::BadRequest));
+    };
+    call_commit::commit(tables, arena, UploadNumber(upload), &parts[..commit.list])
 }
 
 // The rest of a line that begins with "(abort", which ends at `at`.
-pub fn abort_line(tables: &mut [u8], arena: &mut [u8], line: &[u8], at: usize) -> DoneAnswer
+pub fn abort_line(
+    tables: &mut [u8],
+    arena: &mut [u8],
+    line: &[u8],
+    at: usize,
+) -> Result<(), Refusal>
     ensures { ReplayedAlone (whole (abort_rest (drop at line.now)))
         (memory tables.old arena.old)
         (done_reply result)
         (memory tables.new arena.new) }
 {
-    let NumberRead::Got { value, next } = recording_read::number_field(line, at) else {
-        return DoneAnswer::Refused(recording_line::refusal(
-            tables,
-            arena,
-            recording_line::NOT_A_LINE,
-        ));
+    let read = recording_read::number_field(line, at);
+    let Some(abort) = recording_read::closed(line, read) else {
+        return Err(recording_line::refusal(tables, arena, Refusal::NotALine));
     };
-    if !recording_read::ends_line(line, next) {
-        return DoneAnswer::Refused(recording_line::refusal(
-            tables,
-            arena,
-            recording_line::NOT_A_LINE,
-        ));
-    }
-    if 4294967295 < value {
-        return DoneAnswer::Refused(recording_line::refusal(tables, arena, call_types::BAD_REQUEST));
-    }
-    call_abort::abort(tables, arena, UploadNumber(value as u32))
+    let Ok(upload) = u32::try_from(abort) else {
+        return Err(recording_line::refusal(tables, arena, Refusal::BadRequest));
+    };
+    call_abort::abort(tables, arena, UploadNumber(upload))
 }

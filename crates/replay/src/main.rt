@@ -7,32 +7,11 @@ ghost use Rattle.std.specs.Prelude.{◌≡◌, ◌*◌, ◌≤◌, length, IfOk}
 use std::io;
 use std::io::Read;
 
-// Tables. The contract spares the caller's proof the length of the list, which is too long to compute.
-fn tables_room() -> [u8; 58194]
-    ensures { length result ≡ 58194 }
+// So many bytes. The contract spares the caller's proof the length of the list, which is too long to compute.
+fn room<const N: usize>() -> [u8; N]
+    ensures { length result ≡ N }
 {
-    [0u8; 58194]
-}
-
-// An arena, an answer buffer, and the results of a piece of the input.
-fn large_room() -> [u8; 65536]
-    ensures { length result ≡ 65536 }
-{
-    [0u8; 65536]
-}
-
-// The front of a line.
-fn line_room() -> [u8; 4096]
-    ensures { length result ≡ 4096 }
-{
-    [0u8; 4096]
-}
-
-// A piece of the input: the results of its lines, two bytes each, have room in 65,536 bytes.
-fn piece_room() -> [u8; 32768]
-    ensures { length result ≡ 32768 }
-{
-    [0u8; 32768]
+    [0u8; N]
 }
 
 // The lines that a piece finishes, each replayed, and their results printed. Answers how much of the next line is held.
@@ -112,14 +91,15 @@ fn each_piece(
 }
 
 fn main(rt: HostRuntime) -> io::Result<()> {
-    let mut tables = tables_room();
-    let mut arena = large_room();
-    let mut answer = large_room();
-    let mut pairs = large_room();
-    let mut line = line_room();
-    let mut piece = piece_room();
-    let mut out = large_room();
-    call_fresh::fresh(&mut tables, &mut arena);
+    let mut tables = room::<58194>();
+    let mut arena = room::<65536>();
+    let mut answer = room::<65536>();
+    let mut pairs = room::<65536>();
+    let mut line = room::<4096>();
+    // the results of a piece's lines, two bytes each, have room in `out`
+    let mut piece = room::<32768>();
+    let mut out = room::<65536>();
+    let _ = call_fresh::fresh(&mut tables, &mut arena);
     each_piece(
         &rt,
         &mut tables,

@@ -6,8 +6,9 @@ use Rattle.machine.specs.Names.{Bytes}
 use Rattle.machine.specs.Calls.{Buffers}
 use Rattle.machine.specs.Lists.{Trace}
 use Rattle.call_contract.specs.Made.{Memory, fresh_result, MadeFresh}
-use Rattle.store_history.specs.declared.batch.BatchAnswer.{BatchAnswer}
-use Rattle.store_history.specs.declared.batch.BatchAnswer.TheVariants as answer
+use Rattle.std.specs.Prelude.{Result, Ok, Err}
+use Rattle.call_types.specs.declared.Refusal.{Refusal}
+use Rattle.store_history.specs.declared.batch.Batch.{Batch}
 use Rattle.store_history.specs.Runs.{Run}
 use Rattle.store_history.specs.Demand3.{Demand3}
 use Rattle.store_history.specs.Batch.{Ran, Concluded}
@@ -18,7 +19,7 @@ conclude m m₀ m' n t made z run =
     demand3 (length m.arena) t m' (record { lent = m; start = m₀; arena = refl; fresh = subst (λ (k : ℕ). MadeFresh m k m₀) z made; run = run })
 
 -- the list runs wherever FRESH accepts
-pub accepted-runs : (m : Memory) (stamp : ℕ) (path pairs one two : Bytes) (early late : Buffers) (a : BatchAnswer) (early' late' : Buffers) (m' : Memory)
+pub accepted-runs : (m : Memory) (stamp : ℕ) (path pairs one two : Bytes) (early late : Buffers) (a : Result Batch Refusal) (early' late' : Buffers) (m' : Memory)
     → fresh_result m ≡ 0 → Concluded m stamp path pairs one two early late a early' late' m' → Ran a
-accepted-runs m stamp path pairs one two early late (answer.Refused n) early' late' m' z h = absurd (h.0 (h.1 ∙ z))
-accepted-runs m stamp path pairs one two early late (answer.Ran b) early' late' m' z h = tt
+accepted-runs m stamp path pairs one two early late (Err r) early' late' m' z h = absurd (h.0 (h.1 ∙ z))
+accepted-runs m stamp path pairs one two early late (Ok b) early' late' m' z h = tt

@@ -1,14 +1,14 @@
 -- A caller's list of calls, with what they answered, and what demand 3 says of it. Assumes nothing.
-use Rattle.std.specs.Prelude.{ℕ, ◌≡◌, [], ◌∷◌, length}
+use Rattle.std.specs.Prelude.{ℕ, ◌≡◌, [], ◌∷◌, length, Result, Ok, Err}
 use Rattle.machine.specs.Names.{Bytes}
 use Rattle.machine.specs.Pairs.{pair_list}
 use Rattle.machine.specs.Calls.{GET, INITIATE, PART, COMMIT, Buffers}
 use Rattle.machine.specs.Lists.{Trace}
+use Rattle.call_types.specs.declared.Refusal.{Refusal}
+use Rattle.call_types.specs.Numbers.{number_of}
 use Rattle.call_contract.specs.Answers.{done_reply, get_reply, part_reply, initiate_reply}
 use Rattle.call_contract.specs.Made.{Memory, fresh_result}
 use Rattle.store_history.specs.declared.batch.Batch.{Batch}
-use Rattle.store_history.specs.declared.batch.BatchAnswer.{BatchAnswer}
-use Rattle.store_history.specs.declared.batch.BatchAnswer.TheVariants as answer
 use Rattle.store_history.specs.Demand3.{Demand3}
 
 -- INITIATE, two PARTs, GET, COMMIT of part 2 before part 1, GET; the answer buffers of each GET before and after it
@@ -23,11 +23,11 @@ batch_trace stamp path pairs one two early late b early' late' =
     ∷ []
 
 -- FRESH refused by a number that is not 0, and nothing changed; or the list ran as demand 3 says
-abbrev pub Concluded : (m : Memory) (stamp : ℕ) (path pairs one two : Bytes) (early late : Buffers) → BatchAnswer → (early' late' : Buffers) → (m' : Memory) → Type 0
-Concluded m stamp path pairs one two early late (answer.Refused n) early' late' m' = (n ≡ 0 → ⊥) × (n ≡ fresh_result m) × (m' ≡ m) × (early' ≡ early) × (late' ≡ late)
-Concluded m stamp path pairs one two early late (answer.Ran b) early' late' m' = Demand3 (length m.arena) (batch_trace stamp path pairs one two early late b early' late') m'
+abbrev pub Concluded : (m : Memory) (stamp : ℕ) (path pairs one two : Bytes) (early late : Buffers) → Result Batch Refusal → (early' late' : Buffers) → (m' : Memory) → Type 0
+Concluded m stamp path pairs one two early late (Err r) early' late' m' = (number_of r ≡ 0 → ⊥) × (number_of r ≡ fresh_result m) × (m' ≡ m) × (early' ≡ early) × (late' ≡ late)
+Concluded m stamp path pairs one two early late (Ok b) early' late' m' = Demand3 (length m.arena) (batch_trace stamp path pairs one two early late b early' late') m'
 
 -- the answer is that of a list that ran
-abbrev pub Ran : BatchAnswer → Type 0
-Ran (answer.Refused n) = ⊥
-Ran (answer.Ran b) = Unit {0}
+abbrev pub Ran : Result Batch Refusal → Type 0
+Ran (Err r) = ⊥
+Ran (Ok b) = Unit {0}

@@ -4,19 +4,17 @@ ghost use Rattle.call_contract.specs.Made.{memory};
 ghost use Rattle.store_history.specs.Runs.{Run};
 ghost use Rattle.store_history.specs.Batch.{batch_trace, Concluded};
 
-use call_types::{
-    DoneAnswer, GetAnswer, InitiateAnswer, PartAnswer, PartNumber, Stamp, UploadNumber,
-};
+use call_types::{Etag, Metadata, PartNumber, Refusal, Stamp, UploadNumber};
 
 // What the calls answered.
 #[derive(Clone, Copy)]
 pub struct Batch {
-    pub opened: InitiateAnswer,
-    pub first: PartAnswer,
-    pub second: PartAnswer,
-    pub early: GetAnswer,
-    pub committed: DoneAnswer,
-    pub late: GetAnswer,
+    pub opened: Result<UploadNumber, Refusal>,
+    pub first: Result<Etag, Refusal>,
+    pub second: Result<Etag, Refusal>,
+    pub early: Result<Metadata, Refusal>,
+    pub committed: Result<(), Refusal>,
+    pub late: Result<Metadata, Refusal>,
 }
 
 // Two weighings as parts 1 and 2 of a record with pairs, with a look at it before and after the commit, which lists part 2
@@ -61,14 +59,7 @@ fn weigh(
     }
 }
 
-// What came of a batch: FRESH's refusal, or the answers.
-#[derive(Clone, Copy)]
-pub enum BatchAnswer {
-    Refused(u8),
-    Ran(Batch),
-}
-
-// FRESH, then the batch.
+// FRESH, then the batch: FRESH's refusal, or what the calls answered.
 pub fn fresh_batch(
     tables: &mut [u8],
     arena: &mut [u8],
@@ -81,7 +72,7 @@ pub fn fresh_batch(
     early_pairs: &mut [u8],
     late: &mut [u8],
     late_pairs: &mut [u8],
-) -> BatchAnswer
+) -> Result<Batch, Refusal>
     ensures { Concluded (memory tables.old arena.old)
         stamp.0 path.now pairs.now one.now two.now
         (buffers early.old early_pairs.old)
@@ -91,10 +82,7 @@ pub fn fresh_batch(
         (buffers late.new late_pairs.new)
         (memory tables.new arena.new) }
 {
-    let n = store::fresh(tables, arena);
-    if n != 0 {
-        return BatchAnswer::Refused(n);
-    }
+    store::fresh(tables, arena)?;
     let batch = weigh(
         tables,
         arena,
@@ -108,5 +96,5 @@ pub fn fresh_batch(
         late,
         late_pairs,
     );
-    BatchAnswer::Ran(batch)
+    Ok(batch)
 }

@@ -1,118 +1,111 @@
 // What a call answered, printed after its line.
 use crate::words::front_len;
 use base_md5::words::Digest;
-use call_types::{
-    Counts, DoneAnswer, Etag, GetAnswer, InitiateAnswer, ListAnswer, Metadata, PartAnswer, Sweep,
-    SweepAnswer,
-};
-use std::io;
+use call_types::{Counts, Etag, Metadata, Refusal, Stamp, Sweep, UploadNumber};
+use std::{fmt, io};
 
 // Bytes that need not be text.
 pub fn print(rt: &impl Print, bytes: &[u8]) -> io::Result<()> {
     rt.write_all(bytes)
 }
 
-fn print_number(rt: &impl Print, name: &[u8], n: u64) -> io::Result<()> {
-    print(rt, name)?;
-    rt.print(n)
+// What an answer tells, to be printed after the number 0.
+#[derive(Clone, Copy)]
+pub struct Told<T>(pub T);
+
+// What GET and HEAD tell; the counts of pairs where they are asked for.
+#[derive(Clone, Copy)]
+pub struct Found {
+    pub metadata: Metadata,
+    pub paired: bool,
 }
 
-pub fn print_result(rt: &impl Print, n: u8) -> io::Result<()> {
-    print_number(rt, b": ", n as u64)
+// The digest's bytes in hexadecimal: each word has its low byte first.
+impl fmt::Display for Told<Digest> {
+    fn fmt<W: fmt::Write>(&self, f: &mut fmt::Formatter<W>) -> fmt::Result {
+        let Digest { a, b, c, d } = self.0;
+        for word in [a, b, c, d] {
+            write!(f, "{:08x}", word.swap_bytes())?;
+        }
+        Ok(())
+    }
 }
 
-fn print_digest(rt: &impl Print, d: Digest) -> io::Result<()> {
-    let mut text = [0u8; 32];
-    base_text::put_digest(&mut text, 0, d.a, d.b, d.c, d.d);
-    print(rt, &text)
+// Nothing but the 0.
+impl fmt::Display for Told<()> {
+    fn fmt<W: fmt::Write>(&self, _f: &mut fmt::Formatter<W>) -> fmt::Result {
+        Ok(())
+    }
 }
 
-fn print_etag(rt: &impl Print, name: &[u8], e: Etag) -> io::Result<()> {
-    print(rt, name)?;
-    match e {
-        Etag::Absent => print(rt, b"absent"),
-        Etag::Plain(d) => print_digest(rt, d),
-        Etag::Joined(d, n) => {
-            print_digest(rt, d)?;
-            print_number(rt, b"-", n as u64)
+// GET and HEAD.
+impl fmt::Display for Told<Found> {
+    fn fmt<W: fmt::Write>(&self, f: &mut fmt::Formatter<W>) -> fmt::Result {
+        let Found { metadata, paired } = self.0;
+        let Stamp(created) = metadata.created;
+        write!(
+            f,
+            ", length {}, created {created}{}",
+            metadata.length,
+            Told(metadata.etag)
+        )?;
+        if paired {
+            write!(f, ", pairs {}, bytes {}", metadata.pairs, metadata.bytes)?;
+        }
+        Ok(())
+    }
+}
+
+// PART.
+impl fmt::Display for Told<Etag> {
+    fn fmt<W: fmt::Write>(&self, f: &mut fmt::Formatter<W>) -> fmt::Result {
+        match self.0 {
+            Etag::Absent => f.write_str(", etag absent"),
+            Etag::Plain(digest) => write!(f, ", etag {}", Told(digest)),
+            Etag::Joined(digest, n) => write!(f, ", etag {}-{n}", Told(digest)),
         }
     }
 }
 
-// The metadata; the counts of pairs where they are asked for.
-fn print_metadata(rt: &impl Print, m: Metadata, pairs: bool) -> io::Result<()> {
-    print_number(rt, b": 0, length ", m.length as u64)?;
-    let created = m.created;
-    print_number(rt, b", created ", created.0)?;
-    let e = m.etag;
-    print_etag(rt, b", etag ", e)?;
-    if pairs {
-        print_number(rt, b", pairs ", m.pairs as u64)?;
-        print_number(rt, b", bytes ", m.bytes as u64)?;
+// INITIATE.
+impl fmt::Display for Told<UploadNumber> {
+    fn fmt<W: fmt::Write>(&self, f: &mut fmt::Formatter<W>) -> fmt::Result {
+        let UploadNumber(number) = self.0;
+        write!(f, ", upload {number}")
     }
-    Ok(())
 }
 
-fn print_counts(rt: &impl Print, c: Counts) -> io::Result<()> {
-    print_number(rt, b": 0, records ", c.records as u64)?;
-    print_number(rt, b", bytes ", c.bytes as u64)
+// LIST and UPLOADS.
+impl fmt::Display for Told<Counts> {
+    fn fmt<W: fmt::Write>(&self, f: &mut fmt::Formatter<W>) -> fmt::Result {
+        let Counts { records, bytes } = self.0;
+        write!(f, ", records {records}, bytes {bytes}")
+    }
 }
 
-pub fn print_done(rt: &impl Print, a: DoneAnswer) -> io::Result<()> {
+// SWEEP.
+impl fmt::Display for Told<Sweep> {
+    fn fmt<W: fmt::Write>(&self, f: &mut fmt::Formatter<W>) -> fmt::Result {
+        let Sweep { count, more } = self.0;
+        write!(f, ", swept {count}, more {}", u8::from(more))
+    }
+}
+
+// 0 and what the answer tells, or the refusal's number.
+pub fn print_answer<T: Copy>(rt: &impl Print, a: Result<T, Refusal>) -> io::Result<()>
+where
+    Told<T>: fmt::Display,
+{
     match a {
-        DoneAnswer::Refused(n) => print_result(rt, n),
-        DoneAnswer::Done => print_result(rt, 0),
-    }
-}
-
-pub fn print_found(rt: &impl Print, a: GetAnswer, pairs: bool) -> io::Result<()> {
-    match a {
-        GetAnswer::Refused(n) => print_result(rt, n),
-        GetAnswer::Found(m) => print_metadata(rt, m, pairs),
-    }
-}
-
-pub fn print_stored(rt: &impl Print, a: PartAnswer) -> io::Result<()> {
-    match a {
-        PartAnswer::Refused(n) => print_result(rt, n),
-        PartAnswer::Stored(e) => print_etag(rt, b": 0, etag ", e),
-    }
-}
-
-pub fn print_opened(rt: &impl Print, a: InitiateAnswer) -> io::Result<()> {
-    match a {
-        InitiateAnswer::Refused(n) => print_result(rt, n),
-        InitiateAnswer::Opened(u) => print_number(rt, b": 0, upload ", u.0 as u64),
-    }
-}
-
-pub fn print_written(rt: &impl Print, a: ListAnswer) -> io::Result<()> {
-    match a {
-        ListAnswer::Refused(n) => print_result(rt, n),
-        ListAnswer::Written(c) => print_counts(rt, c),
-    }
-}
-
-fn print_sweep(rt: &impl Print, s: Sweep) -> io::Result<()> {
-    print_number(rt, b": 0, swept ", s.count as u64)?;
-    if s.more {
-        print(rt, b", more 1")
-    } else {
-        print(rt, b", more 0")
-    }
-}
-
-pub fn print_swept(rt: &impl Print, a: SweepAnswer) -> io::Result<()> {
-    match a {
-        SweepAnswer::Refused(n) => print_result(rt, n),
-        SweepAnswer::Swept(s) => print_sweep(rt, s),
+        Ok(told) => print!(rt; ": 0{}", Told(told)),
+        Err(refusal) => print!(rt; ": {}", u8::from(refusal)),
     }
 }
 
 // Each byte in decimal.
 fn print_each(rt: &impl Print, bytes: &[u8]) -> io::Result<()> {
-    for i in 0..bytes.len() {
-        print_number(rt, b" ", base_number::wide(bytes[i]) as u64)?;
+    for b in bytes {
+        print!(rt; " {b}")?;
     }
     Ok(())
 }

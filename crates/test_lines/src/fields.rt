@@ -2,27 +2,26 @@
 ghost use Rattle.std.specs.Prelude.{◌+◌, ◌≤◌, length};
 ghost use Rattle.test_lines.specs.Counts.{IsPrefixLen};
 
-// The kinds of lists: part numbers as COMMIT takes them, 16 bits each; places as DELETE_OBJECTS takes them from C, two numbers of 32 bits
-// each; pairs as PUT and INITIATE take them. The low byte of a number is first.
-pub const PART_NUMBERS: u8 = 0;
-
-pub const PLACES: u8 = 1;
-
-pub const PAIRS: u8 = 2;
+// What a list has: part numbers as COMMIT takes them, 16 bits each; places as DELETE_OBJECTS takes them from C, two
+// numbers of 32 bits each; pairs as PUT and INITIATE take them. The low byte of a number is first.
+#[derive(Clone, Copy)]
+pub enum Kind {
+    PartNumbers,
+    Places,
+    Pairs,
+}
 
 // The index of the first such byte, from an index on; the text's length where there is none.
 pub fn find(text: &[u8], from: usize, byte: u8) -> usize
     requires { from ≤ length text.now }
     ensures { (from ≤ result) × (result ≤ length text.now) }
 {
-    let mut i = from;
-    while i < text.len() {
+    for i in from..text.len() {
         if text[i] == byte {
             return i;
         }
-        i += 1;
     }
-    i
+    text.len()
 }
 
 // One further, where such a byte stands there.
@@ -30,10 +29,8 @@ fn skip(text: &[u8], at: usize, byte: u8) -> usize
     requires { at ≤ length text.now }
     ensures { (at ≤ result) × (result ≤ length text.now) }
 {
-    if at < text.len() {
-        if text[at] == byte {
-            return at + 1;
-        }
+    if at < text.len() && text[at] == byte {
+        return at + 1;
     }
     at
 }
@@ -61,20 +58,11 @@ pub fn field(line: &[u8], k: usize) -> &[u8] {
 // The number that the text begins with.
 fn decimal(text: &[u8]) -> u64 {
     let mut n: u64 = 0;
-    let mut i = 0;
-    while i < text.len() {
-        let digit = base_number::wide(text[i]);
-        if digit < 48 {
+    for &b in text {
+        if !b.is_ascii_digit() || 1000000000000000000 <= n {
             return n;
         }
-        if 57 < digit {
-            return n;
-        }
-        if 1000000000000000000 <= n {
-            return n;
-        }
-        n = 10 * n + (digit - 48) as u64;
-        i += 1;
+        n = 10 * n + u64::from(b - b'0');
     }
     n
 }
@@ -83,27 +71,24 @@ fn decimal(text: &[u8]) -> u64 {
 pub fn number(line: &[u8], k: usize, most: u64) -> u64
     ensures { result ≤ most }
 {
-    let n = decimal(field(line, k));
-    if most < n { most } else { n }
+    decimal(field(line, k)).min(most)
 }
 
 // A part number; 65,535, which is none, where it is more.
 pub fn part_number(text: &[u8]) -> u16 {
-    let n = decimal(text);
-    if 65535 < n { 65535 } else { n as u16 }
+    u16::try_from(decimal(text)).unwrap_or(u16::MAX)
 }
 
 // A number of 32 bits; the last of them where it is more.
 fn word(text: &[u8]) -> u32 {
-    let n = decimal(text);
-    if 4294967295 < n { 4294967295 } else { n as u32 }
+    u32::try_from(decimal(text)).unwrap_or(u32::MAX)
 }
 
 // So many, or `most` where it is more.
 fn at_most(n: u64, most: usize) -> usize
     ensures { result ≤ most }
 {
-    if (most as u64) < n { most } else { n as usize }
+    usize::try_from(n).unwrap_or(most).min(most)
 }
 
 // A place, its start and its length separated by a colon, at index n in eight bytes; or `*` and a count: so many places, as the bytes
@@ -132,13 +117,13 @@ fn put_counted(text: &[u8], out: &mut [u8], n: usize) -> usize
     ensures { result ≤ length out.old }
 {
     let m = text.len();
-    if 255 < m {
+    let Ok(size) = u8::try_from(m) else {
         return n;
-    }
+    };
     if out.len() - n <= m {
         return n;
     }
-    out[n] = m as u8;
+    out[n] = size;
     base_buffer::copy_at(out, n + 1, text);
     n + 1 + m
 }
@@ -155,27 +140,25 @@ fn put_pair(text: &[u8], out: &mut [u8], n: usize) -> usize
 }
 
 // An entry of a list, at index n. `+` is one odd byte. Answers the index after it.
-fn put_entry(text: &[u8], kind: u8, out: &mut [u8], n: usize) -> usize
+fn put_entry(text: &[u8], kind: Kind, out: &mut [u8], n: usize) -> usize
     requires { n + 8 ≤ length out.old }
     ensures { result ≤ length out.old }
 {
-    if text.len() == 1 {
-        if text[0] == b'+' {
-            return n + 1;
-        }
+    if text == b"+".as_slice() {
+        return n + 1;
     }
     match kind {
-        PLACES => put_place(text, out, n),
-        PAIRS => put_pair(text, out, n),
-        _ => {
+        Kind::PartNumbers => {
             base_number::put_u16(out, n, part_number(text));
             n + 2
         }
+        Kind::Places => put_place(text, out, n),
+        Kind::Pairs => put_pair(text, out, n),
     }
 }
 
 // A list of one of these kinds, its entries separated by commas, in bytes. Answers how many bytes it has.
-pub fn list_bytes(list: &[u8], kind: u8, out: &mut [u8]) -> usize
+pub fn list_bytes(list: &[u8], kind: Kind, out: &mut [u8]) -> usize
     ensures { IsPrefixLen result out.new }
 {
     let mut at = 0;

@@ -4,4 +4,5 @@
 
 pub mod answers;
 pub mod fields;
+pub mod room;
 pub mod words;

@@ -4,51 +4,50 @@ ghost use Rattle.test_lines.specs.Counts.{IsPrefixLen};
 
 use crate::fields::{field, number};
 
-pub const TABLES: usize = 0;
+// What a line asks for.
+#[derive(Clone, Copy, PartialEq, Eq)]
+pub enum Word {
+    Tables,
+    Arena,
+    Head,
+    Get,
+    List,
+    Uploads,
+    Delete,
+    Fresh,
+    Put,
+    Copy,
+    Initiate,
+    Part,
+    Commit,
+    Abort,
+    DeleteObjects,
+    Sweep,
+}
 
-pub const ARENA: usize = 1;
-
-pub const HEAD: usize = 2;
-
-pub const GET: usize = 3;
-
-pub const LIST: usize = 4;
-
-pub const UPLOADS: usize = 5;
-
-pub const DELETE: usize = 6;
-
-pub const FRESH: usize = 7;
-
-pub const PUT: usize = 8;
-
-pub const COPY: usize = 9;
-
-pub const INITIATE: usize = 10;
-
-pub const PART: usize = 11;
-
-pub const COMMIT: usize = 12;
-
-pub const ABORT: usize = 13;
-
-pub const DELETE_OBJECTS: usize = 14;
-
-pub const SWEEP: usize = 15;
-
-pub const OTHER: usize = 16;
-
-// Which of these words the line begins with. A line that begins with another is a comment.
-pub fn word_of(line: &[u8]) -> usize {
-    let names =
-        b"TABLES ARENA HEAD GET LIST UPLOADS DELETE FRESH PUT COPY INITIATE PART COMMIT ABORT DELETE_OBJECTS SWEEP";
-    let word = field(line, 0);
-    for k in 0..OTHER {
-        if base_order::equal(field(names, k), word) {
-            return k;
+impl Word {
+    // The word that the line begins with. A line that begins with another is a comment.
+    pub fn of(line: &[u8]) -> Option<Word> {
+        match field(line, 0) {
+            b"TABLES" => Some(Word::Tables),
+            b"ARENA" => Some(Word::Arena),
+            b"HEAD" => Some(Word::Head),
+            b"GET" => Some(Word::Get),
+            b"LIST" => Some(Word::List),
+            b"UPLOADS" => Some(Word::Uploads),
+            b"DELETE" => Some(Word::Delete),
+            b"FRESH" => Some(Word::Fresh),
+            b"PUT" => Some(Word::Put),
+            b"COPY" => Some(Word::Copy),
+            b"INITIATE" => Some(Word::Initiate),
+            b"PART" => Some(Word::Part),
+            b"COMMIT" => Some(Word::Commit),
+            b"ABORT" => Some(Word::Abort),
+            b"DELETE_OBJECTS" => Some(Word::DeleteObjects),
+            b"SWEEP" => Some(Word::Sweep),
+            _ => None,
         }
     }
-    OTHER
 }
 
 // A length for the front of `space`: the number in field k.

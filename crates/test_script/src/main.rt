@@ -13,32 +13,13 @@
 
 mod dispatch;
 
-ghost use Rattle.std.specs.Prelude.{◌≤◌, ◌≡◌, length, IfOk};
+ghost use Rattle.std.specs.Prelude.{◌≤◌, length, IfOk};
 
 use std::io;
 use std::io::Read;
+use test_lines::room::room;
+use test_lines::words::Word;
 use test_lines::{answers, fields, words};
-
-// Tables. The contract spares the caller's proof the length of the list, which is too long to compute.
-fn tables_room() -> [u8; 58194]
-    ensures { length result ≡ 58194 }
-{
-    [0u8; 58194]
-}
-
-// An arena.
-fn arena_room() -> [u8; 4096]
-    ensures { length result ≡ 4096 }
-{
-    [0u8; 4096]
-}
-
-// The most of standard input that is read.
-fn input_room() -> [u8; 65536]
-    ensures { length result ≡ 65536 }
-{
-    [0u8; 65536]
-}
 
 // One line, over the first `before` bytes of the arena. Answers how many it is over now.
 fn step(
@@ -51,8 +32,8 @@ fn step(
     requires { before ≤ length arena.old }
     ensures { IfOk result (λ n. n ≤ length arena.old) }
 {
-    let word = words::word_of(line);
-    let n = words::front_len(word == words::FRESH, line, before, arena);
+    let word = Word::of(line);
+    let n = words::front_len(word == Some(Word::Fresh), line, before, arena);
     answers::print(rt, line)?;
     dispatch::run(rt, tables, &mut arena[..n], word, line)?;
     answers::print(rt, b"\n")?;
@@ -87,9 +68,9 @@ fn read_all(rt: &impl Input, input: &mut [u8]) -> io::Result<usize>
 }
 
 fn main(rt: HostRuntime) -> io::Result<()> {
-    let mut input = input_room();
+    let mut input = room::<65536>(0);
     let n = read_all(&rt, &mut input)?;
-    let mut tables = tables_room();
-    let mut arena = arena_room();
+    let mut tables = room::<58194>(0);
+    let mut arena = room::<4096>(0);
     each_line(&rt, &mut tables, &mut arena, &input[..n])
 }

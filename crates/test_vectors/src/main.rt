@@ -22,19 +22,19 @@ fn line(rt: &impl Print, data: &[u8]) -> io::Result<()> {
 
 // RFC 1321's seven.
 fn published(rt: &impl Print) -> io::Result<()> {
-    line(rt, b"")?;
-    line(rt, b"a")?;
-    line(rt, b"abc")?;
-    line(rt, b"message digest")?;
-    line(rt, b"abcdefghijklmnopqrstuvwxyz")?;
-    line(
-        rt,
-        b"ABCDEFGHIJKLMNOPQRSTUVWXYZabcdefghijklmnopqrstuvwxyz0123456789",
-    )?;
-    line(
-        rt,
-        b"12345678901234567890123456789012345678901234567890123456789012345678901234567890",
-    )
+    let texts = [
+        b"".as_slice(),
+        b"a".as_slice(),
+        b"abc".as_slice(),
+        b"message digest".as_slice(),
+        b"abcdefghijklmnopqrstuvwxyz".as_slice(),
+        b"ABCDEFGHIJKLMNOPQRSTUVWXYZabcdefghijklmnopqrstuvwxyz0123456789".as_slice(),
+        b"12345678901234567890123456789012345678901234567890123456789012345678901234567890".as_slice(),
+    ];
+    for text in texts {
+        line(rt, text)?;
+    }
+    Ok(())
 }
 
 // A million bytes. The contract spares the caller's proof the length of the list, which is too long to compute.
@@ -47,8 +47,8 @@ fn room() -> [u8; 1000000]
 // Byte i is 7 * i + 3 modulo 251.
 fn fill(b: &mut [u8]) {
     let mut x: u32 = 3;
-    for i in 0..b.len() {
-        b[i] = x as u8;
+    for place in b.iter_mut() {
+        *place = x as u8;
         x = (x + 7) % 251;
     }
 }
@@ -63,13 +63,9 @@ fn front(rt: &impl Print, data: &[u8], n: usize) -> io::Result<()> {
 
 // Lengths at which the padding or the count of blocks changes, and many blocks.
 fn edges(rt: &impl Print, data: &[u8]) -> io::Result<()> {
-    front(rt, data, 55)?;
-    front(rt, data, 56)?;
-    front(rt, data, 63)?;
-    front(rt, data, 64)?;
-    front(rt, data, 65)?;
-    front(rt, data, 119)?;
-    front(rt, data, 120)?;
+    for n in [55, 56, 63, 64, 65, 119, 120] {
+        front(rt, data, n)?;
+    }
     line(rt, data)
 }
 

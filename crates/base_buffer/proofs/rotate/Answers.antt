@@ -1,14 +1,9 @@
 -- `base_buffer::rotate` meets its contract. The invariant: what is left to rotate, from `from` on, gives what the whole rotation gives. Assumes nothing.
-use mathlib.Core.Path.{refl, ◌∙◌}
+use mathlib.Core.Path.{◌∙◌}
 use native.Mathlib.Omega.{arith}
 use Rattle.base_buffer.proofs.Rotating.{swap-left, swap-right, none_left, none_right}
+use Rattle.base_buffer.proofs.rotate.Goals.{else-l-gt0-via-then-l-gt0+else-r-gt0-2, else-l-gt0-via-else-l-gt0}
 use Rattle.base_buffer.proofs.rotate.Goals as goal
-
-pub loop-l-init : goal.loop-l-init
-loop-l-init c = (omega arith, refl, refl)
-
-pub returns-then-r-gt0 : goal.returns-then-r-gt0
-returns-then-r-gt0 c = c.rotate_small_right.ensures ∙ c.loop-l.invariant.2
 
 pub returns-else-r-gt0 : goal.returns-else-r-gt0
 returns-else-r-gt0 c =
@@ -27,15 +22,10 @@ loop-l-preserved c =
     let k = c.swap-else-l-r in
     (omega arith, k.auto.b ∙ l.invariant.1, swap-right l.b l.from l.l l.r (omega arith) k.new.b (omega arith) k.ensures ∙ l.invariant.2)
 
-pub returns-then-r-gt0-2 : goal.returns-then-r-gt0-2
-returns-then-r-gt0-2 c = c.rotate_small_left.ensures ∙ c.loop-l.invariant.2
-
-pub returns-else-r-gt0-2 : goal.returns-else-r-gt0-2
-returns-else-r-gt0-2 c =
-    let l = c.loop-l in
-    none_right l.b l.from l.l l.r (omega arith) (omega arith) ∙ l.invariant.2
-
 pub returns-else-l-gt0 : goal.returns-else-l-gt0
 returns-else-l-gt0 c =
     let l = c.loop-l in
-    none_left l.b l.from l.l l.r (omega arith) (omega arith) ∙ l.invariant.2
+    elim c.else-l-gt0.branch [
+      | else-l-gt0-via-then-l-gt0+else-r-gt0-2 w ↦ none_right l.b l.from l.l l.r (omega arith) (omega arith) ∙ l.invariant.2
+      | else-l-gt0-via-else-l-gt0 w ↦ none_left l.b l.from l.l l.r (omega arith) (omega arith) ∙ l.invariant.2
+    ]

@@ -5,11 +5,6 @@ use Rattle.base_buffer.proofs.Splicing.{copy-before, copy-after}
 use native.Mathlib.Omega.{arith}
 use Rattle.base_buffer.proofs.splice_within.Goals as goal
 
-pub overflow_sub-from : goal.overflow_sub-from
-overflow_sub-from c =
-    let after : c.args.at + c.args.n ≤ c.args.from = ⊎_elim (λ w. omega arith) (λ w. w) c.requires.4 in
-    omega (arith, after)
-
 pub returns-then-from-m : goal.returns-then-from-m
 returns-then-from-m c =
     let a = c.args in

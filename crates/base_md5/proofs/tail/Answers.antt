@@ -1,10 +1,7 @@
 -- `base_md5::tail` meets its contract: the rest copied over zeros, the byte 128 after it, the length over the last eight (`LastBlocks.tailed`). Assumes nothing.
-use Rattle.std.proofs.Common.{refl, arith, length-set}
+use Rattle.std.proofs.Common.{refl}
 use Rattle.base_md5.proofs.LastBlocks.{tailed}
 use Rattle.base_md5.proofs.tail.Goals as goal
-
-pub put_u64-requires : goal.put_u64-requires
-put_u64-requires c = simp length-set (omega (arith, c.copy_at.auto.dst))
 
 pub returns : goal.returns
 returns c =

@@ -1,14 +1,12 @@
 -- `base_order::compare` meets its contract: the deciding numbers tell, or the lengths do. Assumes nothing.
-use native.Mathlib.Omega.{arith}
+use mathlib.Core.Path.{◌∙◌, ap₂}
+use Rattle.std.specs.Ordering.{ordering_then}
+use Rattle.base_order.proofs.Answers.{both-tell}
 use Rattle.base_order.proofs.compare.Goals as goal
 
-pub returns-then-t : goal.returns-then-t
-returns-then-t c = c.deciding_numbers-t.ensures.less c.if-t.true
-
-pub returns-then-t-2 : goal.returns-then-t-2
-returns-then-t-2 c = c.deciding_numbers-t.ensures.greater c.if-t-2.true
-
-pub by_length-requires : goal.by_length-requires
-by_length-requires c =
-    let d = c.deciding_numbers-t in
-    record { in-a = omega arith; in_b = omega arith; alike = d.ensures.same (omega arith); one-ends = λ h. omega arith }
+pub returns : goal.returns
+returns c =
+    let a = c.args in
+    let t = c.deciding_numbers-t in
+    c.then.ensures ∙ ap₂ ordering_then c.cmp.ensures c.cmp-2.ensures
+    ∙ both-tell a.a.now a.b.now c.min-n.result t.result.x t.result.y c.min-n.ensures t.ensures

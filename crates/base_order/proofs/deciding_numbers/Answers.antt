@@ -7,5 +7,5 @@ pub returns : goal.returns
 returns c =
     let d = c.deciding_word-k in
     tells_as c.big_u64-x.ensures c.big_u64-y.ensures
-    (words-tell c.args.a.now c.args.b.now c.args.n (λ i. (c.shared_slice_known-1.given i).fits)
-    (λ i. (c.shared_slice_known-2-1.given i).fits) (omega arith) (omega arith) d.result d.ensures)
+    (words-tell c.args.a.now c.args.b.now c.args.n (λ i. (c.type_inv.a i).fits)
+    (λ i. (c.type_inv.b i).fits) (omega arith) (omega arith) d.result d.ensures)

@@ -7,23 +7,11 @@ use Rattle.base_number.specs.Number.{from_le}
 use native.Mathlib.Omega.{arith}
 use Rattle.base_order.proofs.deciding_word.Goals as goal
 
-pub loop-i-init : goal.loop-i-init
-loop-i-init c = let p = c.requires in (p.3, p.4)
-
-pub returns-then-get_u64 : goal.returns-then-get_u64
-returns-then-get_u64 c =
-    let l = c.loop-i in
-    record {
-      inside = omega arith;
-      alike = l.invariant.1;
-      differ = λ h e. c.if-get_u64.true (c.get_u64.ensures ∙ ap from_le e ∙ sym c.get_u64-in-loop-i.ensures);
-    }
-
 pub returns-then-last-j : goal.returns-then-last-j
 returns-then-last-j c =
     let first_word : take (c.loop-i.i + 8) c.args.a.now ≡ take (c.loop-i.i + 8) c.args.b.now = let a = c.args in
-    same_word a.a.now a.b.now c.loop-i.i 8 (λ i. (c.shared_slice_known-1.given i).fits)
-    (λ i. (c.shared_slice_known-2-1.given i).fits) (omega arith) (omega arith) c.loop-i.invariant.1
+    same_word a.a.now a.b.now c.loop-i.i 8 (λ i. (c.type_inv.a i).fits)
+    (λ i. (c.type_inv.b i).fits) (omega arith) (omega arith) c.loop-i.invariant.1
     (sym c.get_u64.ensures ∙ c.if-get_u64.false ∙ c.get_u64-in-loop-i.ensures) in
     let a = c.args in
     record {
@@ -35,8 +23,8 @@ returns-then-last-j c =
 pub returns-then-get_u64-2 : goal.returns-then-get_u64-2
 returns-then-get_u64-2 c =
     let first_word : take (c.loop-i.i + 8) c.args.a.now ≡ take (c.loop-i.i + 8) c.args.b.now = let a = c.args in
-    same_word a.a.now a.b.now c.loop-i.i 8 (λ i. (c.shared_slice_known-1.given i).fits)
-    (λ i. (c.shared_slice_known-2-1.given i).fits) (omega arith) (omega arith) c.loop-i.invariant.1
+    same_word a.a.now a.b.now c.loop-i.i 8 (λ i. (c.type_inv.a i).fits)
+    (λ i. (c.type_inv.b i).fits) (omega arith) (omega arith) c.loop-i.invariant.1
     (sym c.get_u64.ensures ∙ c.if-get_u64.false ∙ c.get_u64-in-loop-i.ensures) in
     record {
       inside = omega arith;
@@ -47,13 +35,13 @@ returns-then-get_u64-2 c =
 pub loop-i-preserved : goal.loop-i-preserved
 loop-i-preserved c =
     let first_word : take (c.loop-i.i + 8) c.args.a.now ≡ take (c.loop-i.i + 8) c.args.b.now = let a = c.args in
-    same_word a.a.now a.b.now c.loop-i.i 8 (λ i. (c.shared_slice_known-1.given i).fits)
-    (λ i. (c.shared_slice_known-2-1.given i).fits) (omega arith) (omega arith) c.loop-i.invariant.1
+    same_word a.a.now a.b.now c.loop-i.i 8 (λ i. (c.type_inv.a i).fits)
+    (λ i. (c.type_inv.b i).fits) (omega arith) (omega arith) c.loop-i.invariant.1
     (sym c.get_u64.ensures ∙ c.if-get_u64.false ∙ c.get_u64-in-loop-i.ensures) in
     let a = c.args in (
       omega arith,
-      same_word a.a.now a.b.now (c.loop-i.i + 8) 8 (λ i. (c.shared_slice_known-1.given i).fits)
-          (λ i. (c.shared_slice_known-2-1.given i).fits) (omega arith) (omega arith) (first_word)
+      same_word a.a.now a.b.now (c.loop-i.i + 8) 8 (λ i. (c.type_inv.a i).fits)
+          (λ i. (c.type_inv.b i).fits) (omega arith) (omega arith) (first_word)
           (sym c.get_u64-in-loop-i-2.ensures ∙ c.if-get_u64-2.false ∙ c.get_u64-in-loop-i-3.ensures),
     )
 

@@ -1,7 +1,7 @@
 -- `base_order::equal` meets its contract: strings of one length are equal where the deciding numbers are. Assumes nothing.
 use mathlib.Core.Path.{refl}
 use native.Mathlib.Omega.{arith}
-use Rattle.base_order.proofs.Strings.{both-empty, other_length}
+use Rattle.base_order.proofs.Strings.{other_length}
 use Rattle.base_order.proofs.Answers.{same-told}
 use Rattle.base_order.proofs.equal.Goals as goal
 
@@ -9,11 +9,6 @@ pub returns-then-n-b : goal.returns-then-n-b
 returns-then-n-b c =
     let a = c.args in
     other_length a.a.now a.b.now (omega arith)
-
-pub returns-then-n-eq0 : goal.returns-then-n-eq0
-returns-then-n-eq0 c =
-    let a = c.args in
-    both-empty a.a.now a.b.now (omega arith) (omega arith)
 
 pub returns : goal.returns
 returns c =

@@ -1,19 +1,10 @@
 -- `c_reply::done_alone` meets its contract. Assumes nothing.
-use mathlib.Core.Path.{sym, ◌∙◌}
+use mathlib.Core.Path.{refl, ◌∙◌}
 use Rattle.c_reply.proofs.Alone.{refused-leaves, done-clears}
 use Rattle.c_reply.proofs.done_alone.Goals as goal
 
--- src/lib.rt:35:9
-pub returns-then-n-ne0 : goal.returns-then-n-ne0
-returns-then-n-ne0 c =
-    let a = c.args in
-    let d = c.done-n in
-    (d.ensures, refused-leaves a.a a.reply.now (λ z. c.if-n-ne0.true (d.ensures ∙ z)))
+pub returns-in-Ok : goal.returns-in-Ok
+returns-in-Ok c = rw c.in-Ok.is (refl, c.write.ensures ∙ done-clears c.args.reply.now)
 
--- src/lib.rt:29:1
-pub returns : goal.returns
-returns c =
-    let a = c.args in
-    let d = c.done-n in
-    let z = sym d.ensures ∙ c.if-n-ne0.false in
-    (sym z, c.write.ensures ∙ done-clears a.a a.reply.now z)
+pub returns-in-Err : goal.returns-in-Err
+returns-in-Err c = rw c.in-Err.is (c.number.ensures, refused-leaves c.in-Err.refusal c.args.reply.now)

@@ -1,59 +1,24 @@
 -- `call_commit::commit_room` meets its contract: the path in the upload's row has an object, or there is room for one more, or not. Assumes nothing.
-use Prim.Native.Nat.{◌+◌, ◌≤◌}
-use lib.ListN.{length}
-use Rattle.base_number.specs.Number.{AreBytes}
-use Rattle.mem_row.specs.Row.{span}
-use Rattle.call_commit.proofs.PathRoom.{row_inside, path-ends, path-place, room-old, room-new, room-full}
+use Rattle.mem_layout.specs.Memory.{state_of}
+use Rattle.mem_find_uploads.proofs.Answers.{open-row-place}
+use Rattle.call_commit.proofs.PathRoom.{path-place, room-old, room-new, room-full}
 use native.Mathlib.Omega.{arith}
 use Rattle.call_commit.proofs.commit_room.Goals as goal
 
-pub read_head-h-requires : goal.read_head-h-requires
-read_head-h-requires c =
-    let b : AreBytes c.args.tables.now = λ j. (c.shared_slice_known-1.given j).fits in
-    let p = c.requires.1 in
-    omega (arith, row_inside c.args.tables.now c.args.arena.now b c.requires.0 p.0 c.args.here p.1 p.2)
+pub row_head-h-requires : goal.row_head-h-requires
+row_head-h-requires c = let p = c.requires.1 in open-row-place (state_of c.args.memory.tables.now c.args.memory.arena.now) p.0 c.args.here p.1 p.2
 
-pub overflow_add-from : goal.overflow_add-from
-overflow_add-from c =
-    let bytes : AreBytes c.args.tables.now = λ j. (c.shared_slice_known-1.given j).fits in
-    let ends : c.args.here.at + span c.read_head-h.result ≤ length c.args.tables.now = let p = c.requires.1 in path-ends c.args.tables.now c.args.arena.now bytes c.requires.0 p.0 c.args.here p.1 p.2 c.read_head-h.result c.read_head-h.ensures in
-    omega (arith, ends)
+pub returns-then-place-clause-judged : goal.returns-then-place-clause-judged
+returns-then-place-clause-judged c u x q is = let a = c.args in room-old a.memory.tables.now a.memory.arena.now c.args.memory.bytes c.args.memory.is_whole u a.here q _ c.row_head-h.ensures.read _ c.find_object-place.ensures x is c.if-place.true
 
-pub overflow_add-to : goal.overflow_add-to
-overflow_add-to c =
-    let bytes : AreBytes c.args.tables.now = λ j. (c.shared_slice_known-1.given j).fits in
-    let ends : c.args.here.at + span c.read_head-h.result ≤ length c.args.tables.now = let p = c.requires.1 in path-ends c.args.tables.now c.args.arena.now bytes c.requires.0 p.0 c.args.here p.1 p.2 c.read_head-h.result c.read_head-h.ensures in
-    omega (arith, ends)
+pub returns-then-place-clause-placed : goal.returns-then-place-clause-placed
+returns-then-place-clause-placed c u x q is = let a = c.args in path-place a.memory.tables.now a.memory.arena.now c.args.memory.bytes c.args.memory.is_whole u a.here q _ c.row_head-h.ensures.read _ c.find_object-place.ensures x is
 
-pub slice_bounds-find_object-end : goal.slice_bounds-find_object-end
-slice_bounds-find_object-end c =
-    let bytes : AreBytes c.args.tables.now = λ j. (c.shared_slice_known-1.given j).fits in
-    let ends : c.args.here.at + span c.read_head-h.result ≤ length c.args.tables.now = let p = c.requires.1 in path-ends c.args.tables.now c.args.arena.now bytes c.requires.0 p.0 c.args.here p.1 p.2 c.read_head-h.result c.read_head-h.ensures in
-    omega (arith, ends)
+pub returns-then-objects-ge-OBJECTS_MOST-clause-judged : goal.returns-then-objects-ge-OBJECTS_MOST-clause-judged
+returns-then-objects-ge-OBJECTS_MOST-clause-judged c u x q is = let a = c.args in room-full a.memory.tables.now a.memory.arena.now c.args.memory.bytes c.args.memory.is_whole u a.here q _ c.row_head-h.ensures.read _ c.find_object-place.ensures x is c.if-place.false _ c.counts-objects.ensures.objects c.if-objects-ge-OBJECTS_MOST.true
 
-pub returns-then-place : goal.returns-then-place
-returns-then-place c =
-    let bytes : AreBytes c.args.tables.now = λ j. (c.shared_slice_known-1.given j).fits in
-    let a = c.args in
-    λ u x q is. (
-      room-old a.tables.now a.arena.now (bytes) c.requires.0 u a.here q _ c.read_head-h.ensures _ c.find_object-place.ensures x is c.if-place.true,
-      path-place a.tables.now a.arena.now (bytes) c.requires.0 u a.here q _ c.read_head-h.ensures _ c.find_object-place.ensures x is,
-    )
+pub returns-clause-judged : goal.returns-clause-judged
+returns-clause-judged c u x q is = let a = c.args in room-new a.memory.tables.now a.memory.arena.now c.args.memory.bytes c.args.memory.is_whole u a.here q _ c.row_head-h.ensures.read _ c.find_object-place.ensures x is c.if-place.false _ c.counts-objects.ensures.objects (omega arith)
 
-pub returns-then-objects-ge-OBJECTS_MOST : goal.returns-then-objects-ge-OBJECTS_MOST
-returns-then-objects-ge-OBJECTS_MOST c =
-    let bytes : AreBytes c.args.tables.now = λ j. (c.shared_slice_known-1.given j).fits in
-    let a = c.args in
-    λ u x q is. (
-      room-full a.tables.now a.arena.now (bytes) c.requires.0 u a.here q _ c.read_head-h.ensures _ c.find_object-place.ensures x is c.if-place.false _ c.read_counts-counts.ensures.objects c.if-objects-ge-OBJECTS_MOST.true,
-      path-place a.tables.now a.arena.now (bytes) c.requires.0 u a.here q _ c.read_head-h.ensures _ c.find_object-place.ensures x is,
-    )
-
-pub returns : goal.returns
-returns c =
-    let bytes : AreBytes c.args.tables.now = λ j. (c.shared_slice_known-1.given j).fits in
-    let a = c.args in
-    λ u x q is. (
-      room-new a.tables.now a.arena.now (bytes) c.requires.0 u a.here q _ c.read_head-h.ensures _ c.find_object-place.ensures x is c.if-place.false _ c.read_counts-counts.ensures.objects (omega (arith, c.if-objects-ge-OBJECTS_MOST.false)),
-      path-place a.tables.now a.arena.now (bytes) c.requires.0 u a.here q _ c.read_head-h.ensures _ c.find_object-place.ensures x is,
-    )
+pub returns-clause-placed : goal.returns-clause-placed
+returns-clause-placed c u x q is = let a = c.args in path-place a.memory.tables.now a.memory.arena.now c.args.memory.bytes c.args.memory.is_whole u a.here q _ c.row_head-h.ensures.read _ c.find_object-place.ensures x is

@@ -1,11 +1,7 @@
 -- `call_commit::judge_list` meets its contract. In order it fits. The invariant of other lists: the first i numbers fit. Assumes nothing.
-use Prim.Native.Nat.{◌-◌, ◌≤◌}
 use Rattle.mem_find.specs.Known.{OfOpenBefore}
 use Rattle.call_commit.proofs.Fitting.{Passed}
 use Rattle.call_commit.proofs.judge_list.Given as goal
 
 abbrev pub invariant-loop-i : goal.invariant-loop-i
-invariant-loop-i l = (l.i ≤ l.count) × OfOpenBefore l.tables l.arena l.first (λ s u x. Passed x.parts l.list l.i)
-
-abbrev pub decreases-loop-i : goal.decreases-loop-i
-decreases-loop-i l = l.count - l.i
+invariant-loop-i l = OfOpenBefore l.memory.tables.now l.memory.arena.now l.first (λ s u x. Passed x.parts l.list l.i)

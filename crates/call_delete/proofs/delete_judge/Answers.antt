@@ -5,25 +5,23 @@ use Rattle.machine.proofs.Tests.{said-no, said-yes}
 use borrow.Author.Tests.{not-true, not-false}
 use Rattle.call_contract.specs.Made.{memory}
 use Rattle.call_delete.proofs.Deleting.{delete-bad, delete-absent, delete-judged}
-use native.Mathlib.Omega.{arith}
 use Rattle.call_delete.proofs.delete_judge.Goals as goal
 
-pub returns-then-not-request_path_ok : goal.returns-then-not-request_path_ok
-returns-then-not-request_path_ok c =
+pub returns-then-not-request_path_ok-clause-judged : goal.returns-then-not-request_path_ok-clause-judged
+returns-then-not-request_path_ok-clause-judged c =
     let a = c.args in
-    (delete-bad (memory a.tables.now a.arena.now) a.path.now (said-no c.request_path_ok.ensures (ap not c.if-not-request_path_ok.true)), λ z. absurd (omega arith))
+    delete-bad (memory a.memory.tables.now a.memory.arena.now) a.path.now (said-no c.request_path_ok.ensures (ap not c.if-not-request_path_ok.true))
 
-pub returns-then-not-place : goal.returns-then-not-place
-returns-then-not-place c =
+pub returns-then-not-place-clause-judged : goal.returns-then-not-place-clause-judged
+returns-then-not-place-clause-judged c =
     let a = c.args in
     let f = c.find_object-place in
     let yes = said-yes c.request_path_ok.ensures (ap not c.if-not-request_path_ok.false) in
-    (delete-absent (memory a.tables.now a.arena.now) a.path.now yes f.result f.ensures (not-true f.result.found c.if-not-place.true), λ z. absurd (omega arith))
+    delete-absent (memory a.memory.tables.now a.memory.arena.now) a.path.now yes f.result f.ensures (not-true f.result.found c.if-not-place.true)
 
-pub returns : goal.returns
-returns c =
+pub returns-clause-judged : goal.returns-clause-judged
+returns-clause-judged c =
     let a = c.args in
     let f = c.find_object-place in
     let yes = said-yes c.request_path_ok.ensures (ap not c.if-not-request_path_ok.false) in
-    let there = not-false f.result.found c.if-not-place.false in
-    (delete-judged (memory a.tables.now a.arena.now) a.path.now yes f.result f.ensures there, λ _. (there, f.ensures))
+    delete-judged (memory a.memory.tables.now a.memory.arena.now) a.path.now yes f.result f.ensures (not-false f.result.found c.if-not-place.false)

@@ -8,10 +8,12 @@ use Rattle.call_get.proofs.etag.Goals as goal
 
 pub returns-then-kind-eq-PLAIN_KIND : goal.returns-then-kind-eq-PLAIN_KIND
 returns-then-kind-eq-PLAIN_KIND c =
-    let digest : let a = c.args in bytes_of c.get-digest.result ≡ digest_at (drop a.at a.tables.now) = digest-at c.args.tables.now c.args.at c.get-digest.result (λ j. (c.shared_slice_known-1.given j).fits) c.requires c.get-digest.ensures in
-    let a = c.args in plain-etag a.kind a.count _ _ (digest) c.if-kind-eq-PLAIN_KIND.true
+    let a = c.args in
+    let digest : bytes_of c.get-digest.result ≡ digest_at (drop a.at a.tables.now) = digest-at a.tables.now a.at c.get-digest.result (λ j. (c.type_inv.tables j).fits) c.requires c.get-digest.ensures in
+    plain-etag a.kind a.count _ _ digest c.if-kind-eq-PLAIN_KIND.true
 
 pub returns-else-kind-eq-PLAIN_KIND : goal.returns-else-kind-eq-PLAIN_KIND
 returns-else-kind-eq-PLAIN_KIND c =
-    let digest : let a = c.args in bytes_of c.get-digest.result ≡ digest_at (drop a.at a.tables.now) = digest-at c.args.tables.now c.args.at c.get-digest.result (λ j. (c.shared_slice_known-1.given j).fits) c.requires c.get-digest.ensures in
-    let a = c.args in joined-etag a.kind a.count _ _ (digest) c.if-kind-eq-PLAIN_KIND.false
+    let a = c.args in
+    let digest : bytes_of c.get-digest.result ≡ digest_at (drop a.at a.tables.now) = digest-at a.tables.now a.at c.get-digest.result (λ j. (c.type_inv.tables j).fits) c.requires c.get-digest.ensures in
+    joined-etag a.kind a.count _ _ digest c.if-kind-eq-PLAIN_KIND.false

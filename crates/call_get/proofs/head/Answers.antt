@@ -1,21 +1,15 @@
 -- `call_get::head` meets its contract: refused by 1, or over whole memory. Assumes nothing.
-use mathlib.Core.Path.{ap, ◌≡◌}
-use mathlib.Core.Bool.{not, true}
-use Rattle.machine.proofs.Tests.{said-no, said-yes}
-use Rattle.mem_layout.specs.Memory.{whole}
+use mathlib.Core.Path.{◌≡◌}
+use Rattle.std.proofs.Common.{rules, Err}
+use Rattle.call_types.specs.declared.Refusal.TheVariants.{NotAStore}
 use Rattle.call_contract.proofs.MadeLaws.{not-whole}
 use Rattle.call_get.proofs.Replies.{made-head}
 use Rattle.call_get.proofs.head.Goals as goal
 
-pub returns-then-not-whole : goal.returns-then-not-whole
-returns-then-not-whole c = not-whole (said-no c.whole.ensures (ap not c.if-not-whole.true))
-
-pub head_whole-requires : goal.head_whole-requires
-head_whole-requires c =
-    let is_whole : whole c.args.tables.now c.args.arena.now ≡ true = said-yes c.whole.ensures (ap not c.if-not-whole.false) in
-    is_whole
+pub returns-in_err-offsets_of : goal.returns-in_err-offsets_of
+returns-in_err-offsets_of c =
+    let told : c.from_residual.result ≡ Err NotAStore = search rules in
+    rw told (not-whole c.in_err-offsets_of.ensures.not_whole.1)
 
 pub returns : goal.returns
-returns c =
-    let is_whole : whole c.args.tables.now c.args.arena.now ≡ true = said-yes c.whole.ensures (ap not c.if-not-whole.false) in
-    made-head _ _ (λ j. (c.shared_slice_known-1.given j).fits) (is_whole) _ _ _ c.head_whole.ensures
+returns c = made-head _ _ (λ j. (c.type_inv.tables j).fits) c.in_ok-offsets_of.ensures.is_whole.0 _ _ _ (rw (c.of.ensures.tables, c.of.ensures.arena) at c.head_whole.ensures)

@@ -1,9 +1,7 @@
 -- `call_get::metadata` meets its contract: the numbers of the head, the etag, and the size of the pairs. Assumes nothing.
 use Prim.Native.Nat.{◌≤◌}
-use mathlib.Core.Path.{ap}
 use native.Mathlib.Omega.{arith}
 use lib.ListN.{drop}
-use Rattle.mem_row.specs.declared.Head.{Head}
 use Rattle.mem_row.specs.Row.{span_at}
 use Rattle.call_get.proofs.Stored.{size-most, metadata-told}
 use Rattle.call_get.proofs.metadata.Goals as goal
@@ -16,19 +14,14 @@ pub etag-etag-requires : goal.etag-etag-requires
 unfolding span_at
 etag-etag-requires c = omega arith
 
-pub overflow_sub-length : goal.overflow_sub-length
-overflow_sub-length c =
-    let within : c.pairs_size-held.result ≤ c.read_head-h.result.size = omega (arith, c.requires.1, c.pairs_size-held.ensures, ap (λ (h : Head). h.size) c.read_head-h.ensures) in
-    omega (arith, within)
-
 pub overflow_cast-result-2 : goal.overflow_cast-result-2
 overflow_cast-result-2 c =
-    let small : c.pairs_size-held.result ≤ 32130 = omega (arith, c.pairs_size-held.ensures, size-most c.args.tables.now c.args.at (λ j. (c.shared_slice_known-1.given j).fits) c.requires.0) in
+    let small : c.pairs_size-held.result ≤ 32130 = omega (arith, c.pairs_size-held.ensures, size-most c.args.tables.now c.args.at (λ j. (c.type_inv.tables j).fits) c.requires.0) in
     omega (arith, small)
 
 pub overflow_add-result : goal.overflow_add-result
 overflow_add-result c =
-    let small : c.pairs_size-held.result ≤ 32130 = omega (arith, c.pairs_size-held.ensures, size-most c.args.tables.now c.args.at (λ j. (c.shared_slice_known-1.given j).fits) c.requires.0) in
+    let small : c.pairs_size-held.result ≤ 32130 = omega (arith, c.pairs_size-held.ensures, size-most c.args.tables.now c.args.at (λ j. (c.type_inv.tables j).fits) c.requires.0) in
     omega (arith, small)
 
 pub returns : goal.returns

@@ -1,13 +1,14 @@
 -- `call_initiate::initiate` meets its contract: refused by 1, or over whole memory. Assumes nothing.
-use Rattle.mem_scan.proofs.Ends.{found-bad, found-good}
+use mathlib.Core.Path.{◌≡◌}
+use Rattle.std.proofs.Common.{rules, Err}
+use Rattle.call_types.specs.declared.Refusal.TheVariants.{NotAStore}
 use Rattle.call_contract.proofs.MadeLaws.{not-whole, over-whole}
 use Rattle.call_initiate.proofs.initiate.Goals as goal
 
-pub returns-in_default : goal.returns-in_default
-returns-in_default c = not-whole (found-bad _ c.scan_store.ensures c.in_default.is)
-
-pub initiate_whole-requires : goal.initiate_whole-requires
-initiate_whole-requires c = found-good c.scan_store.ensures c.in-Good.is
+pub returns-in_err-offsets : goal.returns-in_err-offsets
+returns-in_err-offsets c =
+    let told : c.from_residual.result ≡ Err NotAStore = search rules in
+    rw told (not-whole c.in_err-offsets.ensures.not_whole.1)
 
 pub returns : goal.returns
-returns c = over-whole (found-good c.scan_store.ensures c.in-Good.is).0 c.initiate_whole.ensures
+returns c = over-whole c.in_ok-offsets.ensures.is_whole.0 c.initiate_whole.ensures

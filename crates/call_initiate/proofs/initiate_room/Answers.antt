@@ -1,104 +1,53 @@
 -- `call_initiate::initiate_room` meets its contract: the readers say what the checks ask. Assumes nothing.
-use Prim.Native.Nat.{ℕ}
-use mathlib.Core.Path.{◌≡◌, sym, ap, ◌∙◌}
-use mathlib.Core.List.{List}
+use mathlib.Core.Path.{◌≡◌, refl}
 use native.Mathlib.Omega.{arith}
-use Rattle.base_number.specs.Number.{AreBytes}
-use Rattle.machine.specs.Map.{Map}
-use Rattle.machine.specs.Names.{Bytes}
-use Rattle.machine.specs.Pairs.{pair_list, pair_map, pairs_held}
-use Rattle.machine.specs.State.{held}
-use Rattle.machine.proofs.PairLaws as pairs
-use Rattle.mem_layout.specs.Memory.{state_of}
-use Rattle.mem_layout.proofs.RowCounts.{length-contents}
-use Rattle.mem_find.specs.declared.RowPlace.{RowPlace}
+use Rattle.std.proofs.Common.{rules, Err}
+use Rattle.machine.specs.Pairs.{pair_list}
+use Rattle.machine.proofs.PairLaws.{formed-is}
+use Rattle.call_types.specs.Numbers.{number_of}
+use Rattle.call_contract.proofs.MadeLaws.{refusal-not-zero}
 use Rattle.call_initiate.proofs.Initiating.{header-inside, held-inside, full, no_room, used-up, opened}
 use Rattle.call_initiate.proofs.initiate_room.Goals as goal
 
-pub returns-then-open-ge-UPLOADS_MOST : goal.returns-then-open-ge-UPLOADS_MOST
-returns-then-open-ge-UPLOADS_MOST c =
-    let t : List ℕ = c.args.tables.now in
-    let a : List ℕ = c.args.arena.now in
-    let m : Map Bytes Bytes = pair_map (pair_list c.args.pairs.now) in
-    let bytes : AreBytes t = λ j. (c.shared_slice_known-1.given j).fits in
-    let r = c.refused.ensures in (
-      λ stamp p. r ∙ full (t) (a) (bytes) c.requires.0.0 (m) c.read_counts-counts.result.uploads c.read_counts-counts.ensures.uploads c.if-open-ge-UPLOADS_MOST.true stamp p,
-      λ z. absurd (omega arith),
-    )
+pub returns-then-open-ge-UPLOADS_MOST-clause-judged : goal.returns-then-open-ge-UPLOADS_MOST-clause-judged
+returns-then-open-ge-UPLOADS_MOST-clause-judged c =
+    let a = c.args in
+    let m = a.memory.whole in
+    let n = c.counts-open.result in
+    full m.tables.now m.arena.now m.bytes m.is_whole (pair_list a.pairs.now) c.requires n.uploads c.counts-open.ensures.uploads c.if-open-ge-UPLOADS_MOST.true
 
 pub held-n-requires : goal.held-n-requires
-held-n-requires c = pairs.formed-is (pair_list c.args.pairs.now) c.requires.1
+held-n-requires c = formed-is (pair_list c.args.pairs.now) c.requires
 
-pub arena_judge-full-requires : goal.arena_judge-full-requires
-arena_judge-full-requires c =
-    let t : List ℕ = c.args.tables.now in
-    let a : List ℕ = c.args.arena.now in
-    let bytes : AreBytes t = λ j. (c.shared_slice_known-1.given j).fits in
-    let end : RowPlace = c.rows_end-end.result in
-    let held-is : end.base ≡ held (state_of (t) (a)) = ap (λ (x : RowPlace). x.base) c.rows_end-end.ensures ∙ length-contents (state_of (t) (a)) in
-    held-inside (t) (a) (bytes) c.requires.0.0 (end).base (held-is)
+pub arena_judge-requires : goal.arena_judge-requires
+arena_judge-requires c = let a = c.args in
+    let m = a.memory.whole in held-inside m.tables.now m.arena.now m.bytes m.is_whole c.rows_end-end.result c.rows_end-end.ensures
 
-pub returns-then-full-ne0 : goal.returns-then-full-ne0
-returns-then-full-ne0 c =
-    let t : List ℕ = c.args.tables.now in
-    let a : List ℕ = c.args.arena.now in
-    let m : Map Bytes Bytes = pair_map (pair_list c.args.pairs.now) in
-    let bytes : AreBytes t = λ j. (c.shared_slice_known-1.given j).fits in
-    let end : RowPlace = c.rows_end-end.result in
-    let held-is : end.base ≡ held (state_of (t) (a)) = ap (λ (x : RowPlace). x.base) c.rows_end-end.ensures ∙ length-contents (state_of (t) (a)) in
-    let pairs-are : c.held-n.result ≡ pairs_held (m) = c.held-n.ensures ∙ sym (pairs.held-is (pair_list c.args.pairs.now) c.requires.1) in
-    let n = c.read_counts-counts in
-    let full = c.arena_judge-full in
-    let r = c.refused-then-full-ne0.ensures in (
-      λ stamp p.
-          r
-          ∙ no_room (t) (a) (bytes) c.requires.0.0 (m) n.result.uploads n.ensures.uploads c.if-open-ge-UPLOADS_MOST.false
-          (end).base c.held-n.result full.result (held-is) (pairs-are) full.ensures c.if-full-ne0.true stamp p,
-      λ z. absurd (c.if-full-ne0.true (sym r ∙ z)),
-    )
+pub returns-in_err-arena_judge-clause-judged : goal.returns-in_err-arena_judge-clause-judged
+returns-in_err-arena_judge-clause-judged c =
+    let a = c.args in
+    let m = a.memory.whole in
+    let n = c.counts-open.result in
+    let x = c.in_err-arena_judge.field-0.0 in
+    let told : c.from_residual.result ≡ Err x = search rules in
+    rw told (no_room m.tables.now m.arena.now m.bytes m.is_whole (pair_list a.pairs.now) c.requires n.uploads c.counts-open.ensures.uploads (omega arith) c.rows_end-end.result c.rows_end-end.ensures c.held-n.result (number_of x) c.held-n.ensures c.in_err-arena_judge.ensures (refusal-not-zero x))
 
 pub read_header-header-requires : goal.read_header-header-requires
-read_header-header-requires c =
-    let t : List ℕ = c.args.tables.now in
-    let a : List ℕ = c.args.arena.now in
-    let bytes : AreBytes t = λ j. (c.shared_slice_known-1.given j).fits in
-    header-inside (t) (a) (bytes) c.requires.0.0
+read_header-header-requires c = let a = c.args in
+    let m = a.memory.whole in header-inside m.tables.now m.arena.now m.bytes m.is_whole
 
-pub returns-then-header-gt4294967295 : goal.returns-then-header-gt4294967295
-returns-then-header-gt4294967295 c =
-    let t : List ℕ = c.args.tables.now in
-    let a : List ℕ = c.args.arena.now in
-    let m : Map Bytes Bytes = pair_map (pair_list c.args.pairs.now) in
-    let bytes : AreBytes t = λ j. (c.shared_slice_known-1.given j).fits in
-    let end : RowPlace = c.rows_end-end.result in
-    let held-is : end.base ≡ held (state_of (t) (a)) = ap (λ (x : RowPlace). x.base) c.rows_end-end.ensures ∙ length-contents (state_of (t) (a)) in
-    let pairs-are : c.held-n.result ≡ pairs_held (m) = c.held-n.ensures ∙ sym (pairs.held-is (pair_list c.args.pairs.now) c.requires.1) in
-    let n = c.read_counts-counts in
-    let full = c.arena_judge-full in
-    let header = c.read_header-header in
-    let r = c.refused-then-header-gt4294967295.ensures in (
-      λ stamp p.
-          r
-          ∙ used-up (t) (a) (bytes) c.requires.0.0 (m) n.result.uploads n.ensures.uploads c.if-open-ge-UPLOADS_MOST.false
-          (end).base c.held-n.result full.result (held-is) (pairs-are) full.ensures c.if-full-ne0.false
-          header.result header.ensures c.if-header-gt4294967295.true stamp p,
-      λ z. absurd (omega arith),
-    )
+pub returns-then-header-gt4294967295-clause-judged : goal.returns-then-header-gt4294967295-clause-judged
+returns-then-header-gt4294967295-clause-judged c =
+    let a = c.args in
+    let m = a.memory.whole in
+    let n = c.counts-open.result in
+    used-up m.tables.now m.arena.now m.bytes m.is_whole (pair_list a.pairs.now) c.requires n.uploads c.counts-open.ensures.uploads (omega arith) c.rows_end-end.result c.rows_end-end.ensures c.held-n.result 0 c.held-n.ensures c.in_ok-arena_judge.ensures refl
+    c.read_header-header.result c.read_header-header.ensures c.if-header-gt4294967295.true
 
-pub returns : goal.returns
-returns c =
-    let t : List ℕ = c.args.tables.now in
-    let a : List ℕ = c.args.arena.now in
-    let m : Map Bytes Bytes = pair_map (pair_list c.args.pairs.now) in
-    let bytes : AreBytes t = λ j. (c.shared_slice_known-1.given j).fits in
-    let end : RowPlace = c.rows_end-end.result in
-    let held-is : end.base ≡ held (state_of (t) (a)) = ap (λ (x : RowPlace). x.base) c.rows_end-end.ensures ∙ length-contents (state_of (t) (a)) in
-    let pairs-are : c.held-n.result ≡ pairs_held (m) = c.held-n.ensures ∙ sym (pairs.held-is (pair_list c.args.pairs.now) c.requires.1) in
-    let n = c.read_counts-counts in
-    let full = c.arena_judge-full in
-    let header = c.read_header-header in (
-      opened (t) (a) (bytes) c.requires.0.0 (m) n.result.uploads n.ensures.uploads c.if-open-ge-UPLOADS_MOST.false
-          (end).base c.held-n.result full.result (held-is) (pairs-are) full.ensures c.if-full-ne0.false
-          header.result header.ensures c.if-header-gt4294967295.false,
-      λ _. c.rows_end-end.ensures,
-    )
+pub returns-clause-judged : goal.returns-clause-judged
+returns-clause-judged c =
+    let a = c.args in
+    let m = a.memory.whole in
+    let n = c.counts-open.result in
+    opened m.tables.now m.arena.now m.bytes m.is_whole (pair_list a.pairs.now) c.requires n.uploads c.counts-open.ensures.uploads (omega arith) c.rows_end-end.result c.rows_end-end.ensures c.held-n.result 0 c.held-n.ensures c.in_ok-arena_judge.ensures refl
+    c.read_header-header.result c.read_header-header.ensures (omega arith)

@@ -1,21 +1,15 @@
 -- `call_list::list` meets its contract: refused by 1, or over whole memory. Assumes nothing.
-use mathlib.Core.Path.{ap, ◌≡◌}
-use mathlib.Core.Bool.{not, true}
-use Rattle.machine.proofs.Tests.{said-no, said-yes}
-use Rattle.mem_layout.specs.Memory.{whole}
+use mathlib.Core.Path.{◌≡◌}
+use Rattle.std.proofs.Common.{rules, Err}
+use Rattle.call_types.specs.declared.Refusal.TheVariants.{NotAStore}
 use Rattle.call_contract.proofs.MadeLaws.{not-whole}
 use Rattle.call_list.proofs.Replies.{made_list}
 use Rattle.call_list.proofs.list.Goals as goal
 
-pub returns-then-not-whole : goal.returns-then-not-whole
-returns-then-not-whole c = not-whole (said-no c.whole.ensures (ap not c.if-not-whole.true))
-
-pub list_whole-requires : goal.list_whole-requires
-list_whole-requires c =
-    let is_whole : whole c.args.tables.now c.args.arena.now ≡ true = said-yes c.whole.ensures (ap not c.if-not-whole.false) in
-    is_whole
+pub returns-in_err-offsets_of : goal.returns-in_err-offsets_of
+returns-in_err-offsets_of c =
+    let told : c.from_residual.result ≡ Err NotAStore = search rules in
+    rw told (not-whole c.in_err-offsets_of.ensures.not_whole.1)
 
 pub returns : goal.returns
-returns c =
-    let is_whole : whole c.args.tables.now c.args.arena.now ≡ true = said-yes c.whole.ensures (ap not c.if-not-whole.false) in
-    made_list _ _ _ _ _ (λ j. (c.shared_slice_known-1.given j).fits) (is_whole) _ c.list_whole.ensures
+returns c = made_list _ _ _ _ _ (λ j. (c.type_inv.tables j).fits) c.in_ok-offsets_of.ensures.is_whole.0 _ (rw (c.of.ensures.tables, c.of.ensures.arena) at c.list_whole.ensures)

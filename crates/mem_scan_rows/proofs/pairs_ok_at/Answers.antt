@@ -11,4 +11,4 @@ unfolding pairs_rule
 returns-then-h-eq0 c = let a = c.args in sym (no_pairs a.most a.h.pairs (drop a.at a.t.now) _ c.if-h-eq0.true)
 
 pub returns : goal.returns
-returns c = c.pairs_ok.ensures ∙ rw (add-sub_cancel_left, add-sub_cancel_left)
+returns c = c.pairs_ok.ensures.rule ∙ rw (add-sub_cancel_left, add-sub_cancel_left)

@@ -7,12 +7,6 @@ use Rattle.machine.specs.Names.{stored_path_ok}
 use Rattle.names.proofs.PathLaws.{plain_ok, length-between}
 use Rattle.names.proofs.short_path_ok_at.Goals as goal
 
-pub returns-then-length-lt1 : goal.returns-then-length-lt1
-returns-then-length-lt1 c e = cc
-
-pub returns-then-length-gt32 : goal.returns-then-length-gt32
-returns-then-length-gt32 c e = cc
-
 pub returns : goal.returns
 unfolding stored_path_ok
 returns c e =

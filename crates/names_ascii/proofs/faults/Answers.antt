@@ -12,7 +12,7 @@ use Rattle.names_ascii.proofs.faults.Goals as goal
 pub loop-i-init : goal.loop-i-init
 loop-i-init c =
     let e : place c.args.n 0 ≡ 32 - c.args.n = omega arith in
-    (rw e (omega arith), omega arith, omega arith, omega arith)
+    (rw e (omega arith), omega arith, omega arith)
 
 pub overflow_add-bad : goal.overflow_add-bad
 overflow_add-bad c =
@@ -31,7 +31,6 @@ loop-i-preserved c =
       turn a.before.now a.s.now a.n c.loop-i.i c.loop-i.k c.counted-bad.result c.loop-i.bad _ (omega arith) (omega arith) (omega arith) (omega arith) c.loop-i.invariant.1 (said) c.loop-i.invariant.0,
       omega arith,
       omega (arith, turn_small c.loop-i.k c.counted-bad.result x y (said)),
-      omega arith,
     )
 
 pub returns : goal.returns

@@ -11,7 +11,3 @@ invariant-loop-i l =
     (l.bad + faults_beside (drop (place l.n l.i) l.before) (drop (place l.n l.i) l.s) ≡ faults_beside (drop (32 - l.n) l.before) (drop (32 - l.n) l.s))
     × (l.k ≡ l.n + l.i)
     × (l.bad ≤ l.i)
-    × (l.i ≤ 32)
-
-abbrev pub decreases-loop-i : goal.decreases-loop-i
-decreases-loop-i l = 32 - l.i

@@ -1,6 +1,5 @@
 -- `names_ascii::plain_at` meets its contract. The invariant: nothing was counted where the first block and the bytes from `end` on are
 -- clean. Assumes nothing.
-use Prim.Native.Nat.{◌-◌}
 use mathlib.Core.Path.{sym}
 use Rattle.names_ascii.proofs.BlockLaws.{slash-first, blocks_start, blocks-next, blocks_end}
 use native.Mathlib.Omega.{arith}

@@ -1,5 +1,5 @@
 -- `pairs_kept::all_distinct` meets its contract. The invariant: the pairs not yet passed decide. Assumes nothing.
-use Prim.Native.Nat.{ℕ, ◌-◌}
+use Prim.Native.Nat.{ℕ}
 use mathlib.Core.Path.{sym, ◌∙◌}
 use mathlib.Core.List.{List}
 use native.Mathlib.Omega.{arith}

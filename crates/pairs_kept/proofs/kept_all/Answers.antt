@@ -1,5 +1,5 @@
 -- `pairs_kept::kept_all` meets its contract. The invariant: what is summed and what is to come are all. Assumes nothing.
-use Prim.Native.Nat.{ℕ, ◌-◌}
+use Prim.Native.Nat.{ℕ}
 use mathlib.Core.Path.{refl}
 use mathlib.Core.List.{List}
 use native.Mathlib.Omega.{arith}

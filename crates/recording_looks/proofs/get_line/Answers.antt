@@ -1,16 +1,13 @@
 -- `recording_looks::get_line` meets its contract. Assumes nothing.
-use mathlib.Core.Bool.{not}
-use native.Mathlib.Omega.{arith}
-use Rattle.recording_line.proofs.Lines.{no_line, a-line}
-use Rattle.recording_read.specs.Meant.{string_meant, string_length}
-use Rattle.recording.proofs.Wholes.{whole-none, whole_open, whole-form}
-use Rattle.recording.specs.Parse.{string, path_rest}
-use Rattle.recording.specs.Entry as entry
-use Rattle.machine.proofs.Tests.{said-no, said-yes}
-use Rattle.machine.specs.Calls.{buffers}
-use lib.Seq.{length-take-le}
+use Rattle.call_types.specs.Numbers.{number_of}
+use Prim.Native.Nat.{ℕ}
+use mathlib.Core.List.{[]}
 use lib.ListN.{take, drop}
-use mathlib.Core.Path.{sym, ap, ◌∙◌}
+use Rattle.machine.specs.Calls.{buffers}
+use Rattle.recording.specs.Entry as entry
+use Rattle.recording.specs.Parse.{string, path_rest}
+use Rattle.recording_line.proofs.Lines.{no_line, a-line}
+use Rattle.recording_line.proofs.ReadArguments.{no-plain, a-plain}
 use Rattle.recording_looks.proofs.get_line.Goals as goal
 
 pub returns-in_default : goal.returns-in_default
@@ -18,41 +15,15 @@ unfolding path_rest
 returns-in_default c =
     let a = c.args in
     let l = a.line.now in
-    let b = buffers a.answer.now a.pairs.now in
-    let w = c.string_field in
-    let o = w.new.out in
-    no_line a.answer.now a.pairs.now b c.refusal.result (whole-none entry.get string (drop a.at l) (sym (ap (string_meant l o) (sym c.in_default.is) ∙ w.ensures.0))) c.refusal.ensures
-
-pub returns-then-not-ends_line : goal.returns-then-not-ends_line
-unfolding path_rest
-returns-then-not-ends_line c =
-    let a = c.args in
-    let l = a.line.now in
-    let b = buffers a.answer.now a.pairs.now in
-    let w = c.string_field in
-    let o = w.new.out in
-    let e = ap (string_meant l o) (sym c.in-Got.is) ∙ w.ensures.0 in
-    let p = take c.in-Got.len o in
-    let rest = drop c.in-Got.next l in
-    no_line a.answer.now a.pairs.now b c.refusal-then-not-ends_line.result (whole_open entry.get string (drop a.at l) p rest (sym e) (said-no c.ends_line.ensures (ap not c.if-not-ends_line.true))) c.refusal-then-not-ends_line.ensures
-
-pub slice_bounds-path-end : goal.slice_bounds-path-end
-slice_bounds-path-end c = omega (arith, ap string_length (sym c.in-Got.is), c.string_field.ensures.1)
-
-pub slice_bounds-get-end : goal.slice_bounds-get-end
-slice_bounds-get-end c =
-    let w = c.string_field in
-    sym (length-take-le c.in-Got.len w.new.out (omega (arith, ap string_length (sym c.in-Got.is), w.ensures.1)))
+    let w = c.string_field-read in
+    no_line a.answer.now a.pairs.now (buffers a.answer.now a.pairs.now) (number_of c.refusal.result)
+    (no-plain entry.get string (λ (n : ℕ). take n w.new.out) l (drop a.at l) w.result w.ensures.0 c.in_default.ensures) c.refusal.ensures
 
 pub returns : goal.returns
 unfolding path_rest
 returns c =
     let a = c.args in
     let l = a.line.now in
-    let b = buffers a.answer.now a.pairs.now in
-    let w = c.string_field in
-    let o = w.new.out in
-    let e = ap (string_meant l o) (sym c.in-Got.is) ∙ w.ensures.0 in
-    let p = take c.in-Got.len o in
-    let rest = drop c.in-Got.next l in
-    a-line a.answer.now a.pairs.now b (entry.get p) (whole-form entry.get string (drop a.at l) p rest (sym e) (said-yes c.ends_line.ensures (ap not c.if-not-ends_line.false))) c.get.ensures
+    let w = c.string_field-read in
+    a-line a.answer.now a.pairs.now (buffers a.answer.now a.pairs.now) (entry.get (take c.in-Some.len w.new.out))
+    (a-plain entry.get string (λ (n : ℕ). take n w.new.out) l (drop a.at l) w.result w.ensures.0 c.in-Some.len c.in-Some.ensures) c.get.ensures

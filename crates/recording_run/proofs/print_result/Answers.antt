@@ -5,13 +5,11 @@ use lib.ListN.{length-set}
 use Rattle.recording_run.proofs.Feeding.{two-stored}
 use Rattle.recording_run.proofs.print_result.Goals as goal
 
--- src/lib.rt:42:5
 pub bounds-out-k-2 : goal.bounds-out-k-2
 bounds-out-k-2 c =
     let a = c.args in
     omega (arith, c.requires.0, length-set a.out.now a.k (48 + a.number))
 
--- src/lib.rt:37:1
 pub returns : goal.returns
 returns c =
     let a = c.args in

@@ -6,7 +6,6 @@ use Rattle.recording_split.proofs.Holding.{nothing-held}
 use Rattle.recording_run.proofs.Inputs.{all_finished, one_last}
 use Rattle.recording_run.proofs.replay_input.Goals as goal
 
--- src/lib.rt:116:9
 pub returns-then-held-eq0 : goal.returns-then-held-eq0
 returns-then-held-eq0 c =
     let a = c.args in
@@ -16,19 +15,16 @@ returns-then-held-eq0 c =
     λ A size s x y st.
     all_finished A size s a.input.now p.result b o (memory p.new.tables p.new.arena) (p.ensures.0 _ A size s (nothing-held a.line.now) x y st) c.if-held-eq0.true
 
--- src/lib.rt:119:5
 pub print_result-requires : goal.print_result-requires
 print_result-requires c =
     let p = c.replay_piece-fed in
     (omega (arith, c.requires.1, p.ensures.2, p.auto.out), c.held_line-result.ensures.1)
 
--- src/lib.rt:120:5
 pub overflow_add-result : goal.overflow_add-result
 overflow_add-result c =
     let p = c.replay_piece-fed in
     omega (arith, c.requires.2, p.ensures.2)
 
--- src/lib.rt:97:1
 pub returns : goal.returns
 returns c =
     let a = c.args in

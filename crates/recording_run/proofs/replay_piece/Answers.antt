@@ -9,35 +9,29 @@ use Rattle.recording_split.specs.Held.{Stepped, Within}
 use Rattle.recording_run.proofs.Feeding.{start, one_line, amid, at-end}
 use Rattle.recording_run.proofs.replay_piece.Goals as goal
 
--- src/lib.rt:72:5
 pub loop-at-init : goal.loop-at-init
 loop-at-init c =
     let a = c.args in
     (c.requires.0, c.requires.1, omega arith, omega arith, refl, refl, refl, refl, refl, (λ l A size s h x y st. start A size s l a.piece.now a.line.now a.held a.out.now (memory a.tables.now a.arena.now) h st))
 
--- src/lib.rt:73:15
 pub next_line-requires : goal.next_line-requires
 next_line-requires c =
     let i = c.loop-at.invariant in
     (omega (arith, i.0), omega (arith, i.0, i.1))
 
--- src/lib.rt:75:21
 pub held_line-result-requires : goal.held_line-result-requires
 held_line-result-requires c = c.next_line.auto.line ∙ c.loop-at.invariant.0
 
--- src/lib.rt:76:17
 pub print_result-requires : goal.print_result-requires
 print_result-requires c =
     let i = c.loop-at.invariant in
     (omega (arith, i.2, i.3, i.4, c.requires.2, c.loop-at-test.true), c.held_line-result.ensures.1)
 
--- src/lib.rt:77:17
 pub overflow_add-k : goal.overflow_add-k
 overflow_add-k c =
     let i = c.loop-at.invariant in
     omega (arith, i.3, c.requires.3, c.loop-at-test.true)
 
--- src/lib.rt:72:5
 pub loop-at-smaller : goal.loop-at-smaller
 loop-at-smaller c =
     let a = c.args in
@@ -49,7 +43,6 @@ loop-at-smaller c =
     let w = subst (λ (r : LineStep). Within (length p) d.at (length d.line) r) c.in-Line.is nl.ensures.1 in
     omega (arith, w.1, w.2, c.loop-at-test.true)
 
--- src/lib.rt:72:5
 pub loop-at-preserved : goal.loop-at-preserved
 loop-at-preserved c =
     let a = c.args in
@@ -77,43 +70,6 @@ loop-at-preserved c =
           (hl.ensures.0 f.whole A size so.state f.held (i.7 ∙ y) (i.8 ∙ z) so.store) hl.ensures.1 pr.ensures),
     )
 
--- src/lib.rt:82:17
-pub shape_of-tables-in-More : goal.shape_of-tables-in-More
-shape_of-tables-in-More c =
-    let i = c.loop-at.invariant in
-    omega (arith, i.0, i.4, i.5, i.6, i.7, i.8, c.requires.0, c.next_line.auto.line)
-
--- src/lib.rt:82:17
-pub shape_of-arena-in-More : goal.shape_of-arena-in-More
-shape_of-arena-in-More c =
-    let i = c.loop-at.invariant in
-    omega (arith, i.0, i.4, i.5, i.6, i.7, i.8, c.requires.0, c.next_line.auto.line)
-
--- src/lib.rt:82:17
-pub shape_of-answer-in-More : goal.shape_of-answer-in-More
-shape_of-answer-in-More c =
-    let i = c.loop-at.invariant in
-    omega (arith, i.0, i.4, i.5, i.6, i.7, i.8, c.requires.0, c.next_line.auto.line)
-
--- src/lib.rt:82:17
-pub shape_of-pairs-in-More : goal.shape_of-pairs-in-More
-shape_of-pairs-in-More c =
-    let i = c.loop-at.invariant in
-    omega (arith, i.0, i.4, i.5, i.6, i.7, i.8, c.requires.0, c.next_line.auto.line)
-
--- src/lib.rt:82:17
-pub shape_of-line-in-More : goal.shape_of-line-in-More
-shape_of-line-in-More c =
-    let i = c.loop-at.invariant in
-    omega (arith, i.0, i.4, i.5, i.6, i.7, i.8, c.requires.0, c.next_line.auto.line)
-
--- src/lib.rt:82:17
-pub shape_of-out-in-More : goal.shape_of-out-in-More
-shape_of-out-in-More c =
-    let i = c.loop-at.invariant in
-    omega (arith, i.0, i.4, i.5, i.6, i.7, i.8, c.requires.0, c.next_line.auto.line)
-
--- src/lib.rt:82:17
 pub returns-in-More : goal.returns-in-More
 returns-in-More c =
     let a = c.args in
@@ -131,43 +87,6 @@ returns-in-More c =
       omega (arith, i.2, i.3, c.requires.2),
     )
 
--- src/lib.rt:52:1
-pub shape_of-tables : goal.shape_of-tables
-shape_of-tables c =
-    let i = c.loop-at.invariant in
-    omega (arith, i.0, i.4, i.5, i.6, i.7, i.8, c.requires.0)
-
--- src/lib.rt:52:1
-pub shape_of-arena : goal.shape_of-arena
-shape_of-arena c =
-    let i = c.loop-at.invariant in
-    omega (arith, i.0, i.4, i.5, i.6, i.7, i.8, c.requires.0)
-
--- src/lib.rt:52:1
-pub shape_of-answer : goal.shape_of-answer
-shape_of-answer c =
-    let i = c.loop-at.invariant in
-    omega (arith, i.0, i.4, i.5, i.6, i.7, i.8, c.requires.0)
-
--- src/lib.rt:52:1
-pub shape_of-pairs : goal.shape_of-pairs
-shape_of-pairs c =
-    let i = c.loop-at.invariant in
-    omega (arith, i.0, i.4, i.5, i.6, i.7, i.8, c.requires.0)
-
--- src/lib.rt:52:1
-pub shape_of-line : goal.shape_of-line
-shape_of-line c =
-    let i = c.loop-at.invariant in
-    omega (arith, i.0, i.4, i.5, i.6, i.7, i.8, c.requires.0)
-
--- src/lib.rt:52:1
-pub shape_of-out : goal.shape_of-out
-shape_of-out c =
-    let i = c.loop-at.invariant in
-    omega (arith, i.0, i.4, i.5, i.6, i.7, i.8, c.requires.0)
-
--- src/lib.rt:52:1
 pub returns : goal.returns
 returns c =
     let a = c.args in

@@ -2,5 +2,5 @@
 use Rattle.std.proofs.Common.{◌<◌}
 use Rattle.test_vectors.proofs.fill.Given as goal
 
-abbrev pub invariant-loop-i : goal.invariant-loop-i
-invariant-loop-i l = l.x < 251
+abbrev pub invariant-loop-place : goal.invariant-loop-place
+invariant-loop-place l = l.x < 251

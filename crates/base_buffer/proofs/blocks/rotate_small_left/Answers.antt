@@ -1,21 +1,11 @@
 -- `base_buffer::blocks::rotate_small_left` meets its contract: the left block is held while the right one moves. Assumes nothing.
 use mathlib.Core.Path.{refl}
 use Prim.Native.Nat.{◌+◌}
-use lib.ListN.{take, replicate, length-take}
+use lib.ListN.{take, replicate}
 use Rattle.base_buffer.proofs.Moving.{held}
 use Rattle.base_buffer.proofs.Rotating.{small-left}
 use native.Mathlib.Omega.{arith}
 use Rattle.base_buffer.proofs.blocks.rotate_small_left.Goals as goal
-
-pub slice_bounds-copy_at-end-3 : goal.slice_bounds-copy_at-end-3
-slice_bounds-copy_at-end-3 c =
-    let h = c.copy_at in
-    omega (arith, length-take c.args.l h.new.dst, h.auto.dst)
-
-pub copy_at-requires-2 : goal.copy_at-requires-2
-copy_at-requires-2 c =
-    let h = c.copy_at in
-    omega (arith, length-take c.args.l h.new.dst, h.auto.dst, c.copy_within.auto.b)
 
 pub returns : goal.returns
 returns c =

@@ -8,9 +8,3 @@ returns-in-First c = rw c.in-First.is (zero-add _ ∙ first c.args.x c.args.y c.
 
 pub returns-in-Second : goal.returns-in-Second
 returns-in-Second c = rw c.in-Second.is (second c.args.x c.args.y c.args.z (search rules))
-
-pub returns-in-Third : goal.returns-in-Third
-returns-in-Third c = rw c.in-Third.is (zero-add _)
-
-pub returns-in-Fourth : goal.returns-in-Fourth
-returns-in-Fourth c = rw c.in-Fourth.is (zero-add _)

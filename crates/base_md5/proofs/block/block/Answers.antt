@@ -5,6 +5,4 @@ use Rattle.base_md5.proofs.block.block.Goals as goal
 
 pub returns : goal.returns
 unfolding compress
-returns c =
-    summed c.args.v _ (c.rounds-w.ensures c.args.m.now c.words.ensures) c.wrapping_add_u32-a.ensures.value
-    c.wrapping_add_u32-b.ensures.value c.wrapping_add_u32-c.ensures.value c.wrapping_add_u32-d.ensures.value
+returns c = summed c.args.v _ (c.rounds-w.ensures c.args.m.now c.words.ensures)

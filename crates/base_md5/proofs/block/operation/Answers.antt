@@ -6,6 +6,6 @@ use Rattle.base_md5.proofs.block.operation.Goals as goal
 pub returns : goal.returns
 returns c =
     let args = c.args in
-    stepped args.r (get_or args.x args.k 0) args.s (get_or args.t args.i 0) args.v c.auxiliary-f.result.early c.auxiliary-f.result.late
-    c.auxiliary-f.ensures c.wrapping_add_u32-p.ensures.value c.wrapping_add_u32-q.ensures.value
-    c.wrapping_add_u32-h.ensures.value c.wrapping_add_u32-w.ensures.value c.rotl.ensures c.wrapping_add_u32-b.ensures.value
+    let f = c.auxiliary-f in
+    stepped args.r (get_or args.x args.k 0) args.s (get_or args.t args.i 0) args.v f.result.early f.result.late c.requires.1 c.requires.2
+    f.ensures c.rotate_left.ensures

@@ -1,13 +1,9 @@
 -- `call_list::paths::has_row` meets its contract: the path of the row is tested. Assumes nothing.
 use mathlib.Core.Path.{ap, ◌∙◌}
-use native.Mathlib.Omega.{arith}
 use Rattle.mem_row.specs.declared.Head.{Head}
 use Rattle.machine.specs.Steps.{is_listed}
 use Rattle.call_list.proofs.RowLengths.{path-read}
 use Rattle.call_list.proofs.paths.has_row.Goals as goal
-
-pub slice_bounds-has_path-end : goal.slice_bounds-has_path-end
-slice_bounds-has_path-end c = omega (arith, ap (λ (x : Head). x.pathlen) c.read_head-h.ensures)
 
 pub returns : goal.returns
 returns c =

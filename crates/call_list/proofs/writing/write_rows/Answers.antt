@@ -1,65 +1,25 @@
 -- `call_list::writing::write_rows` meets its contract. The invariant: the first i records stand at the front. Assumes nothing.
-use Prim.Native.Nat.{ℕ, ◌-◌}
 use mathlib.Core.Path.{◌∙◌}
-use mathlib.Core.List.{List}
 use native.Mathlib.Omega.{arith}
-use Rattle.machine.specs.State.{State}
-use Rattle.mem_layout.specs.Memory.{state_of, Stands}
+use Rattle.mem_layout.specs.Memory.{state_of}
 use Rattle.mem_layout.proofs.WholeLaws.{whole-stands}
-use Rattle.call_list.specs.Rows.{ListedAt}
-use Rattle.call_list.proofs.Places.{put-none, put-room, put_next, put_all, place_inside, place-pairs}
+use Rattle.call_list.proofs.Places.{record-fits, put_next}
 use Rattle.call_list.proofs.writing.write_rows.Goals as goal
-
-pub loop-i-init : goal.loop-i-init
-loop-i-init c = let x = c.args in put-none (state_of x.tables.now x.arena.now) x.prefix.now x.suffix.now x.answer.now
-
-pub overflow_mul-i : goal.overflow_mul-i
-overflow_mul-i c = let n = c.requires.2 in omega arith
-
-pub get_u16-at-requires : goal.get_u16-at-requires
-get_u16-at-requires c = let n = c.requires.2 in let m = c.requires.1 in omega arith
 
 pub write_record-to-requires : goal.write_record-to-requires
 write_record-to-requires c =
-    let t : List ℕ = c.args.tables.now in
-    let a : List ℕ = c.args.arena.now in
-    let s : State = state_of t a in
-    let stands : Stands t a s = whole-stands t a (λ j. (c.shared_slice_known-1.given j).fits) c.requires.0 in
-    let here : ListedAt (s) c.args.prefix.now c.args.suffix.now c.args.places.now c.loop-i.i = c.requires.4 c.loop-i.i c.loop-i-test.true in
-    let g = c.get_u16-at in
-    let x = here in
-    let e = g.ensures ∙ x.place in
-    let p = c.args.prefix.now in
-    let q = c.args.suffix.now in
-    let places = c.args.places.now in
-    let b₀ = c.args.answer.now in (
-      place_inside (t) (a) (s) (stands) p q places b₀ c.loop-i.answer c.loop-i.i c.loop-i.to g.result c.loop-i.invariant x e,
-      put-room (t) (a) (s) (stands) p q places b₀ c.loop-i.answer c.loop-i.i c.loop-i.to g.result c.loop-i.invariant x e c.requires.5,
-      place-pairs (t) (a) (s) (stands) p q places b₀ c.loop-i.answer c.loop-i.i c.loop-i.to g.result c.loop-i.invariant x e,
-    )
+    let a = c.args in
+    let l = c.loop-i in
+    let s = state_of a.memory.tables.now a.memory.arena.now in
+    let stands = whole-stands a.memory.tables.now a.memory.arena.now a.memory.bytes a.memory.is_whole in
+    let x = c.requires.placed l.i c.loop-i-test.true in
+    record-fits a.memory.tables.now a.memory.arena.now s stands a.prefix.now a.suffix.now a.places.now a.answer.now l.answer l.i l.to c.get_u16-at.result l.invariant x (c.get_u16-at.ensures ∙ x.place) c.requires.fits
 
 pub loop-i-preserved : goal.loop-i-preserved
 loop-i-preserved c =
-    let t : List ℕ = c.args.tables.now in
-    let a : List ℕ = c.args.arena.now in
-    let s : State = state_of t a in
-    let stands : Stands t a s = whole-stands t a (λ j. (c.shared_slice_known-1.given j).fits) c.requires.0 in
-    let here : ListedAt (s) c.args.prefix.now c.args.suffix.now c.args.places.now c.loop-i.i = c.requires.4 c.loop-i.i c.loop-i-test.true in
-    let g = c.get_u16-at in
-    let w = c.write_record-to in
-    let x = here in
-    let n = c.requires.3 in
-    put_next (t) (a) (s) (stands) c.args.prefix.now c.args.suffix.now c.args.places.now c.args.answer.now c.loop-i.answer c.loop-i.i c.loop-i.to
-    g.result c.loop-i.invariant x (g.ensures ∙ x.place) _ _ (let l = c.loop-i-test.true in omega arith) w.ensures w.auto.answer
-
-pub shape_of-answer : goal.shape_of-answer
-shape_of-answer c = c.loop-i.invariant.same
-
-pub returns : goal.returns
-returns c =
-    let t : List ℕ = c.args.tables.now in
-    let a : List ℕ = c.args.arena.now in
-    let s : State = state_of t a in
-    let n = c.loop-i-test.false in
-    let m = c.requires.3 in
-    put_all (s) c.args.prefix.now c.args.suffix.now c.args.answer.now c.loop-i.answer c.loop-i.i c.loop-i.to c.loop-i.invariant (omega arith)
+    let a = c.args in
+    let l = c.loop-i in
+    let s = state_of a.memory.tables.now a.memory.arena.now in
+    let stands = whole-stands a.memory.tables.now a.memory.arena.now a.memory.bytes a.memory.is_whole in
+    let x = c.requires.placed l.i c.loop-i-test.true in
+    put_next a.memory.tables.now a.memory.arena.now s stands a.prefix.now a.suffix.now a.places.now a.answer.now l.answer l.i l.to c.get_u16-at.result l.invariant x (c.get_u16-at.ensures ∙ x.place) _ _ (omega (arith, c.requires.counted, c.loop-i-test.true)) c.write_record-to.ensures c.write_record-to.auto.answer

@@ -1,11 +1,7 @@
 -- `call_list::writing::write_rows` meets its contract. The invariant: the first i records stand at the front. Assumes nothing.
-use Prim.Native.Nat.{◌-◌}
 use Rattle.mem_layout.specs.Memory.{state_of}
 use Rattle.call_list.proofs.Places.{Put}
 use Rattle.call_list.proofs.writing.write_rows.Given as goal
 
 abbrev pub invariant-loop-i : goal.invariant-loop-i
-invariant-loop-i l = Put (state_of l.tables l.arena) l.prefix l.suffix l.initial.answer l.answer l.i l.to
-
-abbrev pub decreases-loop-i : goal.decreases-loop-i
-decreases-loop-i l = l.records - l.i
+invariant-loop-i l = Put (state_of l.memory.tables.now l.memory.arena.now) l.prefix l.suffix l.initial.answer l.answer l.i l.to

@@ -1,5 +1,4 @@
 -- `call_uploads::measuring::measure` meets its contract. The invariant: the uploads passed are measured, and those that have a record noted. Assumes nothing.
-use Prim.Native.Nat.{◌-◌}
 use mathlib.Core.Path.{◌≡◌}
 use lib.ListN.{length}
 use Rattle.mem_layout.specs.Memory.{state_of}
@@ -9,9 +8,6 @@ use Rattle.call_uploads.proofs.measuring.measure.Given as goal
 
 abbrev pub invariant-loop-i : goal.invariant-loop-i
 invariant-loop-i l =
-    Measured (state_of l.tables l.arena) l.prefix l.i l.here l.records l.bytes
-    × AllNoted (state_of l.tables l.arena) l.prefix l.notes l.records
+    Measured (state_of l.memory.whole.tables.now l.memory.whole.arena.now) l.prefix l.i l.here l.records l.bytes
+    × AllNoted (state_of l.memory.whole.tables.now l.memory.whole.arena.now) l.prefix l.notes l.records
     × (length l.notes ≡ length l.initial.notes)
-
-abbrev pub decreases-loop-i : goal.decreases-loop-i
-decreases-loop-i l = l.uploads - l.i

@@ -1,12 +1,11 @@
 -- `call_uploads::writing::write` meets its contract. The invariant: the records of the first i notes stand at the front. Assumes nothing.
-use Prim.Native.Nat.{ℕ, ◌-◌}
+use Prim.Native.Nat.{ℕ}
 use mathlib.Core.List.{List}
-use Rattle.call_uploads.proofs.Written.{written_none, row-stands, written-fits, written_next, written_all}
-use native.Mathlib.Omega.{arith}
+use Rattle.call_uploads.proofs.Written.{written_none, row-stands, written-fits, written_next}
 use Rattle.call_uploads.proofs.writing.write.Goals as goal
 
 pub loop-i-init : goal.loop-i-init
-loop-i-init c = (written_none c.args.tables.now c.args.notes.now c.args.answer.now, omega arith)
+loop-i-init c = written_none c.args.tables.now c.args.notes.now c.args.answer.now
 
 pub write_row-to-requires : goal.write_row-to-requires
 write_row-to-requires c =
@@ -15,8 +14,8 @@ write_row-to-requires c =
     let b₀ : List ℕ = c.args.answer.now in
     let g = c.loop-i in
     let n = c.args.records in (
-      row-stands (t) (notes) (b₀) g.answer g.i g.to g.invariant.0 c.get_u16-at.result c.get_u16-parts.result c.get_u16-at.ensures c.get_u16-parts.ensures n c.loop-i-test.true c.requires.1,
-      written-fits (t) (notes) (b₀) g.answer g.i g.to g.invariant.0 c.get_u16-at.result c.get_u16-parts.result c.get_u16-at.ensures c.get_u16-parts.ensures n c.loop-i-test.true c.requires.2,
+      row-stands (t) (notes) (b₀) g.answer g.i g.to g.invariant c.get_u16-at.result c.get_u16-parts.result c.get_u16-at.ensures c.get_u16-parts.ensures n c.loop-i-test.true c.requires.1,
+      written-fits (t) (notes) (b₀) g.answer g.i g.to g.invariant c.get_u16-at.result c.get_u16-parts.result c.get_u16-at.ensures c.get_u16-parts.ensures n c.loop-i-test.true c.requires.2,
     )
 
 pub loop-i-preserved : goal.loop-i-preserved
@@ -25,15 +24,5 @@ loop-i-preserved c =
     let notes : List ℕ = c.args.notes.now in
     let b₀ : List ℕ = c.args.answer.now in
     let w = c.write_row-to in
-    let g = c.loop-i in (
-      written_next (t) (notes) (b₀) g.answer g.i g.to g.invariant.0 c.get_u16-at.result c.get_u16-parts.result c.get_u16-at.ensures c.get_u16-parts.ensures _ _ w.ensures w.auto.answer,
-      omega arith,
-    )
-
-pub shape_of-answer : goal.shape_of-answer
-shape_of-answer c = c.loop-i.invariant.0.same
-
-pub returns : goal.returns
-returns c =
-    let a = c.args in
-    written_all a.tables.now a.notes.now a.answer.now c.loop-i.answer c.loop-i.i a.records c.loop-i.to c.loop-i.invariant.0 (let n = c.loop-i-test.false in omega arith)
+    let g = c.loop-i in
+    written_next (t) (notes) (b₀) g.answer g.i g.to g.invariant c.get_u16-at.result c.get_u16-parts.result c.get_u16-at.ensures c.get_u16-parts.ensures _ _ w.ensures w.auto.answer

@@ -2,12 +2,8 @@
 use mathlib.Core.Path.{ap, ◌∙◌}
 use native.Mathlib.Omega.{arith}
 use lib.ListN.{length}
-use Rattle.mem_row.specs.declared.Head.{Head}
 use Rattle.call_uploads.proofs.RecordBytes.{row-path, length-path, length-row, row_written}
 use Rattle.call_uploads.proofs.writing.write_row.Goals as goal
-
-pub slice_bounds-write_record-end : goal.slice_bounds-write_record-end
-slice_bounds-write_record-end c = omega (arith, ap (λ (y : Head). y.pathlen) c.read_head-h.ensures)
 
 pub write_record-requires : goal.write_record-requires
 write_record-requires c =

@@ -7,5 +7,5 @@ use Rattle.mem_find_uploads.proofs.search.first_upload.Goals as goal
 
 pub returns : goal.returns
 returns c =
-    let stands = whole-stands c.args.tables.now c.args.arena.now (λ j. (c.shared_slice_known-1.given j).fits) c.requires.0 in
-    first-upload-row _ _ _ stands c.args.offsets.uploads c.read_counts-counts.result.objects (ap (λ (o : Offsets). o.uploads) c.requires.1) c.read_counts-counts.ensures.objects
+    let stands = whole-stands c.args.memory.whole.tables.now c.args.memory.whole.arena.now c.args.memory.whole.bytes c.args.memory.whole.is_whole in
+    first-upload-row _ _ _ stands c.args.memory.offsets.uploads c.counts-counts.result.objects (ap (λ (o : Offsets). o.uploads) c.args.memory.scanned) c.counts-counts.ensures.objects

@@ -7,5 +7,5 @@ use Rattle.mem_find_uploads.proofs.uploads.rows_end.Goals as goal
 
 pub returns : goal.returns
 returns c =
-    let stands = whole-stands c.args.tables.now c.args.arena.now (λ j. (c.shared_slice_known-1.given j).fits) c.requires.0 in
-    rows-end-place _ _ _ stands c.args.offsets.end c.read_counts-counts.result.rows (ap (λ (o : Offsets). o.end) c.requires.1) c.read_counts-counts.ensures.rows
+    let stands = whole-stands c.args.memory.whole.tables.now c.args.memory.whole.arena.now c.args.memory.whole.bytes c.args.memory.whole.is_whole in
+    rows-end-place _ _ _ stands c.args.memory.offsets.end c.counts-counts.result.rows (ap (λ (o : Offsets). o.end) c.args.memory.scanned) c.counts-counts.ensures.rows

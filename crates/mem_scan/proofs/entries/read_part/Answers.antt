@@ -1,21 +1,12 @@
 -- `mem_scan::entries::read_part` meets its contract: a part's row is its head alone, so it fits where that does. Assumes nothing.
-use mathlib.Core.Path.{ap}
+use mathlib.Core.Path.{ap, refl}
 use mathlib.Core.Bool.{not}
 use native.Mathlib.Omega.{arith}
 use Rattle.machine.proofs.Tests.{said-yes}
 use Rattle.mem_scan.proofs.Readings.{part-fits}
 use Rattle.mem_scan.proofs.entries.read_part.Goals as goal
 
-pub returns-then-t-at-lt-HEAD_LENGTH : goal.returns-then-t-at-lt-HEAD_LENGTH
-returns-then-t-at-lt-HEAD_LENGTH c = λ h e. (cc, cc)
-
-pub returns-then-not-part_ok : goal.returns-then-not-part_ok
-returns-then-not-part_ok c = λ h e. (cc, cc)
-
-pub returns-then-arena-base : goal.returns-then-arena-base
-returns-then-arena-base c = λ h e. (cc, cc)
-
-pub returns : goal.returns
-returns c =
+pub returns-clause-part : goal.returns-clause-part
+returns-clause-part c =
     let a = c.args in
-    part-fits a.m _ (said-yes c.part_ok.ensures (ap not c.if-not-part_ok.false)) a.t.now a.at a.arena.now a.base c.read_head-h.ensures (omega arith) (omega arith)
+    part-fits a.m _ (said-yes c.part_ok.ensures (ap not c.if-not-part_ok.false)) a.t.now a.at a.arena.now a.base c.read_head-h.ensures (omega arith) (omega arith) _ refl

@@ -1,7 +1,8 @@
 -- `pairs_stored::block::block_ok` meets its contract. Assumes nothing.
 use mathlib.Core.Path.{sym}
 use native.Mathlib.Omega.{arith}
-use lib.ListN.{length-take}
+use borrow.Author.Tests.{lt-leb}
+use lib.ListN.{length}
 use Rattle.pairs_stored.proofs.Blocks.{block_none, block-many, block-short, block-by}
 use Rattle.pairs_stored.proofs.block.block_ok.Goals as goal
 
@@ -11,16 +12,14 @@ returns-then-lengths-eq0 c = let a = c.args in sym (block_none a.lengths.now a.b
 pub returns-then-lengths : goal.returns-then-lengths
 returns-then-lengths c = let a = c.args in block-many a.lengths.now a.block.now (omega arith)
 
-pub returns-then-block-n : goal.returns-then-block-n
-returns-then-block-n c =
-    let a = c.args in
-    block-short a.lengths.now a.block.now c.sum_of-n.result c.sum_of-n.ensures (omega arith)
-
-pub slice_bounds-stored_ok-end : goal.slice_bounds-stored_ok-end
-slice_bounds-stored_ok-end c = omega (arith, length-take c.sum_of-n.result c.args.block.now)
-
-pub returns : goal.returns
-returns c =
+pub returns-then-n-block : goal.returns-then-n-block
+returns-then-n-block c =
     let a = c.args in
     let s = c.sum_of-n in
     block-by a.lengths.now a.block.now s.result s.ensures c.stored_ok.result c.stored_ok.ensures
+
+pub returns-else-n-block : goal.returns-else-n-block
+returns-else-n-block c =
+    let a = c.args in
+    let s = c.sum_of-n in
+    rw (lt-leb s.result (length a.block.now) (omega arith)) (block-short a.lengths.now a.block.now s.result s.ensures (omega arith))

@@ -1,21 +1,24 @@
 -- `pairs_stored::stored::stored_ok` meets its contract. Assumes nothing.
 use mathlib.Core.Path.{sym, ◌∙◌}
 use native.Mathlib.Omega.{arith}
+use borrow.Author.Tests.{eqb-true, eqb-false, leb-true}
 use Rattle.pairs_stored.proofs.Storing.{test-many, test_sum, test-all}
+use Rattle.pairs_stored.proofs.stored.stored_ok.Goals.{then-lengths, else-lengths}
 use Rattle.pairs_stored.proofs.stored.stored_ok.Goals as goal
-
-pub returns-then-lengths : goal.returns-then-lengths
-returns-then-lengths c = let a = c.args in test-many a.lengths.now a.bytes.now (omega arith)
 
 pub returns-then-sum_of-bytes : goal.returns-then-sum_of-bytes
 returns-then-sum_of-bytes c =
     let a = c.args in
-    test_sum a.lengths.now a.bytes.now (λ e. c.if-sum_of-bytes.true (c.sum_of.ensures ∙ e))
+    elim c.if-lengths.branch [
+      | then-lengths w ↦ test-all a.lengths.now a.bytes.now c.all_kept.result (omega arith)
+          (sym w.sum_of.ensures ∙ eqb-true _ _ (sym w.value-is ∙ c.if-sum_of-bytes.true)) c.all_kept.ensures
+      | else-lengths w ↦ absurd (omega (arith, leb-true _ _ (sym w.value-is ∙ c.if-sum_of-bytes.true), w.if-lengths.false))
+    ]
 
-pub all_kept-requires : goal.all_kept-requires
-all_kept-requires c = (omega arith, sym c.sum_of.ensures ∙ c.if-sum_of-bytes.false)
-
-pub returns : goal.returns
-returns c =
+pub returns-else-sum_of-bytes : goal.returns-else-sum_of-bytes
+returns-else-sum_of-bytes c =
     let a = c.args in
-    test-all a.lengths.now a.bytes.now c.all_kept.result (omega arith) (sym c.sum_of.ensures ∙ c.if-sum_of-bytes.false) c.all_kept.ensures
+    rw c.if-sum_of-bytes.false (elim c.if-lengths.branch [
+      | then-lengths w ↦ test_sum a.lengths.now a.bytes.now (λ e. eqb-false _ _ (sym w.value-is ∙ c.if-sum_of-bytes.false) (w.sum_of.ensures ∙ e))
+      | else-lengths w ↦ test-many a.lengths.now a.bytes.now (omega (arith, w.if-lengths.false))
+    ])

@@ -2,4 +2,4 @@
 use Rattle.rathnodi.proofs.carry.rathnodi_carry_over.Goals as goal
 
 pub returns : goal.returns
-returns c = rw c.done.ensures c.carry_over-carried.ensures.0
+returns c = rw c.done.ensures c.carry_over-carried.ensures

@@ -3,4 +3,4 @@ use Rattle.rathnodi.proofs.Exporting.{numbered-made}
 use Rattle.rathnodi.proofs.objects.rathnodi_copy.Goals as goal
 
 pub returns : goal.returns
-returns c = numbered-made _ _ _ c.copy-copied.result _ c.copy-copied.ensures.0 c.done.ensures
+returns c = numbered-made _ _ _ c.copy-copied.result _ c.copy-copied.ensures c.done.ensures

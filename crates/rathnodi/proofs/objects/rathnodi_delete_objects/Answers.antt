@@ -5,4 +5,4 @@ use Rattle.rathnodi.proofs.objects.rathnodi_delete_objects.Goals as goal
 pub returns : goal.returns
 returns c =
     let d = c.delete_packed-answer in
-    results-made _ _ _ d.result _ _ d.ensures.0 c.done.ensures
+    results-made _ _ _ d.result _ _ d.ensures c.done.ensures

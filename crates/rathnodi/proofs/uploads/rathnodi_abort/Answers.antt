@@ -3,4 +3,4 @@ use Rattle.rathnodi.proofs.Exporting.{numbered-made}
 use Rattle.rathnodi.proofs.uploads.rathnodi_abort.Goals as goal
 
 pub returns : goal.returns
-returns c = numbered-made _ _ _ c.abort-aborted.result _ c.abort-aborted.ensures.0 c.done.ensures
+returns c = numbered-made _ _ _ c.abort-aborted.result _ c.abort-aborted.ensures c.done.ensures

@@ -1,5 +1,6 @@
 -- `rathnodi::uploads::rathnodi_sweep` meets its contract. Assumes nothing.
 use Rattle.c_reply.proofs.Telling.{sweep-tells}
+use Rattle.c_reply.proofs.RepliesTold.{as-swept}
 use Rattle.rathnodi.proofs.Exporting.{another-length, swept-out}
 use Rattle.rathnodi.proofs.uploads.rathnodi_sweep.Goals as goal
 
@@ -7,4 +8,6 @@ pub returns-then-reply-ne-REPLY_LEN : goal.returns-then-reply-ne-REPLY_LEN
 returns-then-reply-ne-REPLY_LEN c = another-length _ _ _ c.if-reply-ne-REPLY_LEN.true
 
 pub returns : goal.returns
-returns c = swept-out _ (sweep-tells _ _) _ _ _ _ _ c.if-reply-ne-REPLY_LEN.false c.sweep-swept.result c.sweep-swept.ensures c.swept.ensures.0 c.swept.ensures.1
+returns c =
+    let k = as-swept _ c.sweep-swept.result c.tell.ensures.number c.tell.ensures.bytes in
+    swept-out _ (sweep-tells _ _) _ _ _ _ _ c.if-reply-ne-REPLY_LEN.false c.sweep-swept.result c.sweep-swept.ensures k.0 k.1

@@ -1,4 +1,4 @@
--- `recording_lists::pairs::read_pairs` meets its contract. Assumes nothing.
+-- `recording_lists::pair_lists::read_pairs` meets its contract. Assumes nothing.
 use Rattle.recording_lists.proofs.PairLists.{SoFar}
 use Rattle.recording.specs.Read.{items, read_pair}
 use lib.ListN.{length, drop}
@@ -6,8 +6,8 @@ use Prim.Native.Nat.{◌+◌, ◌-◌, ◌*◌, ◌≤◌}
 use mathlib.Core.Path.{◌≡◌}
 use Rattle.recording_lists.proofs.pair_lists.read_pairs.Given as goal
 
-abbrev pub invariant-loop-out : goal.invariant-loop-out
-invariant-loop-out l = (length l.out ≡ length l.initial.out) × (2 * l.n + (length l.s - l.i) ≤ length l.s) × (l.n ≤ length l.out) × SoFar (items read_pair (drop l.at l.s)) l.s l.out l.n l.i
+abbrev pub invariant-loop-at : goal.invariant-loop-at
+invariant-loop-at l = (length l.out ≡ length l.initial.out) × (2 * l.n + (length l.s - l.i) ≤ length l.s) × (l.n ≤ length l.out) × SoFar (items read_pair (drop l.fn.at l.s)) l.s l.out l.n l.i
 
-abbrev pub decreases-loop-out : goal.decreases-loop-out
-decreases-loop-out l = length l.s - l.i
+abbrev pub decreases-loop-at : goal.decreases-loop-at
+decreases-loop-at l = length l.s - l.i

@@ -7,8 +7,8 @@ use Rattle.recording.specs.Read.{inside_numbers}
 use Rattle.recording_lists.proofs.ListSteps.{SoFar}
 use Rattle.recording_lists.proofs.part_numbers.numbers_inside.Given as goal
 
-abbrev pub invariant-loop-i : goal.invariant-loop-i
-invariant-loop-i l = (length l.out ≡ length l.initial.out) × (l.n ≤ length l.s) × SoFar (inside_numbers (drop l.at l.s)) l.s l.out l.n l.i
+abbrev pub invariant-loop-at : goal.invariant-loop-at
+invariant-loop-at l = (length l.out ≡ length l.initial.out) × (l.n ≤ length l.s) × SoFar (inside_numbers (drop l.fn.at l.s)) l.s l.out l.n l.i
 
-abbrev pub decreases-loop-i : goal.decreases-loop-i
-decreases-loop-i l = length l.s - l.i
+abbrev pub decreases-loop-at : goal.decreases-loop-at
+decreases-loop-at l = length l.s - l.i

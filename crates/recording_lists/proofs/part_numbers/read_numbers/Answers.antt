@@ -1,64 +1,45 @@
 -- `recording_lists::part_numbers::read_numbers` meets its contract. Assumes nothing.
-use Prim.Native.Nat.{◌+◌}
 use native.Mathlib.Omega.{arith}
 use Rattle.recording_lists.proofs.InBrackets.{no_byte, after-byte, no-inside, no-close, is-closed}
-use Rattle.recording_read.specs.Meant.{string_meant, string_length}
 use Rattle.recording_lists.specs.Packed.{packed}
 use Rattle.recording.specs.Read.{closed, inside_numbers, read_numbers}
+use Prim.Native.Nat.{◌+◌}
 use lib.ListN.{take}
-use mathlib.Core.Path.{sym, ap, ◌∙◌}
+use mathlib.Core.Path.{◌∙◌}
 use Rattle.recording_lists.proofs.part_numbers.read_numbers.Goals as goal
 
-pub returns-then-byte_at-ne40 : goal.returns-then-byte_at-ne40
+pub returns-in_err-inside : goal.returns-in_err-inside
 unfolding read_numbers
-returns-then-byte_at-ne40 c =
+returns-in_err-inside c =
     let a = c.args in
-    (no_byte (closed inside_numbers) packed a.s.now a.at 40 (λ e. c.if-byte_at-ne40.true (c.byte_at.ensures.0 ∙ e)), omega arith)
+    rw c.from_residual.ensures (no_byte (closed inside_numbers) packed a.s.now a.at 40 c.in_err-inside.ensures, omega arith)
 
-pub overflow_add-at : goal.overflow_add-at
-overflow_add-at c = omega (arith, c.byte_at.ensures.1 (omega arith))
-
-pub returns-in_default : goal.returns-in_default
+pub returns-in_err-list : goal.returns-in_err-list
 unfolding read_numbers
-returns-in_default c =
+returns-in_err-list c =
     let a = c.args in
-    let s = a.s.now in
-    let b = c.byte_at in
-    let h = b.ensures.1 (omega arith) in
-    let p = sym b.ensures.0 ∙ c.if-byte_at-ne40.false in
-    let t = after-byte (closed inside_numbers) packed s a.at 40 h p in
-    let w = c.numbers_inside in
-    (no-inside inside_numbers packed s (a.at + 1) (ap (string_meant s w.new.out) (sym c.in_default.is) ∙ w.ensures.0) ∙ t, omega arith)
+    let p = c.in_ok-inside.ensures in
+    let t = after-byte (closed inside_numbers) packed a.s.now a.at 40 p.0 p.1 in
+    rw c.from_residual-in_err-list.ensures (no-inside inside_numbers packed a.s.now (a.at + 1) (rw p.2 at c.in_err-list.ensures.0) ∙ t, omega arith)
 
-pub returns-then-byte_at-ne41 : goal.returns-then-byte_at-ne41
+pub returns-in_err-next : goal.returns-in_err-next
 unfolding read_numbers
-returns-then-byte_at-ne41 c =
+returns-in_err-next c =
     let a = c.args in
-    let s = a.s.now in
-    let b = c.byte_at in
-    let h = b.ensures.1 (omega arith) in
-    let p = sym b.ensures.0 ∙ c.if-byte_at-ne40.false in
-    let t = after-byte (closed inside_numbers) packed s a.at 40 h p in
-    let w = c.numbers_inside in
-    let y = take c.in-Got.len w.new.out in
-    let e = ap (string_meant s w.new.out) (sym c.in-Got.is) ∙ w.ensures.0 in
-    let b₂ = c.byte_at-2 in
-    (no-close inside_numbers packed s (a.at + 1) y c.in-Got.next e (λ x. c.if-byte_at-ne41.true (b₂.ensures.0 ∙ x)) ∙ t, omega arith)
-
-pub overflow_add-result : goal.overflow_add-result
-overflow_add-result c = omega (arith, c.byte_at-2.ensures.1 (omega arith))
+    let p = c.in_ok-inside.ensures in
+    let t = after-byte (closed inside_numbers) packed a.s.now a.at 40 p.0 p.1 in
+    let w = c.in_ok-list in
+    let y = take w.list.value c.numbers_inside.new.out in
+    rw c.from_residual-in_err-next.ensures
+    (no-close inside_numbers packed a.s.now (a.at + 1) y w.list.next (rw p.2 at w.ensures.0) c.in_err-next.ensures ∙ t, omega arith)
 
 pub returns : goal.returns
 unfolding read_numbers
 returns c =
     let a = c.args in
-    let s = a.s.now in
-    let b = c.byte_at in
-    let h = b.ensures.1 (omega arith) in
-    let p = sym b.ensures.0 ∙ c.if-byte_at-ne40.false in
-    let t = after-byte (closed inside_numbers) packed s a.at 40 h p in
-    let w = c.numbers_inside in
-    let y = take c.in-Got.len w.new.out in
-    let e = ap (string_meant s w.new.out) (sym c.in-Got.is) ∙ w.ensures.0 in
-    let b₂ = c.byte_at-2 in
-    (is-closed inside_numbers packed s (a.at + 1) y c.in-Got.next e (b₂.ensures.1 (omega arith)) (sym b₂.ensures.0 ∙ c.if-byte_at-ne41.false) ∙ t, omega (arith, ap string_length (sym c.in-Got.is), w.ensures.1))
+    let p = c.in_ok-inside.ensures in
+    let t = after-byte (closed inside_numbers) packed a.s.now a.at 40 p.0 p.1 in
+    let w = c.in_ok-list in
+    let y = take w.list.value c.numbers_inside.new.out in
+    let q = c.in_ok-next.ensures in
+    rw q.2 (is-closed inside_numbers packed a.s.now (a.at + 1) y w.list.next (rw p.2 at w.ensures.0) q.0 q.1 ∙ t, w.ensures.1)

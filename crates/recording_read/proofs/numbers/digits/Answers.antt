@@ -1,44 +1,47 @@
 -- `recording_read::numbers::digits` meets its contract. The invariant: what is read from here on with v before it is what is read in all. Assumes nothing.
-use Prim.Native.Nat.{◌-◌}
 use native.Mathlib.Omega.{arith}
-use lib.ListN.{drop}
+use Prim.Native.Nat.{◌+◌, ◌*◌}
+use mathlib.Core.Path.{◌≡◌}
+use lib.ListN.{length, drop}
 use Rattle.recording.specs.Read.{digits_on}
+use Rattle.recording_read.proofs.Places.{at-end}
 use Rattle.recording_read.proofs.NumberSteps.{ended, stopped, wide, more}
 use Rattle.recording_read.proofs.numbers.digits.Goals as goal
 
-pub digit_value-d-requires : goal.digit_value-d-requires
-digit_value-d-requires c = tt
-
-pub returns-then-d-ge10 : goal.returns-then-d-ge10
-returns-then-d-ge10 c =
+pub returns-in_default : goal.returns-in_default
+returns-in_default c =
     let l = c.loop-i in
     let a = c.args in
-    stopped (digits_on 0 (drop a.at a.s.now)) a.s.now l.v l.i l.invariant c.loop-i-test.true
-    c.digit_value-d.result c.digit_value-d.ensures c.if-d-ge10.true
+    stopped (digits_on 0 (drop a.at a.s.now)) a.s.now l.v l.i l.invariant c.loop-i-test.true 10 c.in_default.ensures.value (omega arith)
 
-pub returns-then-v-gt1844674407370955161 : goal.returns-then-v-gt1844674407370955161
-returns-then-v-gt1844674407370955161 c =
+pub returns-in_err-w : goal.returns-in_err-w
+returns-in_err-w c =
     let l = c.loop-i in
     let a = c.args in
-    wide (digits_on 0 (drop a.at a.s.now)) a.s.now l.v l.i l.invariant c.loop-i-test.true
-    c.digit_value-d.result c.digit_value-d.ensures (omega arith) (omega arith)
+    rw c.from_residual.ensures
+    (wide (digits_on 0 (drop a.at a.s.now)) a.s.now l.v l.i l.invariant c.loop-i-test.true
+    c.in-Some.d c.in-Some.ensures.value c.in-Some.ensures.digit (omega arith))
 
-pub returns-then-w-e : goal.returns-then-w-e
-returns-then-w-e c =
+pub returns-in_err-v : goal.returns-in_err-v
+returns-in_err-v c =
     let l = c.loop-i in
     let a = c.args in
-    wide (digits_on 0 (drop a.at a.s.now)) a.s.now l.v l.i l.invariant c.loop-i-test.true
-    c.digit_value-d.result c.digit_value-d.ensures (omega arith) (omega arith)
+    rw c.from_residual-in_err-v.ensures
+    (wide (digits_on 0 (drop a.at a.s.now)) a.s.now l.v l.i l.invariant c.loop-i-test.true
+    c.in-Some.d c.in-Some.ensures.value c.in-Some.ensures.digit (omega arith))
 
 pub loop-i-preserved : goal.loop-i-preserved
 loop-i-preserved c =
     let l = c.loop-i in
     let a = c.args in
-    more (digits_on 0 (drop a.at a.s.now)) a.s.now l.v l.i l.invariant c.loop-i-test.true
-    c.digit_value-d.result c.digit_value-d.ensures (omega arith) (omega arith)
+    let v : c.in_ok-v.v ≡ 10 * l.v + c.in-Some.d = omega arith in
+    rw v
+    (more (digits_on 0 (drop a.at a.s.now)) a.s.now l.v l.i l.invariant c.loop-i-test.true
+    c.in-Some.d c.in-Some.ensures.value c.in-Some.ensures.digit (omega arith))
 
 pub returns : goal.returns
 returns c =
     let l = c.loop-i in
     let a = c.args in
-    ended (digits_on 0 (drop a.at a.s.now)) a.s.now l.v l.i l.invariant c.loop-i-test.false
+    rw (at-end a.s.now (length a.s.now) (omega arith), ← at-end a.s.now l.i c.loop-i-test.false)
+    (ended (digits_on 0 (drop a.at a.s.now)) a.s.now l.v l.i l.invariant c.loop-i-test.false)

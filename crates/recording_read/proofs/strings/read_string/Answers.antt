@@ -6,20 +6,16 @@ use Rattle.recording.specs.Read.{hex_on, read_string}
 use Rattle.recording_read.proofs.Places.{past-at, past-not}
 use Rattle.recording_read.proofs.strings.read_string.Goals as goal
 
-pub returns-then-byte_at-ne34 : goal.returns-then-byte_at-ne34
+pub returns-in_err-next : goal.returns-in_err-next
 unfolding read_string
-returns-then-byte_at-ne34 c =
+returns-in_err-next c =
     let a = c.args in
-    let b = c.byte_at in
-    (sym (past-not (hex_on []) a.s.now a.at 34 (λ e. c.if-byte_at-ne34.true (b.ensures.0 ∙ e))), omega arith)
-
-pub overflow_add-at : goal.overflow_add-at
-overflow_add-at c = omega (arith, c.byte_at.ensures.1 (omega arith))
+    rw c.from_residual.ensures (sym (past-not (hex_on []) a.s.now a.at 34 c.in_err-next.ensures), omega arith)
 
 pub returns : goal.returns
 unfolding read_string
 returns c =
     let a = c.args in
-    let b = c.byte_at in
-    let d = c.decode in
-    (d.ensures.0 ∙ sym (past-at (hex_on []) a.s.now a.at 34 (b.ensures.1 (omega arith)) (sym b.ensures.0 ∙ c.if-byte_at-ne34.false)), d.ensures.2)
+    let n = c.in_ok-next.ensures in
+    let d = c.decode.ensures in
+    (d.0 ∙ rw n.2 (sym (past-at (hex_on []) a.s.now a.at 34 n.0 n.1)), d.2)

@@ -13,4 +13,4 @@ shape_of-arena c = c.commit-committed.auto.arena âˆ™ c.part-second.auto.arena âˆ
 
 pub returns : goal.returns
 unfolding batch_trace part_list
-returns c = call c.initiate-opened.ensures (call c.part-first.ensures (call c.part-second.ensures (call c.get-before.ensures (call c.commit-committed.ensures.0 (call c.get-after.ensures stop)))))
+returns c = call c.initiate-opened.ensures (call c.part-first.ensures (call c.part-second.ensures (call c.get-before.ensures (call c.commit-committed.ensures (call c.get-after.ensures stop)))))

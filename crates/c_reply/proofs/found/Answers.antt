@@ -1,8 +1,0 @@
--- `c_reply::found` meets its contract: a refusal, or the reply of the answer. Assumes nothing.
-use mathlib.Core.Path.{refl}
-use Rattle.c_reply.specs.Reply.{reply_bytes}
-use Rattle.c_reply.proofs.found.Goals as goal
-
-pub returns-in-Found : goal.returns-in-Found
-unfolding reply_bytes
-returns-in-Found c = rw c.in-Found.is (refl, c.write.ensures)

@@ -1,8 +1,0 @@
--- `c_reply::opened` meets its contract: a refusal, or the reply of the answer. Assumes nothing.
-use mathlib.Core.Path.{refl}
-use Rattle.c_reply.specs.Reply.{reply_bytes}
-use Rattle.c_reply.proofs.opened.Goals as goal
-
-pub returns-in-Opened : goal.returns-in-Opened
-unfolding reply_bytes
-returns-in-Opened c = rw c.in-Opened.is (refl, c.write.ensures)

@@ -1,8 +1,0 @@
--- `c_reply::swept` meets its contract: a refusal, or the reply of the answer. Assumes nothing.
-use mathlib.Core.Path.{refl}
-use Rattle.c_reply.specs.Reply.{reply_bytes}
-use Rattle.c_reply.proofs.swept.Goals as goal
-
-pub returns-in-Swept : goal.returns-in-Swept
-unfolding reply_bytes
-returns-in-Swept c = rw c.in-Swept.is (refl, c.write_swept.ensures)

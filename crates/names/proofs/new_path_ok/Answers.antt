@@ -1,7 +1,0 @@
--- `names::new_path_ok` meets its contract: the rule of paths. Assumes nothing.
-use Rattle.machine.specs.Names.{new_path_ok}
-use Rattle.names.proofs.new_path_ok.Goals as goal
-
-pub returns : goal.returns
-unfolding new_path_ok
-returns c = c.path_ok.ensures

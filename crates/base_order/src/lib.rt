@@ -154,13 +154,20 @@ pub fn compare(a: &[u8], b: &[u8]) -> Ordering
     t.x.cmp(&t.y).then(a.len().cmp(&b.len()))
 }
 
-// Whether a is before b: the comparison of the loops over rows, short enough that the compiler puts it into them.
+// Whether a is before b: the comparison of the loops over rows, short enough that the compiler puts it into them. As one
+// expression it is compiled without branches, and the test "whole" takes a fifth longer.
 pub fn is_below(a: &[u8], b: &[u8]) -> bool
     ensures { result ≡ is_below a.now b.now }
 {
     let n = a.len().min(b.len());
     let t = deciding_numbers(a, b, 0, n);
-    t.x < t.y || (t.x == t.y && a.len() < b.len())
+    if t.x < t.y {
+        return true;
+    }
+    if t.y < t.x {
+        return false;
+    }
+    a.len() < b.len()
 }
 
 // Whether they are the same bytes. Empty ones are seen first: most listings have an empty suffix.

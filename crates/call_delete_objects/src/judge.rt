@@ -18,9 +18,7 @@ pub(crate) fn judge(
 ) -> Result<(), Refusal>
     ensures { Judged count left results (memory tables.now arena.now) (result_number result) }
 {
-    if !mem_scan::whole(tables, arena) {
-        return Err(Refusal::NotAStore);
-    }
+    call_contract::offsets_of(tables, arena)?;
     if PLACES_MOST < count {
         return Err(Refusal::TooMany);
     }

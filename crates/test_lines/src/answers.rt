@@ -20,12 +20,14 @@ pub struct Found {
     pub paired: bool,
 }
 
-// The digest's bytes in hexadecimal: each word has its low byte first.
+// The digest's 32 hexadecimal digits, as LIST writes them.
 impl fmt::Display for Told<Digest> {
     fn fmt<W: fmt::Write>(&self, f: &mut fmt::Formatter<W>) -> fmt::Result {
         let Digest { a, b, c, d } = self.0;
-        for word in [a, b, c, d] {
-            write!(f, "{:08x}", word.swap_bytes())?;
+        let mut text = [0u8; 32];
+        base_text::put_digest(&mut text, 0, a, b, c, d);
+        for digit in text {
+            f.write_char(char::from(digit))?;
         }
         Ok(())
     }

@@ -6,6 +6,7 @@ use Rattle.machine.specs.Names.{Bytes}
 use Rattle.machine.specs.Calls.{Buffers}
 use Rattle.machine.specs.Lists.{Trace}
 use Rattle.call_contract.specs.Made.{Memory, fresh_result, MadeFresh}
+use Rattle.call_contract.proofs.MadeLaws.{refusal-not-zero}
 use Rattle.std.specs.Prelude.{Result, Ok, Err}
 use Rattle.call_types.specs.declared.Refusal.{Refusal}
 use Rattle.store_history.specs.declared.batch.Batch.{Batch}
@@ -21,5 +22,5 @@ conclude m m₀ m' n t made z run =
 -- the list runs wherever FRESH accepts
 pub accepted-runs : (m : Memory) (stamp : ℕ) (path pairs one two : Bytes) (early late : Buffers) (a : Result Batch Refusal) (early' late' : Buffers) (m' : Memory)
     → fresh_result m ≡ 0 → Concluded m stamp path pairs one two early late a early' late' m' → Ran a
-accepted-runs m stamp path pairs one two early late (Err r) early' late' m' z h = absurd (h.0 (h.1 ∙ z))
+accepted-runs m stamp path pairs one two early late (Err r) early' late' m' z h = absurd (refusal-not-zero r (h.1 ∙ z))
 accepted-runs m stamp path pairs one two early late (Ok b) early' late' m' z h = tt

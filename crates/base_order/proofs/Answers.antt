@@ -1,6 +1,6 @@
 -- What an answer of `compare`, and numbers that tell, say of the strings. Assumes nothing.
 use Prim.Native.Nat.{ℕ, min, compare, Ordering}
-use Rattle.std.specs.Ordering.{nat_cmp, ordering_then}
+use Rattle.std.specs.Ordering.{nat_cmp}
 use mathlib.Core.Path.{◌≡◌, refl, sym, ap, ◌∙◌}
 use mathlib.Core.Bool.{true, false}
 use mathlib.Core.List.{List}
@@ -38,21 +38,12 @@ pub below-greater : (a b : List ℕ) → Greater ≡ order_of (by_bytes a b) →
 below-greater a b q = rw (answer-greater (by_bytes a b) (sym q))
 
 -- where one begins the other, their lengths tell
-lengths-tell : (a b : List ℕ) (n : ℕ) → n ≡ min (length a) (length b) → take n a ≡ take n b → nat_cmp (length a) (length b) ≡ order_of (by_bytes a b)
+pub lengths-tell : (a b : List ℕ) (n : ℕ) → n ≡ min (length a) (length b) → take n a ≡ take n b → nat_cmp (length a) (length b) ≡ order_of (by_bytes a b)
 lengths-tell a b n m s =
     cases (compare (length a) (length b))
     (λ q. let l = below _ _ q in rw (lt-ltb (length a) (length b) l) (first_ends a b n s (omega arith) (omega arith)))
     (λ q. let l = alike _ _ q in rw (le-ltb (length a) (length b) (omega arith), eq-eqb (length a) (length b) l) (both_end a b n s (omega arith) (omega arith)))
     (λ q. let l = above _ _ q in rw (le-ltb (length a) (length b) (omega arith), ne_eqb (length a) (length b) (λ e. omega arith)) (second-ends a b n s (omega arith) (omega arith)))
-
--- the numbers tell, or else the lengths
-pub both-tell : (a b : List ℕ) (n x y : ℕ) → n ≡ min (length a) (length b) → Tells a b n x y
-    → ordering_then (nat_cmp x y) (nat_cmp (length a) (length b)) ≡ order_of (by_bytes a b)
-both-tell a b n x y m t =
-    cases (compare x y)
-    (λ q. let l = below x y q in rw (lt-ltb x y l) (t.less l))
-    (λ q. let e = alike x y q in rw (le-ltb x y (omega arith), eq-eqb x y e) (lengths-tell a b n m (t.same e)))
-    (λ q. let l = above x y q in rw (le-ltb x y (omega arith), ne_eqb x y (λ e. omega arith)) (t.greater l))
 
 -- where one begins the other, the shorter is before
 pub below_length : (a b : List ℕ) (n : ℕ) → n ≡ min (length a) (length b) → take n a ≡ take n b → ltb (length a) (length b) ≡ is_below a b

@@ -148,18 +148,24 @@ fn pass_words(a: &[u8], b: &[u8], n: usize) -> usize
 pub fn compare(a: &[u8], b: &[u8]) -> Ordering
     ensures { result ≡ order_of (by_bytes a.now b.now) }
 {
-    let n = a.len().min(b.len());
+    let n = b.len().min(a.len());
     let from = pass_words(a, b, n);
     let t = deciding_numbers(a, b, from, n);
-    t.x.cmp(&t.y).then(a.len().cmp(&b.len()))
+    if t.x < t.y {
+        return Ordering::Less;
+    }
+    if t.y < t.x {
+        return Ordering::Greater;
+    }
+    a.len().cmp(&b.len())
 }
 
 // Whether a is before b: the comparison of the loops over rows, short enough that the compiler puts it into them. As one
-// expression it is compiled without branches, and the test "whole" takes a fifth longer.
+// expression it is compiled without branches, and HEAD and GET take a tenth longer.
 pub fn is_below(a: &[u8], b: &[u8]) -> bool
     ensures { result ≡ is_below a.now b.now }
 {
-    let n = a.len().min(b.len());
+    let n = b.len().min(a.len());
     let t = deciding_numbers(a, b, 0, n);
     if t.x < t.y {
         return true;

@@ -39,7 +39,8 @@ pub fn header_ok(h: Header, length: usize, tables: usize, arena: usize) -> bool
     tables == length
         && arena <= crate::ARENA_MOST
         && h.arena as usize == arena
-        && (1..=4294967296).contains(&h.next)
+        && 1 <= h.next
+        && h.next <= 4294967296
         && h.objects as usize <= crate::OBJECTS_MOST
         && h.uploads as usize <= crate::UPLOADS_MOST
         && h.parts as usize <= crate::PARTS_MOST

@@ -80,8 +80,7 @@ pub fn scan_objects(t: &[u8], arena: &[u8], from: Offset, rows: u16, most: u8) -
     let mut at = from.at;
     let mut base = from.base;
     let mut last = at;
-    let mut i: u16 = 0;
-    while i < rows {
+    for i in 0..rows {
         let Some(h) = usual::read_usual(t, at, arena, base) else {
             return scan_from(t, arena, Offset { at, base }, last, rows - i, most);
         };
@@ -93,7 +92,6 @@ pub fn scan_objects(t: &[u8], arena: &[u8], from: Offset, rows: u16, most: u8) -
         last = path;
         at = end;
         base += h.size as usize;
-        i += 1;
     }
     Some(Offset { at, base })
 }

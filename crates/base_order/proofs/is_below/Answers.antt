@@ -6,4 +6,4 @@ use Rattle.base_order.proofs.is_below.Goals as goal
 pub returns : goal.returns
 returns c =
     let a = c.args in
-    below_length a.a.now a.b.now c.min-n.result c.min-n.ensures (c.deciding_numbers-t.ensures.same (omega arith))
+    below_length a.a.now a.b.now c.min-n.result (omega arith) (c.deciding_numbers-t.ensures.same (omega arith))

@@ -14,6 +14,3 @@ invariant-loop-i l =
     × (l.at ≤ length l.t)
     × (l.base ≤ length l.arena)
     × (l.i ≤ l.rows)
-
-abbrev pub decreases-loop-i : goal.decreases-loop-i
-decreases-loop-i l = l.rows - l.i
